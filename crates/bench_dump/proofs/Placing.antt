@@ -1,14 +1,13 @@
 -- Bytes placed in a buffer, one after the other.
-use Rattle.std.proofs.Common.{◌≡◌, ℕ, zero, suc, ◌+◌, ◌-◌, ◌*◌, ◌/◌, ◌%◌, ◌^◌, ◌<◌, ◌≤◌, Bool, true, ◌&&◌, T, eqb, List, [], ◌∷◌, ◌++◌, length, take, drop, length-drop, get_or, set, length-set, refl, sym, ap, ◌∙◌, inl, inr, arith, eq-zero-or-pos, eqb→eq, append_assoc, length-append}
+use Rattle.std.proofs.Common.{◌≡◌, ℕ, zero, suc, ◌+◌, ◌-◌, ◌*◌, ◌/◌, ◌%◌, ◌^◌, ◌<◌, ◌≤◌, Bool, true, ◌&&◌, T, eqb, List, [], ◌∷◌, ◌++◌, length, take, get_or, set, length-set, refl, sym, ap, ◌∙◌, inl, inr, arith, eq-zero-or-pos, eqb→eq, append_assoc, length-append}
 use Rattle.std.proofs.lemmas.List.{take_more_set, append-nil}
 use lib.Ieee.Fits.{and_l, and_r}
-use Rattle.std.specs.Prelude.{slice_index}
 use Rattle.std.specs.Fmt.{decimal}
 use Rattle.itoa.proofs.Decimal.{decimal_pair, decimal_four}
 use Rattle.numerals.specs.Numerals.{digit_of}
-use Rattle.bench_dump.specs.DumpText.{bus_words, byte_digits}
+use Rattle.bench_dump.specs.DumpText.{bus_words}
 use Rattle.bench_dump.specs.Places.{IsPutInBuffer, two_digits, four_digits, eight_digits}
-use Rattle.bench_dump.proofs.Steps.{bus_words_more, bus_words_end}
+use Rattle.bench_dump.proofs.Steps.{bus_words_end}
 use Rattle.bench_dump.specs.declared.digits.TheConstants.{HEXADECIMAL, DECIMAL}
 
 -- what was placed behind other bytes follows them
@@ -74,17 +73,6 @@ pub record IsPlacing (before after : List ℕ) (start at : ℕ) (words rest : Li
   pub text : take at after ++ bus_words rest ≡ take start before ++ bus_words words
   pub moved : at + 5 * (length rest / 2) ≡ start + 5 * (length words / 2)
   pub size : length after ≡ length before
-
-pub word_placed : (before middle after : List ℕ) (start at end : ℕ) (words rest : List ℕ) → IsPlacing before middle start at words rest → 2 ≤ length rest
-    → IsPutInBuffer middle after at (32 ∷ (byte_digits (slice_index rest 1) ++ byte_digits (slice_index rest 0))) end → IsPlacing before after start end words (drop 2 rest)
-word_placed before middle after start at end words rest p long w = record {
-  text = ap (λ (l : List ℕ). l ++ bus_words (drop 2 rest)) w.text ∙ append_assoc (take at middle) word (bus_words (drop 2 rest)) ∙ ap (λ (l : List ℕ). take at middle ++ l) (sym (bus_words_more rest long)) ∙ p.text;
-  moved = omega (arith, p.moved, w.moved, length-drop 2 rest);
-  size = w.size ∙ p.size;
-}
-  where
-    word : List ℕ
-    word = 32 ∷ (byte_digits (slice_index rest 1) ++ byte_digits (slice_index rest 0))
 
 pub words_placed : (before after : List ℕ) (start at : ℕ) (words rest : List ℕ) → IsPlacing before after start at words rest → length rest < 2 → IsPutInBuffer before after start (bus_words words) at
 words_placed before after start at words rest p short = record {

@@ -1,7 +1,6 @@
 -- Lines of skips, one after the other.
-use Rattle.std.proofs.Common.{◌≡◌, ℕ, ◌≤◌, ◌<◌, true, false, ltb, List, [], ◌∷◌, ◌++◌, Option, sym, ap, ◌∙◌, refl, append_assoc}
-use Rattle.std.proofs.lemmas.Bool.{le-ltb, lt-ltb}
-use Rattle.std.proofs.lemmas.List.{append-nil}
+use Rattle.std.proofs.Common.{◌≡◌, ℕ, ◌<◌, true, ltb, List, [], ◌∷◌, ◌++◌, Option, sym, ap, ◌∙◌, refl, append_assoc}
+use Rattle.std.proofs.lemmas.Bool.{lt-ltb}
 use Rattle.ch11_reader.specs.declared.skip.Skip.{Skip}
 use Rattle.bench_dump.specs.Printing.{Carries}
 use Rattle.bench_dump.specs.SkippingText.{skip_line, skip_lines, skips_before, skips_behind}
@@ -24,14 +23,6 @@ passes got mid gets waiting waits put then lines left line others p is put_is on
   whole = append_assoc p.more line others ∙ ap (λ (l : List ℕ). p.more ++ l) (sym is) ∙ p.whole;
 }
 
-pub passed : (got gets : Option (List ℕ)) (waiting waits lines left : List ℕ) → IsPassing got waiting gets waits lines left → left ≡ [] → Carries got waiting gets waits lines
-passed got gets waiting waits lines left p none =
-    let all : p.more ≡ lines = sym (append-nil p.more) ∙ ap (λ (l : List ℕ). p.more ++ l) (sym none) ∙ p.whole in
-    record { sent = p.carried.sent; taken = p.carried.taken; kept = p.carried.kept ∙ ap (λ (l : List ℕ). waiting ++ l) all }
-
--- a skip in front of the offset, and one that is not
+-- a skip in front of the offset
 pub in_front : (offset : ℕ) (s : Skip) (others rest : List Skip) → rest ≡ s ∷ others → s.offset < offset → (skip_lines (skips_before offset rest) ≡ skip_line s ++ skip_lines (skips_before offset others)) × (skips_behind offset rest ≡ skips_behind offset others)
 in_front offset s others rest is below = let test : ltb s.offset offset ≡ true = lt-ltb s.offset offset below in rw (is, test) (refl, refl)
-
-pub not_in_front : (offset : ℕ) (s : Skip) (others rest : List Skip) → rest ≡ s ∷ others → offset ≤ s.offset → (skip_lines (skips_before offset rest) ≡ []) × (skips_behind offset rest ≡ rest)
-not_in_front offset s others rest is above = let test : ltb s.offset offset ≡ false = le-ltb s.offset offset above in rw (is, test) (refl, refl)

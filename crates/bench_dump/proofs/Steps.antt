@@ -1,20 +1,13 @@
 -- Lines of a dump, one after the other.
-use Rattle.std.proofs.Common.{◌≡◌, ℕ, ◌+◌, ◌≤◌, ◌<◌, List, [], ◌∷◌, ◌++◌, length, drop, Option, None, Some, refl, sym, ap, ◌∙◌, append_assoc, arith}
+use Rattle.std.proofs.Common.{◌≡◌, ℕ, ◌+◌, ◌<◌, List, [], ◌∷◌, ◌++◌, length, Option, None, Some, refl, sym, ap, ◌∙◌, append_assoc, arith}
 use Rattle.std.proofs.lemmas.List.{append-nil}
-use Rattle.std.specs.Prelude.{slice_index}
 use Rattle.std.specs.Io.KnownBytes.{Appends}
 use Rattle.ch11_f1.specs.BodyReading.{Message}
 use Rattle.bench_clock.specs.declared.clock.Mark.{Mark}
 use Rattle.bench_clock.specs.Clock.{time_at}
-use Rattle.bench_dump.specs.DumpText.{bus_words, byte_digits}
+use Rattle.bench_dump.specs.DumpText.{bus_words}
 use Rattle.bench_dump.specs.TimedText.{timed_line, timed_lines}
 use Rattle.bench_dump.specs.Printing.{Carries}
-
--- two bytes more of bus words
-pub bus_words_more : (rest : List ℕ) → 2 ≤ length rest → bus_words rest ≡ (32 ∷ (byte_digits (slice_index rest 1) ++ byte_digits (slice_index rest 0))) ++ bus_words (drop 2 rest)
-bus_words_more [] long = absurd (omega arith)
-bus_words_more (low ∷ []) long = absurd (omega arith)
-bus_words_more (low ∷ high ∷ rest) long = refl
 
 pub bus_words_end : (rest : List ℕ) → length rest < 2 → bus_words rest ≡ []
 bus_words_end [] short = refl

@@ -5,7 +5,7 @@ use crate::places::Place;
 use crate::reason::Reason;
 use crate::scripts::{Text, reason_behind};
 use std::alloc::{AllocError, Global};
-use text_lines::next_word;
+use text_lines::{next_word, split_line};
 
 /// Why the script of a job is refused with a fault at a place of the whole text; none where that is no fault of it.
 pub fn job_script_reason(
@@ -19,12 +19,13 @@ pub fn job_script_reason(
 
 /// What stands behind the line `script`.
 fn script_of(text: &[u8]) -> &[u8] {
-    let mut left = text.len();
-    for line in text.split(|byte| *byte == b'\n') {
-        left = left.saturating_sub(line.len().saturating_add(1));
+    let mut rest = text;
+    for _ in 0..text.len() {
+        let (line, behind) = split_line(rest);
         if next_word(line).is_some_and(|(word, _)| word == b"script".as_slice()) {
-            return text.split_at(text.len().saturating_sub(left)).1;
+            return behind;
         }
+        rest = behind;
     }
     b""
 }

@@ -1,5 +1,7 @@
 //! Lines and places of a text.
 
+use text_lines::split_line;
+
 /// A place in a text: lines count from 1 by line feeds, columns from 1 by bytes.
 #[derive(Clone, Copy, Debug, PartialEq, Eq)]
 pub struct Place {
@@ -9,14 +11,14 @@ pub struct Place {
 
 /// The bytes of a line of a text, counted from 1, without its line feed; nothing where there is no such line.
 pub fn line_of(text: &[u8], number: u64) -> &[u8] {
-    let mut left = number;
-    for line in text.split(|byte| *byte == b'\n') {
-        if left <= 1 {
-            return line;
+    let mut rest = text;
+    for _above in 1..number {
+        if rest.is_empty() {
+            return rest;
         }
-        left -= 1;
+        rest = split_line(rest).1;
     }
-    b""
+    split_line(rest).0
 }
 
 /// How many bytes of a text are left at a place of it, those of the place among them.

@@ -5,7 +5,7 @@ use crate::reason::{Other, Reason};
 use crate::walk::text_of;
 use crate::words::{column_of, from_nth_word};
 use numerals::spelled;
-use text_lines::split_word;
+use text_lines::{split_line, split_word};
 
 /// The first word of a line, and the one behind it; empty where there is none.
 fn words_of(line: &[u8]) -> (&[u8], &[u8]) {
@@ -24,11 +24,12 @@ fn start_of(number: u64) -> Place {
 
 /// The first line above one that has the same first word; and, if asked, the same number behind it.
 fn same_above(text: &[u8], number: u64, keyword: &[u8], value: Option<u64>) -> Option<Other> {
-    let mut above = 1u64;
-    for line in text.split(|byte| *byte == b'\n') {
-        if above >= number {
+    let mut rest = text;
+    for above in 1..number {
+        if rest.is_empty() {
             return None;
         }
+        let (line, behind) = split_line(rest);
         let (first, second) = words_of(line);
         if first == keyword && (value.is_none() || spelled(10, 1, 7, second) == value) {
             return Some(Other {
@@ -37,7 +38,7 @@ fn same_above(text: &[u8], number: u64, keyword: &[u8], value: Option<u64>) -> O
                 why: "it stands here already",
             });
         }
-        above = above.saturating_add(1);
+        rest = behind;
     }
     None
 }

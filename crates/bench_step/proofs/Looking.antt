@@ -5,7 +5,6 @@ use Rattle.frame_tree.specs.Tree.{Condition}
 use Rattle.replay.specs.declared.error.ReplayError.TheVariants as error
 use Rattle.replay.specs.Moves.{ReplayState, at_place, IsMet, IsNextMet, IsNowhere}
 use Rattle.job_file.specs.Jobs.{JobState}
-use Rattle.ch11_reader.specs.Recording.{Found}
 use Rattle.bench_report.specs.Reports.{ChannelPart}
 use Rattle.bench_step.specs.Answering.{IsDebuggerOpen, opened_on}
 use Rattle.bench_step.specs.Backwards.{IsLatestBefore, Latest}
@@ -95,24 +94,24 @@ looks_out s now test place latest h = latest_so_far s test place now.place lates
 pub ruleset looking = (looks, looks_on, looks_nowhere, looks_past, looks_out)
 
 -- a debugger that is opened with the same jobs, report and recording meets the same
-stands_at : (s : ReplayState) (jobs : List JobState) (parts : List ChannelPart) (found : List Found) (recording : List ℕ) → IsDebuggerOpen s jobs parts found recording
+stands_at : (s : ReplayState) (jobs : List JobState) (parts : List ChannelPart) (recording : List ℕ) → IsDebuggerOpen s jobs parts recording
     → at_place s.place (opened_on jobs parts recording) ≡ s
-stands_at s jobs parts found recording h = rw (← h.read, ← h.found_is, ← h.jobs_are, ← h.parts_are) refl
+stands_at s jobs parts recording h = rw (← h.read, ← h.jobs_are, ← h.parts_are) refl
 
-pub latest_here : (s : ReplayState) (jobs : List JobState) (parts : List ChannelPart) (found : List Found) (recording : List ℕ) (test : Condition) (n : ℕ)
-    → IsDebuggerOpen s jobs parts found recording → IsLatestBefore (opened_on jobs parts recording) test s.place n → IsLatestBefore s test s.place n
-latest_here s jobs parts found recording test n h l =
-    let here = stands_at s jobs parts found recording h in
+pub latest_here : (s : ReplayState) (jobs : List JobState) (parts : List ChannelPart) (recording : List ℕ) (test : Condition) (n : ℕ)
+    → IsDebuggerOpen s jobs parts recording → IsLatestBefore (opened_on jobs parts recording) test s.place n → IsLatestBefore s test s.place n
+latest_here s jobs parts recording test n h l =
+    let here = stands_at s jobs parts recording h in
     record {
       before = l.before;
       met = subst (λ (t : ReplayState). IsMet t test n) here (met_at (opened_on jobs parts recording) s.place test n l.met);
       latest = λ m behind before met. l.latest m behind before (met_from (opened_on jobs parts recording) s.place test m (subst (λ (t : ReplayState). IsMet t test m) (sym here) met));
     }
 
-pub none_here : (s : ReplayState) (jobs : List JobState) (parts : List ChannelPart) (found : List Found) (recording : List ℕ) (test : Condition)
-    → IsDebuggerOpen s jobs parts found recording → ((m : ℕ) → m < s.place → ¬ IsMet (opened_on jobs parts recording) test m) → IsNoneBefore s test
-none_here s jobs parts found recording test h none m before met =
-    let here = stands_at s jobs parts found recording h in
+pub none_here : (s : ReplayState) (jobs : List JobState) (parts : List ChannelPart) (recording : List ℕ) (test : Condition)
+    → IsDebuggerOpen s jobs parts recording → ((m : ℕ) → m < s.place → ¬ IsMet (opened_on jobs parts recording) test m) → IsNoneBefore s test
+none_here s jobs parts recording test h none m before met =
+    let here = stands_at s jobs parts recording h in
     none m before (met_from (opened_on jobs parts recording) s.place test m (subst (λ (t : ReplayState). IsMet t test m) (sym here) met))
 
 -- what is replied where it was found
@@ -129,11 +128,11 @@ found_back s test k reply.Quit there is = absurd is
 found_back s test k reply.Unknown there is = absurd is
 
 -- and where it was looked for from the place
-pub looked_back : (s : ReplayState) (jobs : List JobState) (parts : List ChannelPart) (found : List Found) (recording : List ℕ) (test : Condition) (place : ℕ) (latest : Option ℕ) (r : Reply)
-    → IsDebuggerOpen s jobs parts found recording → place ≡ s.place → Latest (opened_on jobs parts recording) test place latest → IsMoveIfAny latest r → Replies s (find_back test) r
-looked_back s jobs parts found recording test place None r h here l is =
+pub looked_back : (s : ReplayState) (jobs : List JobState) (parts : List ChannelPart) (recording : List ℕ) (test : Condition) (place : ℕ) (latest : Option ℕ) (r : Reply)
+    → IsDebuggerOpen s jobs parts recording → place ≡ s.place → Latest (opened_on jobs parts recording) test place latest → IsMoveIfAny latest r → Replies s (find_back test) r
+looked_back s jobs parts recording test place None r h here l is =
     let none : (m : ℕ) → m < s.place → ¬ IsMet (opened_on jobs parts recording) test m = rw here at l in
-    rw is (inl (none_here s jobs parts found recording test h none))
-looked_back s jobs parts found recording test place (Some k) r h here l is =
+    rw is (inl (none_here s jobs parts recording test h none))
+looked_back s jobs parts recording test place (Some k) r h here l is =
     let there : IsLatestBefore (opened_on jobs parts recording) test s.place k = rw here at l in
-    found_back s test k r (latest_here s jobs parts found recording test k h there) is
+    found_back s test k r (latest_here s jobs parts recording test k h there) is

@@ -80,15 +80,15 @@ selected On s found stands place selector r same here there is = subst (λ (p : 
 selected Back s found stands place selector r same here there is = subst (λ (p : Option ℕ). RepliesPlaceFound p r) (rw (same, here) at there) (finds_any place r is)
 
 -- a reply leaves the debugger on the same recording
-pub still_open : (s new : ReplayState) (jobs : List JobState) (parts : List ChannelPart) (found : List Found) (recording : List ℕ) (r : Reply)
-    → IsDebuggerOpen s jobs parts found recording → new ≡ after_reply r s → IsDebuggerOpen new jobs parts found recording
-still_open s new jobs parts found recording (reply.At n) h is = subst (λ (t : ReplayState). IsDebuggerOpen t jobs parts found recording) (sym is) (record { jobs_are = h.jobs_are; parts_are = h.parts_are; found_is = h.found_is; read = h.read })
-still_open s new jobs parts found recording (reply.Refused e) h is = rw is h
-still_open s new jobs parts found recording (reply.Shown detail) h is = rw is h
-still_open s new jobs parts found recording (reply.Message n) h is = rw is h
-still_open s new jobs parts found recording reply.Help h is = rw is h
-still_open s new jobs parts found recording reply.Quit h is = rw is h
-still_open s new jobs parts found recording reply.Unknown h is = rw is h
+pub still_open : (s new : ReplayState) (jobs : List JobState) (parts : List ChannelPart) (recording : List ℕ) (r : Reply)
+    → IsDebuggerOpen s jobs parts recording → new ≡ after_reply r s → IsDebuggerOpen new jobs parts recording
+still_open s new jobs parts recording (reply.At n) h is = subst (λ (t : ReplayState). IsDebuggerOpen t jobs parts recording) (sym is) (record { jobs_are = h.jobs_are; parts_are = h.parts_are; read = h.read })
+still_open s new jobs parts recording (reply.Refused e) h is = rw is h
+still_open s new jobs parts recording (reply.Shown detail) h is = rw is h
+still_open s new jobs parts recording (reply.Message n) h is = rw is h
+still_open s new jobs parts recording reply.Help h is = rw is h
+still_open s new jobs parts recording reply.Quit h is = rw is h
+still_open s new jobs parts recording reply.Unknown h is = rw is h
 
 -- the message at the place
 pub shows_place : (s : ReplayState) (n : ℕ) (r : Reply) → n ≡ s.place → Replies s (show_at n) r → Replies s show r

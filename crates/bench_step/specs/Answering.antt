@@ -9,7 +9,7 @@ use Rattle.text_lines.specs.Words.{Text}
 use Rattle.job_file.specs.Jobs.{JobState}
 use Rattle.bench_report.specs.Reports.{ChannelPart}
 use Rattle.text_lines.specs.Lines.{text_lines}
-use Rattle.ch11_reader.specs.Recording.{Found, packets_in}
+use Rattle.ch11_reader.specs.Recording.{packets_in}
 use Rattle.ch11_reader.specs.Indexed.{found_in}
 use Rattle.replay.specs.Accord.{Agrees}
 use Rattle.replay.specs.Differences.{IsFirstDifference}
@@ -90,14 +90,12 @@ pub record IsThrough (manner : Manner) (jobs : List JobState) (parts : List Chan
   pub last : ReplayState
   pub read : IsAllRead manner (opened_on jobs parts recording) last left leaves got gets refused
 
--- a debugger on a recording: jobs, report and recording are those that it was opened with, and this is what the file
--- holds
-pub record IsDebuggerOpen (s : ReplayState) (jobs : List JobState) (parts : List ChannelPart) (found : List Found)
+-- a debugger on a recording: jobs, report and recording are those that it was opened with
+pub record IsDebuggerOpen (s : ReplayState) (jobs : List JobState) (parts : List ChannelPart)
     (recording : List ℕ) : Type 0 where
   pub jobs_are : s.jobs ≡ jobs
   pub parts_are : s.parts ≡ parts
-  pub found_is : s.found ≡ found
-  pub read : found ≡ found_in recording
+  pub read : s.found ≡ found_in recording
 
 -- a debugger, and the manner in which lines are answered
 pub record SessionState : Type 0 where

@@ -3,7 +3,6 @@ ghost use Rattle.bench_step.specs.Answering.{IsDebuggerOpen, opened_on};
 ghost use Rattle.bench_step.specs.Backwards.{Latest};
 ghost use Rattle.bench_step.specs.Commands.{find_back};
 ghost use Rattle.bench_step.specs.Session.{Replies, after_reply};
-ghost use Rattle.ch11_reader.specs.Indexed.{found_in};
 ghost use Rattle.frame_tree.specs.Tree.{condition_in};
 ghost use Rattle.std.specs.Prelude.{◌≡◌, IfOk};
 
@@ -67,6 +66,7 @@ fn latest_of(
 
 /// Back to the latest message before the place whose outcome makes the condition true: another debugger, which is
 /// opened with the same jobs, report and recording, looks for it.
+#[tactic(auto, using(crate::proofs::Looking::looked_back))]
 pub(crate) fn back_to(
     alloc: Global,
     replay: &mut Replay<'_>,
@@ -75,7 +75,7 @@ pub(crate) fn back_to(
     recording: &[u8],
     condition: &Cond<Global>,
 ) -> Reply
-    requires { IsDebuggerOpen replay.old.state jobs.now report.now.channels (found_in recording.now) recording.now }
+    requires { IsDebuggerOpen replay.old.state jobs.now report.now.channels recording.now }
     ensures lawful { Replies replay.old.state (find_back (condition_in condition.now)) result }
     ensures after { replay.new.state ≡ after_reply result replay.old.state }
 {

@@ -319,7 +319,11 @@ fn read_by(alloc: Global, manner: Manner, word: &[u8], rest: &[u8]) -> Result<Co
 /// digits, and a time its unit, as `1.2s`; the condition is all that stands behind `find` or `back`, and what is no
 /// condition there may be a selector in the words of a rule. Memory is taken for what stands behind `find` alone.
 #[tactic(auto, unfolding(crate::specs::Commands::asked))]
-pub fn read_command(alloc: Global, manner: Manner, line: &[u8]) -> Result<Command, AllocError>
+pub(crate) fn read_command(
+    alloc: Global,
+    manner: Manner,
+    line: &[u8],
+) -> Result<Command, AllocError>
     ensures read { IfOk result (λ c. asked_of c ≡ asked manner line.now) }
     ensures memory { OnErr result (TakesMemory (asked manner line.now)) }
 {

@@ -18,7 +18,7 @@ mod replies;
 mod session;
 mod sessions;
 
-pub use commands::{Command, read_command};
+pub use commands::Command;
 pub use console::Prompted;
 pub use fault::StepFault;
 pub use laws::replies_are_determined;

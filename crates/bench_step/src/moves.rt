@@ -72,30 +72,23 @@ pub(crate) fn go_to(replay: &mut Replay<'_>, place: u64) -> Reply
     }
 }
 
-/// To the place before the first message with a later stamp than so many ticks, where these are the packets of the
-/// recording.
-pub(crate) fn go_time(replay: &mut Replay<'_>, index: &Index<'_>, ticks: u64) -> Reply
-    requires { index.now ≡ replay.old.state.found }
+/// To the place before the first message with a later stamp than so many ticks.
+pub(crate) fn go_time(replay: &mut Replay<'_>, ticks: u64) -> Reply
     ensures lawful { Replies replay.old.state (asked.go_time ticks) result }
     ensures after { replay.new.state ≡ after_reply result replay.old.state }
 {
+    let index = replay.index();
     let place = place_before(index, &Sought::Later(ticks));
     move_to(replay, place)
 }
 
-/// To the message of a number among all that meet what is asked of them, where these are the packets of the recording.
+/// To the message of a number among all that meet what is asked of them.
 #[tactic(auto, using(crate::proofs::Moving::sought))]
-pub(crate) fn seek(
-    replay: &mut Replay<'_>,
-    index: &Index<'_>,
-    sought: &Sought,
-    number: u64,
-) -> Reply
-    requires { index.now ≡ replay.old.state.found }
+pub(crate) fn seek(replay: &mut Replay<'_>, sought: &Sought, number: u64) -> Reply
     ensures lawful { Replies replay.old.state (asked.seek sought.now number) result }
     ensures after { replay.new.state ≡ after_reply result replay.old.state }
 {
-    let found = nth_place(index, sought, 0, number);
+    let found = nth_place(replay.index(), sought, 0, number);
     move_if_any(replay, found)
 }
 
@@ -119,20 +112,13 @@ fn selected_place(index: &Index<'_>, way: Way, selector: Selector, place: u64) -
     }
 }
 
-/// On to the next message that the selector is about, or back to the latest one before the place, where these are the
-/// packets of the recording.
+/// On to the next message that the selector is about, or back to the latest one before the place.
 #[tactic(auto, using(crate::proofs::Moving::selected))]
-pub(crate) fn select(
-    replay: &mut Replay<'_>,
-    index: &Index<'_>,
-    way: Way,
-    selector: Selector,
-) -> Reply
-    requires { index.now ≡ replay.old.state.found }
+pub(crate) fn select(replay: &mut Replay<'_>, way: Way, selector: Selector) -> Reply
     ensures lawful { Replies replay.old.state (asked.selects way selector) result }
     ensures after { replay.new.state ≡ after_reply result replay.old.state }
 {
     let place = replay.place();
-    let found = selected_place(index, way, selector, place);
+    let found = selected_place(replay.index(), way, selector, place);
     move_if_any(replay, found)
 }

@@ -1,6 +1,5 @@
 //! Opening a recording under the debugger.
 ghost use Rattle.bench_step.specs.Answering.{MayBeDebugged, IsOpeningRefusal, opened_on};
-ghost use Rattle.ch11_reader.specs.Indexed.{found_in};
 ghost use Rattle.std.specs.Prelude.{◌≡◌, IfOk, IfErr, OnOk};
 
 use crate::fault::StepFault;
@@ -8,7 +7,7 @@ use bench_report::Report;
 use ch11_reader::{Index, ReadError};
 use job_file::Job;
 use replay::{Replay, ReplayError};
-use std::alloc::{AllocError, Global};
+use std::alloc::Global;
 
 /// A debugger on a recording that can be read, where jobs and report agree with it.
 pub(crate) fn open_replay<'a>(
@@ -32,15 +31,5 @@ pub(crate) fn open_replay<'a>(
             Err(StepFault::Mismatch { channel, number })
         }
         Err(_) => Err(StepFault::Memory),
-    }
-}
-
-/// The packets of a recording that can be read; it fails for want of memory alone.
-pub(crate) fn packets_of(alloc: Global, recording: &[u8]) -> Result<Index<'_>, AllocError>
-    ensures { IfOk result (λ i. i ≡ found_in recording.now) }
-{
-    match Index::build(alloc, recording) {
-        Ok(index) => Ok(index),
-        Err(_) => Err(AllocError),
     }
 }

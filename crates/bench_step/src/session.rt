@@ -11,10 +11,9 @@ use crate::decoding::Decoder;
 use crate::fault::StepFault;
 use crate::manners::Manner;
 use crate::moves::{find_on, go_back, go_on, go_time, go_to, seek, select};
-use crate::opening::{open_replay, packets_of};
+use crate::opening::open_replay;
 use crate::replies::Reply;
 use bench_report::Report;
-use ch11_reader::Index;
 use job_file::Job;
 use replay::{Replay, ReplayError};
 use std::alloc::Global;
@@ -27,7 +26,6 @@ use std::marker::Model;
 #[derive(Drop)]
 pub(crate) struct Session<'a> {
     replay: Replay<'a>,
-    index: Index<'a>,
     jobs: &'a [Job],
     report: &'a Report,
     recording: &'a [u8],
@@ -46,7 +44,7 @@ impl<'a> Model for Session<'a> {
 
     ghost view = { λ s. record { debugger = s.replay.state; manner = s.manner } };
 
-    ghost invariant = { λ s. IsDebuggerOpen s.replay.state s.jobs.now s.report.now.channels s.index s.recording.now };
+    ghost invariant = { λ s. IsDebuggerOpen s.replay.state s.jobs.now s.report.now.channels s.recording.now };
 }
 
 /// What became of a line: whether memory was refused for what it asks, and whether it ends the session.
@@ -89,17 +87,16 @@ impl<'a> Session<'a> {
         ensures refused { IfErr result (IsOpeningRefusal jobs.now report.now.channels recording.now) }
     {
         let replay = open_replay(alloc, jobs, report, recording)?;
-        match (packets_of(alloc, recording), Decoder::make(alloc)) {
-            (Ok(index), Ok(decoder)) => Ok(Session {
+        match Decoder::make(alloc) {
+            Ok(decoder) => Ok(Session {
                 replay,
-                index,
                 jobs,
                 report,
                 recording,
                 manner,
                 decoder,
             }),
-            _ => Err(StepFault::Memory),
+            Err(_) => Err(StepFault::Memory),
         }
     }
 
@@ -109,10 +106,10 @@ impl<'a> Session<'a> {
         ensures after { self.new.debugger ≡ after_reply result self.old.debugger }
         ensures manner { self.new.manner ≡ self.old.manner }
     {
-        if self.index.message(number).is_none() {
+        if self.replay.index().message(number).is_none() {
             return Reply::Refused(ReplayError::Past);
         }
-        match self.decoder.decode(&self.index, number) {
+        match self.decoder.decode(self.replay.index(), number) {
             Ok(()) => Reply::Message(number),
             Err(_) => Reply::Refused(ReplayError::Memory),
         }
@@ -129,10 +126,8 @@ impl<'a> Session<'a> {
             Command::Forward(count) => go_on(&mut self.replay, *count),
             Command::Back(count) => go_back(&mut self.replay, *count),
             Command::Go(place) => go_to(&mut self.replay, *place),
-            Command::GoTime(ticks) => go_time(&mut self.replay, &self.index, *ticks),
-            Command::Seek(sought, number) => {
-                seek(&mut self.replay, &self.index, sought, *number)
-            }
+            Command::GoTime(ticks) => go_time(&mut self.replay, *ticks),
+            Command::Seek(sought, number) => seek(&mut self.replay, sought, *number),
             Command::Find(condition) => find_on(&mut self.replay, condition),
             Command::FindBack(condition) => back_to(
                 alloc,
@@ -142,12 +137,8 @@ impl<'a> Session<'a> {
                 self.recording,
                 condition,
             ),
-            Command::Select(selector) => {
-                select(&mut self.replay, &self.index, Way::On, *selector)
-            }
-            Command::SelectBack(selector) => {
-                select(&mut self.replay, &self.index, Way::Back, *selector)
-            }
+            Command::Select(selector) => select(&mut self.replay, Way::On, *selector),
+            Command::SelectBack(selector) => select(&mut self.replay, Way::Back, *selector),
             Command::State(detail) => Reply::Shown(*detail),
             Command::Show => {
                 let place = self.replay.place();
@@ -186,7 +177,7 @@ impl<'a> Session<'a> {
         ensures manner { self.new.manner ≡ self.old.manner }
     {
         let reply = self.reply_to(alloc, line);
-        self.decoder.tell(self.manner, &self.index, &reply);
+        self.decoder.tell(self.manner, self.replay.index(), &reply);
         print_answer(out, &reply, &self.replay, self.report, &self.decoder.text)?;
         Ok(Answered {
             refused: reply.is_memory(),

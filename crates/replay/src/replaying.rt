@@ -202,6 +202,13 @@ impl<'a> Replay<'a> {
         self.timeline.channels.len() as u64
     }
 
+    /// The packets of the recording.
+    pub fn index(&self) -> &Index<'a>
+        ensures { result.now ≡ self.now.state.found }
+    {
+        &self.index
+    }
+
     /// How many jobs there are.
     pub fn jobs(&self) -> usize
         ensures value { result ≡ length self.now.state.jobs }
