@@ -10,12 +10,20 @@ use Rattle.bench_run.specs.Entries.{index_of}
 use Rattle.bench_run.specs.Runs.{ArePairs}
 use Rattle.job_file.specs.Rooms.{most_items}
 use Rattle.bench_run.specs.Threads.{IsCountedIn, AreJoined}
+use Rattle.ch11_recording.specs.WrittenFile.{Format}
+use Rattle.ch11_recording.specs.Recording.{Recording}
+use Rattle.bench_run.specs.Writer.{IsLogged}
 use Rattle.bench_run.specs.Ending.{IsAll}
 
 -- a sink that was not called has taken nothing
 pub nothing_taken : (known : Option (List ℕ)) (bytes : List ℕ) → Appends known known (take 0 bytes)
 nothing_taken None bytes = tt
 nothing_taken (Some xs) bytes = sym (append-nil xs)
+
+-- what was recorded on some channels, where they are these
+pub log_moved : {S : Type 0} (taken : S → Option (List ℕ)) (failures : S → ℕ) (f : Format) (prologue : List ℕ) (before : S) (channels these : List ℕ) (r : Recording S) (whole : Bool)
+    → channels ≡ these → IsLogged taken failures f prologue before channels [] r whole → IsLogged taken failures f prologue before these [] r whole
+log_moved taken failures f prologue before channels these r whole is logged = subst (λ (l : List ℕ). IsLogged taken failures f prologue before l [] r whole) is logged
 
 -- a first failure
 pub first_rises : (old new : Bool) (a b : ℕ) → old ≡ false → b ≡ cond (old || not new) a (a + 1) → (new ≡ true → a < b) × (a ≤ b)

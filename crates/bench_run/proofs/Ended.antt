@@ -12,7 +12,7 @@ use Rattle.ch11_recording.specs.Recording.{AreDistinct}
 use Rattle.bench_run.specs.declared.entry.Entry.{Entry}
 use Rattle.bench_run.specs.declared.entry.Entry.TheVariants as entry
 use Rattle.bench_run.specs.Entries.{index_of, item_of, entry_of, entries_to_the_end}
-use Rattle.bench_run.specs.Writer.{record_of, records_at, FitsRecording, IsUnfit, AreOrdered}
+use Rattle.bench_run.specs.Writer.{record_of, records_at, IsNextNumber, FitsRecording, IsUnfit, AreOrdered}
 use Rattle.bench_run.proofs.Channels.{part_is, ended_is}
 use Rattle.bench_run.proofs.Tagged.{all_by_index}
 
@@ -35,20 +35,21 @@ not_none (y ∷ es) rest x e = absurd cc
 
 -- a message among a job's entries comes behind lower numbers, and its stamp fits
 in_order : (t low : ℕ) (ns : List Numbered) (es rest : List Entry) (number : ℕ) (message : Record) → AreOrdered low ns
-    → entries_to_the_end t ns ≡ es ++ entry.Message t number message ∷ rest → (last_number low (records_at t es) < number) × (message.stamp < 2 ^ 48)
+    → entries_to_the_end t ns ≡ es ++ entry.Message t number message ∷ rest → IsNextNumber (last_number low (records_at t es)) number message
 in_order t low [] [] rest number message ordered e = absurd cc
 in_order t low [] (y ∷ es) rest number message ordered e = let none : [] ≡ es ++ entry.Message t number message ∷ rest = cc in absurd (not_none es rest (entry.Message t number message) none)
 in_order t low (n ∷ ns) [] rest number message ordered e =
     let is_number : n.number ≡ number = cc in
     let is_message : n.message ≡ message = cc in
-    (subst (λ k. low < k) is_number ordered.0, subst (λ (m : Record). m.stamp < 2 ^ 48) is_message ordered.1)
+    record { above = subst (λ k. low < k) is_number ordered.0.above; stamp = subst (λ (m : Record). m.stamp < 2 ^ 48) is_message ordered.0.stamp }
 in_order t low (n ∷ ns) (y ∷ es) rest number message ordered e =
     let first : entry_of t n ≡ y = cc in
     let later : entries_to_the_end t ns ≡ es ++ entry.Message t number message ∷ rest = cc in
-    let more = in_order t n.number ns es rest number message ordered.2 later in (
-      subst (λ (z : Entry). last_number low (records_at t (z ∷ es)) < number) first (subst (λ (ms : List Numbered). last_number low ms < number) (sym (record_first t n es)) more.0),
-      more.1,
-    )
+    let more = in_order t n.number ns es rest number message ordered.1 later in
+    record {
+      above = subst (λ (z : Entry). last_number low (records_at t (z ∷ es)) < number) first (subst (λ (ms : List Numbered). last_number low ms < number) (sym (record_first t n es)) more.above);
+      stamp = more.stamp;
+    }
 
 -- an entry is one of its index
 tag_first : (x : Entry) (later : List Entry) → with_tag index_of (index_of x) (x ∷ later) ≡ x ∷ with_tag index_of (index_of x) later
@@ -74,19 +75,19 @@ low_in channels t low (x ∷ es) = low_more channels t x es (eqb (index_of x) t)
 
 ordered_above : (low lower : ℕ) (ns : List Numbered) → lower ≤ low → AreOrdered low ns → AreOrdered lower ns
 ordered_above low lower [] le ordered = tt
-ordered_above low lower (n ∷ ns) le ordered = let first = ordered.0 in (omega (arith, le, first), ordered.1, ordered.2)
+ordered_above low lower (n ∷ ns) le ordered = let first = ordered.0.above in (record { above = omega (arith, le, first); stamp = ordered.0.stamp }, ordered.1)
 
 filter_more : (p : Numbered → Bool) (low : ℕ) (n : Numbered) (ns : List Numbered) (b : Bool) → p n ≡ b → AreOrdered low (n ∷ ns) → AreOrdered n.number (filter p ns) → AreOrdered low (filter p (n ∷ ns))
-filter_more p low n ns true is ordered rest = rw is (ordered.0, ordered.1, rest)
-filter_more p low n ns false is ordered rest = let first = ordered.0 in rw is (ordered_above n.number low (filter p ns) (omega (arith, first)) rest)
+filter_more p low n ns true is ordered rest = rw is (ordered.0, rest)
+filter_more p low n ns false is ordered rest = let first = ordered.0.above in rw is (ordered_above n.number low (filter p ns) (omega (arith, first)) rest)
 
 ordered_filter : (p : Numbered → Bool) (low : ℕ) (ns : List Numbered) → AreOrdered low ns → AreOrdered low (filter p ns)
 ordered_filter p low [] ordered = tt
-ordered_filter p low (n ∷ ns) ordered = filter_more p low n ns (p n) refl ordered (ordered_filter p n.number ns ordered.2)
+ordered_filter p low (n ∷ ns) ordered = filter_more p low n ns (p n) refl ordered (ordered_filter p n.number ns ordered.1)
 
 ordered_from : (number low : ℕ) (rs : List Record) → low < number → AllByRecursion (λ r. r.stamp < 2 ^ 48) rs → AreOrdered low (numbered_from number rs)
 ordered_from number low [] above small = tt
-ordered_from number low (r ∷ rs) above small = (above, small.0, ordered_from (suc number) number rs (omega arith) small.1)
+ordered_from number low (r ∷ rs) above small = (record { above = above; stamp = small.0 }, ordered_from (suc number) number rs (omega arith) small.1)
 
 -- some of the records, numbered from 1
 pub some_ordered : (p : Numbered → Bool) (rs : List Record) → AllByRecursion (λ r. r.stamp < 2 ^ 48) rs → AreOrdered 0 (filter p (numbered_from 1 rs))
@@ -110,11 +111,11 @@ module _ (channels : List ℕ) (got : List Entry) (sent : ℕ → List Numbered)
       let x : Entry = entry.Message index number message in
       let low : index < length channels = low_index ended earlier later x e in
       let own = in_order index 0 (sent index) (with_tag index_of index earlier) (with_tag index_of index later) number message (ordered index low) (sym (ended.0 index low) ∙ tag_split got earlier later x e) in
-      (low, subst (λ (ns : List Numbered). last_number 0 ns < number) (sym (records_at_tag index earlier)) own.0, own.1)
+      record { index_low = low; next = record { above = subst (λ (ns : List Numbered). last_number 0 ns < number) (sym (records_at_tag index earlier)) own.above; stamp = own.stamp } }
 
   -- all could be recorded
   pub all_fit : AreEnded → ((t : ℕ) → t < length channels → AreOrdered 0 (sent t)) → ¬ IsUnfit channels got
-  all_fit ended ordered u = u.4 (fits_there ended ordered u.0 u.1 u.2 u.3)
+  all_fit ended ordered u = u.unfit (fits_there ended ordered u.earlier u.later u.here u.split)
 
   all_low : AreEnded → AllByRecursion (λ x. index_of x < length channels) got
   all_low ended = all_by_index (λ x. index_of x < length channels) got each

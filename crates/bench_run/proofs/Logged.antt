@@ -49,11 +49,11 @@ module _ {S : Type 0} (taken : S → Option (List ℕ)) (failures : S → ℕ) (
   fitting latest distinct got r (entry.End index) is fits = lane_is got r index is fits
   fitting latest distinct got r (entry.Message index number message) is fits =
       let last : latest_number (holding index got) ≡ last_number (records_at index got) =
-      latest f (slice_index channels index) (map (item_of channels) got) ∙ ap last_number (records_are channels index got distinct fits.0 (is.indices refl)) in (
-        lane_is got r index is fits.0,
-        subst (λ n. n < number) (sym last) fits.1,
-        fits.2,
-      )
+      latest f (slice_index channels index) (map (item_of channels) got) ∙ ap last_number (records_are channels index got distinct fits.index_low (is.indices refl)) in
+      record {
+        lane = lane_is got r index is fits.index_low;
+        next = record { above = subst (λ n. n < number) (sym last) fits.next.above; stamp = fits.next.stamp };
+      }
 
   more_few : (got : List Entry) (x : Entry) (a b : ℕ) → a ≤ length prologue + 524288 * length got → b ≤ a + 524288 → b ≤ length prologue + 524288 * length (got ++ x ∷ [])
   more_few got x a b few more = omega (arith, few, more, length-append got (x ∷ []))
@@ -66,13 +66,14 @@ module _ {S : Type 0} (taken : S → Option (List ℕ)) (failures : S → ℕ) (
     all = λ whole. absurd (true≢false (sym whole));
     indices = λ whole. absurd (true≢false (sym whole));
     unfit = λ cut.
-        let u = is.unfit cut in (
-          u.0,
-          u.1 ++ x ∷ [],
-          u.2,
-          ap (λ (l : List Entry). l ++ x ∷ []) u.3 ∙ append_assoc u.0 (u.2 ∷ u.1) (x ∷ []),
-          u.4,
-        );
+        let u = is.unfit cut in
+        record {
+          earlier = u.earlier;
+          later = u.later ++ x ∷ [];
+          here = u.here;
+          split = ap (λ (l : List Entry). l ++ x ∷ []) u.split ∙ append_assoc u.earlier (u.here ∷ u.later) (x ∷ []);
+          unfit = u.unfit;
+        };
     rose = is.rose;
     not_fewer = is.not_fewer;
     unfinished = is.unfinished;
@@ -87,7 +88,7 @@ module _ {S : Type 0} (taken : S → Option (List ℕ)) (failures : S → ℕ) (
     recording = is.recording;
     all = λ whole. absurd (true≢false (sym whole));
     indices = λ whole. absurd (true≢false (sym whole));
-    unfit = λ cut. (got, [], x, refl, unfit);
+    unfit = λ cut. record { earlier = got; later = []; here = x; split = refl; unfit = unfit };
     rose = is.rose;
     not_fewer = is.not_fewer;
     unfinished = is.unfinished;
@@ -96,7 +97,7 @@ module _ {S : Type 0} (taken : S → Option (List ℕ)) (failures : S → ℕ) (
 
   -- one that has no job
   pub has_index : (got : List Entry) (x : Entry) → FitsRecording channels got x → index_of x < length channels
-  has_index got (entry.Message index number message) fits = fits.0
+  has_index got (entry.Message index number message) fits = fits.index_low
   has_index got (entry.End index) fits = fits
 
   rises : (old new : Bool) (a b : ℕ) → b ≡ cond (old || not new) a (a + 1) → (old ≡ true → failures before < a) → failures before ≤ a

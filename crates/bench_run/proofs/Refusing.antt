@@ -15,19 +15,19 @@ module _ {S : Type 0} (taken : S → Option (List ℕ)) where
   pub ran_alone : (jobs : List JobState) (s : Settings) (inboxes : List Inbox) (before : S) (report : RunReport) (back : List Inbox) (after : S)
       → RanLive taken 0 jobs s inboxes before report back after → Ran taken jobs s before report after
   ran_alone jobs s inboxes before report back after live =
-      subst (λ (js : List JobState). Ran taken js s before report after) (lives_are_jobs jobs inboxes back report.channels live.0 live.1) live.2
+      subst (λ (js : List JobState). Ran taken js s before report after) (lives_are_jobs jobs inboxes back report.channels live.lives live.live) live.ran
 
   pub left_alone : (failures : S → ℕ) (jobs : List JobState) (s : Settings) (inboxes : List Inbox) (before : S) (e : RunError S) (back : List Inbox)
       → LeavesLate taken failures 0 jobs s inboxes before e back → LeavesRunInSink taken failures jobs s before e
   left_alone failures jobs s inboxes before (fault.Settings sink) back left = absurd left
   left_alone failures jobs s inboxes before (fault.ChannelTwice sink) back left = absurd left
   left_alone failures jobs s inboxes before (fault.Prologue sink) back left = absurd left
-  left_alone failures jobs s inboxes before (fault.Memory sink) back left = (left.0, left.2)
-  left_alone failures jobs s inboxes before (fault.Sink sink report count) back left = (
-    left.0,
-    left.1,
-    subst (λ (js : List JobState). IsCut taken js s before report count sink) (lives_are_jobs jobs inboxes back report.channels left.2.0 left.2.1) left.2.2,
-  )
+  left_alone failures jobs s inboxes before (fault.Memory sink) back left = left.memory
+  left_alone failures jobs s inboxes before (fault.Sink sink report count) back left = record {
+    lawful = left.lawful;
+    failed = left.failed;
+    cut = subst (λ (js : List JobState). IsCut taken js s before report count sink) (lives_are_jobs jobs inboxes back report.channels left.lives left.live) left.cut;
+  }
 
   pub left_late : (failures : S → ℕ) (most : ℕ) (jobs : List JobState) (s : Settings)
       (boxes : List Mailbox) (inboxes : List Inbox) (before : S) (e : RunError S) (back : List Inbox)
@@ -36,5 +36,5 @@ module _ {S : Type 0} (taken : S → Option (List ℕ)) where
   left_late failures most jobs s boxes inboxes before (fault.Settings sink) back mail left = absurd left
   left_late failures most jobs s boxes inboxes before (fault.ChannelTwice sink) back mail left = absurd left
   left_late failures most jobs s boxes inboxes before (fault.Prologue sink) back mail left = absurd left
-  left_late failures most jobs s boxes inboxes before (fault.Memory sink) back mail left = (mail, left)
-  left_late failures most jobs s boxes inboxes before (fault.Sink sink report count) back mail left = (mail, left)
+  left_late failures most jobs s boxes inboxes before (fault.Memory sink) back mail left = record { mail = mail; late = left }
+  left_late failures most jobs s boxes inboxes before (fault.Sink sink report count) back mail left = record { mail = mail; late = left }

@@ -1,28 +1,29 @@
 -- The end of a run: every channel has ended, and the writer has received all that was sent.
 use Rattle.std.specs.Prelude.{◌≡◌, ℕ, ◌<◌, ◌≤◌, Bool, true, List, [], Option, Some, length, map, slice_get}
+use Rattle.std.specs.Prelude.{Result}
+use Rattle.std.specs.Global.{Vec}
 use Rattle.std.specs.List.{AllByRecursion}
 use Rattle.job_file.specs.Jobs.{JobState}
+use Rattle.mil_trunk.specs.declared.trunk.Trunk.{Trunk}
 use Rattle.mil_trunk.specs.Views.{with_tag}
 use Rattle.mil_trunk.specs.Tags.{has}
 use Rattle.mil_trunk.specs.Ends.{IsTicketOf, IsTakerOf, capacity_of, tags_of, bounds_of, bounds_in, sent, received}
-use Rattle.bench_report.specs.Reports.{ChannelPart}
+use Rattle.bench_report.specs.Reports.{ChannelPart, RunReport}
 use Rattle.ch11_recording.specs.Recording.{Recording}
-use Rattle.bench_core.specs.declared.settings.Settings.{Settings}
-use Rattle.bench_core.specs.Lawful.{AreLawful, channels_of, format_of}
+use Rattle.bench_core.specs.Lawful.{AreLawful, channels_of}
 use Rattle.bench_core.specs.Settled.{kept_records}
 use Rattle.bench_run.specs.declared.entry.Entry.{Entry}
 use Rattle.bench_run.specs.Entries.{index_of, entries_to_the_end}
 use Rattle.bench_run.specs.declared.ending.Before.{Before}
-use Rattle.bench_run.specs.declared.ready.Shared.{Shared}
 use Rattle.bench_run.specs.declared.ready.Own.{Own}
 use Rattle.bench_run.specs.declared.channel.Room.{Room}
 use Rattle.bench_mail.specs.declared.mailbox.Inbox.{Inbox}
-use Rattle.bench_mail.specs.declared.mailbox.Mailbox.{Mailbox}
+use Rattle.bench_run.specs.declared.error.LiveError.{LiveError}
 use Rattle.bench_run.specs.Runs.{ArePairs, records_of, most_in_all}
 use Rattle.job_file.specs.Rooms.{most_items}
 use Rattle.bench_run.specs.Threads.{IsRoom, IsCountedIn}
-use Rattle.bench_run.specs.Live.{AreLive, AreInboxesOf}
-use Rattle.bench_run.specs.Writer.{IsLogged}
+use Rattle.bench_run.specs.Live.{AreLive, AreInboxesOf, RanLiveOrLeft}
+use Rattle.bench_run.specs.Writer.{IsRunLogged}
 
 -- what the writer received: of each job its records but for the refused, and its end mark, and nothing else
 pub record IsAll (capacity : ℕ) (jobs : List JobState) (parts : List ChannelPart) (got : List Entry) : Type 0 where
@@ -40,11 +41,11 @@ pub record IsAllLive (capacity most : ℕ) (jobs : List JobState) (before after 
 
 -- What a run begins with: a trunk of the queue's capacity with nothing in it, the ticket of all tags and the taker, a
 -- thread's room for each job with its inbox, and the jobs' channels.
-pub record IsReady (capacity : ℕ) (jobs : List JobState) (most : ℕ) (inboxes : List Inbox) (shared : Shared)
-    (own : Own) : Type 0 where
-  pub ticket : IsTicketOf shared.trunk own.ticket
-  pub taker : IsTakerOf shared.trunk own.taker
-  pub capacity_is : capacity_of shared.trunk ≡ capacity
+pub record IsReady (capacity : ℕ) (jobs : List JobState) (most : ℕ) (inboxes : List Inbox) (trunk : Trunk Entry)
+    (channels : List ℕ) (own : Own) : Type 0 where
+  pub ticket : IsTicketOf trunk own.ticket
+  pub taker : IsTakerOf trunk own.taker
+  pub capacity_is : capacity_of trunk ≡ capacity
   pub unsent : sent own.ticket ≡ []
   pub unreceived : received own.taker ≡ []
   pub tags : (t : ℕ) → t < 64 → has (tags_of own.ticket) t ≡ true
@@ -54,16 +55,22 @@ pub record IsReady (capacity : ℕ) (jobs : List JobState) (most : ℕ) (inboxes
   pub rooms : ArePairs IsRoom jobs own.rooms.items
   pub inboxes_are : map (λ (room : Room). room.posts.inbox) own.rooms.items ≡ inboxes
   pub most_are : AllByRecursion (λ (room : Room). room.posts.left ≡ most) own.rooms.items
-  pub channels : shared.channels.items ≡ channels_of jobs
+  pub channels_are : channels ≡ channels_of jobs
 
 -- What the threads of a run begin with: lawful jobs with a mailbox and an inbox each, all that the threads need, and a
 -- recording of the prologue alone.
-pub record MayStart {S : Type 0} (taken : S → Option (List ℕ)) (failures : S → ℕ) (jobs : List JobState) (s : Settings)
-    (boxes : List Mailbox) (before : Before S) (shared : Shared) (own : Own) (recorder : Recording S)
-    (whole : Bool) : Type 0 where
-  pub lawful : AreLawful jobs s
-  pub mailboxes : length boxes ≡ length jobs
-  pub ends : AreInboxesOf boxes before.inboxes.value.items
-  pub ready : IsReady s.queue jobs before.most before.inboxes.value.items shared own
-  pub logged : IsLogged taken failures (format_of s) s.prologue.items before.sink.value (channels_of jobs) [] recorder
-      whole
+pub record MayStart {S : Type 0} (taken : S → Option (List ℕ)) (failures : S → ℕ) (before : Before S)
+    (trunk : Trunk Entry) (channels : List ℕ) (own : Own) (recorder : Recording S) (whole : Bool) : Type 0 where
+  pub lawful : AreLawful before.jobs.now before.settings.now
+  pub mailboxes : length before.boxes.now ≡ length before.jobs.now
+  pub ends : AreInboxesOf before.boxes.now before.inboxes.value.items
+  pub ready : IsReady before.settings.now.queue before.jobs.now before.most before.inboxes.value.items trunk channels
+      own
+  pub logged : IsRunLogged taken failures before.settings.now before.sink.value (channels_of before.jobs.now) []
+      recorder whole
+
+-- it is the answer of a run that began with these
+abbrev pub AnswersRun : {S : Type 0} → (S → Option (List ℕ)) → (S → ℕ) → Before S
+    → Result (RunReport × Vec Inbox × S) (LiveError S) → Type 0
+AnswersRun taken failures before answer = RanLiveOrLeft taken failures before.most before.jobs.now before.settings.now
+    before.boxes.now before.inboxes.value.items before.sink.value answer

@@ -8,12 +8,9 @@ use Rattle.std.specs.List.{AllByRecursion}
 use Rattle.mil_host.specs.declared.actions.Action.{Action}
 use Rattle.bc_machine.specs.declared.placed.Placed.{Placed}
 use Rattle.job_file.specs.Jobs.{JobState}
-use Rattle.ch11_recording.specs.declared.item.Item.{Item}
-use Rattle.ch11_recording.specs.Recording.{AreDistinct}
-use Rattle.ch11_recording.specs.Laws.{IsPrologue}
 use Rattle.bench_report.specs.Reports.{ChannelPart, RunReport, NeverFalls}
 use Rattle.bench_core.specs.declared.settings.Settings.{Settings}
-use Rattle.bench_core.specs.Lawful.{AreSettingsInRange, AreLawful, channels_of}
+use Rattle.bench_core.specs.Lawful.{AreSettingsInRange, AreLawful}
 use Rattle.bench_mail.specs.declared.mailbox.Post.{Post}
 use Rattle.bench_mail.specs.declared.mailbox.Mailbox.{Mailbox}
 use Rattle.bench_mail.specs.declared.mailbox.Inbox.{Inbox}
@@ -21,7 +18,7 @@ use Rattle.bench_run.specs.declared.error.LiveError.{LiveError}
 use Rattle.bench_run.specs.declared.error.RunError.{RunError}
 use Rattle.bench_run.specs.declared.error.RunError.TheVariants as fault
 use Rattle.bench_mail.specs.Mail.{received_by, IsInboxOf, IsMadeFor}
-use Rattle.bench_run.specs.Runs.{ArePairs, Ran, RefusesNoneWithRoom, TookPart, IsCut}
+use Rattle.bench_run.specs.Runs.{ArePairs, Ran, RefusesNoneWithRoom, IsCut, LeavesMemory, LeavesRunInSink}
 
 -- a job with actions besides its own; at one number its own come first
 abbrev pub with_posts : JobState → List Placed → JobState
@@ -86,22 +83,36 @@ pub record HaveMail (jobs : List JobState) (boxes : List Mailbox) (inboxes : Lis
   pub inboxes_fit : length inboxes ≡ length jobs
 
 -- the sink took the file of a finished run of the jobs with the posts that were placed
-abbrev pub RanLive : {S : Type 0} → (S → Option (List ℕ)) → ℕ → List JobState → Settings → List Inbox → S → RunReport
-    → List Inbox → S → Type 0
-RanLive taken most jobs s inboxes before report back after =
-    (lives : List JobState) × AreLive most jobs inboxes back report.channels lives
-    × Ran taken lives s before report after
+pub record RanLive {S : Type 0} (taken : S → Option (List ℕ)) (most : ℕ) (jobs : List JobState) (s : Settings)
+    (inboxes : List Inbox) (before : S) (report : RunReport) (back : List Inbox) (after : S) : Type 0 where
+  pub lives : List JobState
+  pub live : AreLive most jobs inboxes back report.channels lives
+  pub ran : Ran taken lives s before report after
+
+-- U3: as of a run, and no inbox comes back
+pub record LeavesNoInbox {S : Type 0} (taken : S → Option (List ℕ)) (jobs : List JobState) (s : Settings)
+    (before sink : S) (back : List Inbox) : Type 0 where
+  pub none : back ≡ []
+  pub memory : LeavesMemory taken jobs s before sink
+
+-- U4: the sink failed in a run of the jobs with the posts that were placed; what was taken from the inboxes stays taken
+pub record LeavesSinkLive {S : Type 0} (taken : S → Option (List ℕ)) (failures : S → ℕ) (most : ℕ)
+    (jobs : List JobState) (s : Settings) (inboxes : List Inbox) (before sink : S) (report : RunReport) (count : ℕ)
+    (back : List Inbox) : Type 0 where
+  pub lawful : AreLawful jobs s
+  pub failed : failures before < failures sink
+  pub lives : List JobState
+  pub live : AreLive most jobs inboxes back report.channels lives
+  pub cut : IsCut taken lives s before report count sink
 
 -- What a refusal of what may be run says and leaves: for want of memory no inbox comes back; what was taken from them
 -- before the sink failed stays taken.
 abbrev pub LeavesLate : {S : Type 0} → (S → Option (List ℕ)) → (S → ℕ) → ℕ → List JobState → Settings → List Inbox → S
     → RunError S → List Inbox → Type 0
 LeavesLate taken failures most jobs s inboxes before (fault.Memory sink) back =
-    AreLawful jobs s × (back ≡ []) × ((items : List Item) × (count : ℕ) × TookPart taken s items count before sink)
+    LeavesNoInbox taken jobs s before sink back
 LeavesLate taken failures most jobs s inboxes before (fault.Sink sink report count) back =
-    AreLawful jobs s × (failures before < failures sink)
-    × ((lives : List JobState) × AreLive most jobs inboxes back report.channels lives
-    × IsCut taken lives s before report count sink)
+    LeavesSinkLive taken failures most jobs s inboxes before sink report count back
 LeavesLate taken failures most jobs s inboxes before other back = ⊥
 
 -- What the threads of a run of lawful jobs answer, in one statement: a finished run whose inboxes are those of the
@@ -115,20 +126,39 @@ pub record RanLiveOrLeft {S : Type 0} (taken : S → Option (List ℕ)) (failure
   pub refused : IfErr answer (λ e. LeavesLate taken failures most jobs s inboxes before e.fault e.inboxes.items)
   pub back : IfErr answer (λ e. AreInboxesOf boxes e.inboxes.items)
 
+-- U2: as of a run, or there are not a mailbox and an inbox for each job; the sink and the inboxes are as they were
+pub record LeavesUnfit {S : Type 0} (jobs : List JobState) (s : Settings) (boxes : List Mailbox) (inboxes : List Inbox)
+    (before sink : S) (back : List Inbox) : Type 0 where
+  pub untouched : sink ≡ before
+  pub same : back ≡ inboxes
+  pub out : ¬ (AreSettingsInRange jobs s × HaveMail jobs boxes inboxes)
+
+-- U1 and U5: as of a run, where there are a mailbox and an inbox for each job; the inboxes are as they were
+pub record LeavesEarly {S : Type 0} (taken : S → Option (List ℕ)) (failures : S → ℕ) (jobs : List JobState)
+    (s : Settings) (boxes : List Mailbox) (inboxes : List Inbox) (before : S) (e : RunError S)
+    (back : List Inbox) : Type 0 where
+  pub mail : HaveMail jobs boxes inboxes
+  pub same : back ≡ inboxes
+  pub refused : LeavesRunInSink taken failures jobs s before e
+
+-- U3 and U4: a refusal of what may be run, where there are a mailbox and an inbox for each job
+pub record LeavesWithMail {S : Type 0} (taken : S → Option (List ℕ)) (failures : S → ℕ) (most : ℕ)
+    (jobs : List JobState) (s : Settings) (boxes : List Mailbox) (inboxes : List Inbox) (before : S) (e : RunError S)
+    (back : List Inbox) : Type 0 where
+  pub mail : HaveMail jobs boxes inboxes
+  pub late : LeavesLate taken failures most jobs s inboxes before e back
+
 -- What a refusal says and leaves, as of a run: a missing mailbox or inbox, or one of another job, counts with the
 -- settings, so every other refusal says that the mailboxes and inboxes were those of the jobs.
 abbrev pub LeavesLive : {S : Type 0} → (S → Option (List ℕ)) → (S → ℕ) → ℕ → List JobState → Settings → List Mailbox
     → List Inbox → S → RunError S → List Inbox → Type 0
 LeavesLive taken failures most jobs s boxes inboxes before (fault.Settings sink) back =
-    (sink ≡ before) × (back ≡ inboxes) × ¬ (AreSettingsInRange jobs s × HaveMail jobs boxes inboxes)
+    LeavesUnfit jobs s boxes inboxes before sink back
 LeavesLive taken failures most jobs s boxes inboxes before (fault.ChannelTwice sink) back =
-    (sink ≡ before) × (back ≡ inboxes) × AreSettingsInRange jobs s × HaveMail jobs boxes inboxes
-    × ¬ AreDistinct (channels_of jobs)
+    LeavesEarly taken failures jobs s boxes inboxes before (fault.ChannelTwice sink) back
 LeavesLive taken failures most jobs s boxes inboxes before (fault.Prologue sink) back =
-    (sink ≡ before) × (back ≡ inboxes) × AreSettingsInRange jobs s × HaveMail jobs boxes inboxes
-    × AreDistinct (channels_of jobs) × ¬ IsPrologue s.prologue.items
+    LeavesEarly taken failures jobs s boxes inboxes before (fault.Prologue sink) back
 LeavesLive taken failures most jobs s boxes inboxes before (fault.Memory sink) back =
-    HaveMail jobs boxes inboxes × LeavesLate taken failures most jobs s inboxes before (fault.Memory sink) back
+    LeavesWithMail taken failures most jobs s boxes inboxes before (fault.Memory sink) back
 LeavesLive taken failures most jobs s boxes inboxes before (fault.Sink sink report count) back =
-    HaveMail jobs boxes inboxes
-    × LeavesLate taken failures most jobs s inboxes before (fault.Sink sink report count) back
+    LeavesWithMail taken failures most jobs s boxes inboxes before (fault.Sink sink report count) back

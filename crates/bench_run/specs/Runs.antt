@@ -112,19 +112,49 @@ pub record IsCut {S : Type 0} (taken : S → Option (List ℕ)) (jobs : List Job
   pub others : (channel : ℕ) → IsOtherChannel jobs channel → part_of channel items ≡ []
   pub packets : report.packets ≡ whole_packets (count - length s.prologue.items) (closed_packets (format_of s) items)
 
+-- U2: a setting is out of its range, or there are not 1 to 32 jobs; the sink is as it was
+pub record LeavesSettings {S : Type 0} (jobs : List JobState) (s : Settings) (before sink : S) : Type 0 where
+  pub untouched : sink ≡ before
+  pub out : ¬ AreSettingsInRange jobs s
+
+-- U1: where the ranges are kept, a channel stands twice; the sink is as it was
+pub record LeavesTwice {S : Type 0} (jobs : List JobState) (s : Settings) (before sink : S) : Type 0 where
+  pub untouched : sink ≡ before
+  pub ranges : AreSettingsInRange jobs s
+  pub twice : ¬ AreDistinct (channels_of jobs)
+
+-- U5: where the ranges are kept and no channel stands twice, the prologue is none; the sink is as it was
+pub record LeavesPrologue {S : Type 0} (jobs : List JobState) (s : Settings) (before sink : S) : Type 0 where
+  pub untouched : sink ≡ before
+  pub ranges : AreSettingsInRange jobs s
+  pub distinct : AreDistinct (channels_of jobs)
+  pub no_prologue : ¬ IsPrologue s.prologue.items
+
+-- U3: the jobs and settings are lawful; the sink took the first bytes of the file of some items
+pub record LeavesMemory {S : Type 0} (taken : S → Option (List ℕ)) (jobs : List JobState) (s : Settings)
+    (before sink : S) : Type 0 where
+  pub lawful : AreLawful jobs s
+  pub items : List Item
+  pub count : ℕ
+  pub part : TookPart taken s items count before sink
+
+-- U4: the jobs and settings are lawful, and the sink failed in this run
+pub record LeavesSink {S : Type 0} (taken : S → Option (List ℕ)) (failures : S → ℕ) (jobs : List JobState)
+    (s : Settings) (before sink : S) (report : RunReport) (count : ℕ) : Type 0 where
+  pub lawful : AreLawful jobs s
+  pub failed : failures before < failures sink
+  pub cut : IsCut taken jobs s before report count sink
+
 -- What a refusal says and leaves: U2, U1 and U5 put nothing into the sink; U3 and U4 come only where none of these does
 -- and leave a part of a recording there, and U4 stands only where the sink failed.
 abbrev pub LeavesRunInSink : {S : Type 0} → (S → Option (List ℕ)) → (S → ℕ) → List JobState → Settings → S
     → RunError S → Type 0
-LeavesRunInSink taken failures jobs s before (fault.Settings sink) = (sink ≡ before) × ¬ AreSettingsInRange jobs s
-LeavesRunInSink taken failures jobs s before (fault.ChannelTwice sink) = (sink ≡ before) × AreSettingsInRange jobs s
-    × ¬ AreDistinct (channels_of jobs)
-LeavesRunInSink taken failures jobs s before (fault.Prologue sink) =
-    (sink ≡ before) × AreSettingsInRange jobs s × AreDistinct (channels_of jobs) × ¬ IsPrologue s.prologue.items
-LeavesRunInSink taken failures jobs s before (fault.Memory sink) =
-    AreLawful jobs s × ((items : List Item) × (count : ℕ) × TookPart taken s items count before sink)
+LeavesRunInSink taken failures jobs s before (fault.Settings sink) = LeavesSettings jobs s before sink
+LeavesRunInSink taken failures jobs s before (fault.ChannelTwice sink) = LeavesTwice jobs s before sink
+LeavesRunInSink taken failures jobs s before (fault.Prologue sink) = LeavesPrologue jobs s before sink
+LeavesRunInSink taken failures jobs s before (fault.Memory sink) = LeavesMemory taken jobs s before sink
 LeavesRunInSink taken failures jobs s before (fault.Sink sink report count) =
-    AreLawful jobs s × (failures before < failures sink) × IsCut taken jobs s before report count sink
+    LeavesSink taken failures jobs s before sink report count
 
 -- What a run answers, in one statement: where it ends well its jobs and settings were lawful, the sink took the file of
 -- a finished run, and a queue with room for all refused none; else this is what the refusal leaves.

@@ -1,13 +1,13 @@
 -- What a channel's thread promises of what it returns, and what is known of all threads of a run.
 use Rattle.std.specs.Prelude.{◌≡◌, ◌≢◌, ℕ, ◌+◌, ◌≤◌, ◌<◌, true, false, List, [], Some, length, map, take, slice_get}
-use Rattle.std.specs.Prelude.{vec_capacity}
+use Rattle.std.specs.Prelude.{◌++◌, vec_capacity}
 use Rattle.std.specs.List.{AllByRecursion}
 use Rattle.bc_machine.specs.declared.placed.Placed.{Placed}
 use Rattle.bc_machine.specs.Running.{MachineState}
 use Rattle.std.specs.declared.thread.PromisedHandle.{PromisedHandle}
 use Rattle.mil_trunk.specs.declared.trunk.Trunk.{Trunk}
 use Rattle.mil_trunk.specs.declared.trunk.Ticket.{Ticket}
-use Rattle.mil_trunk.specs.Tags.{has, bounds_outside}
+use Rattle.mil_trunk.specs.Tags.{has, bound_of, bounds_outside}
 use Rattle.mil_trunk.specs.Views.{with_tag}
 use Rattle.mil_trunk.specs.Ends.{IsTicketOf, capacity_of, tags_of, bounds_of, sent}
 use Rattle.frame_asm.specs.Shapes.{code_of_tree}
@@ -100,6 +100,28 @@ pub record IsRoom (job : JobState) (room : Room) : Type 0 where
   pub ordered : room.posts.ordered.actions ≡ placed_up_to 1000000 job.actions
   pub fit : IsOrdered room.posts.ordered.actions
 
+-- What the thread of the job at an index begins with: a ticket that has sent nothing, has the tag of the index, and may
+-- send all items of the job, and what fits the job, with the inbox of its mailbox.
+pub record MayOffer (trunk : Trunk Entry) (ticket : Ticket Entry) (index : ℕ) (job : JobState) (box : Mailbox)
+    (room : Room) : Type 0 where
+  pub ours : IsTicketOf trunk ticket
+  pub unsent : sent ticket ≡ []
+  pub tag : has (tags_of ticket) index ≡ true
+  pub bound : bound_of (bounds_of ticket) index ≡ most_items job
+  pub fits : IsRoom job room
+  pub inbox : IsInboxOf box room.posts.inbox
+
+-- it is the promise of the thread that was given these
+pub record IsPromiseOf (trunk : Trunk Entry) (ticket : Ticket Entry) (index : ℕ) (job : JobState) (box : Mailbox)
+    (room : Room) (p : Offers) : Type 0 where
+  pub trunk_is : p.trunk.now ≡ trunk
+  pub ticket_is : p.ticket.value ≡ ticket
+  pub index_is : p.index ≡ index
+  pub job_is : p.job.now ≡ job
+  pub box_is : p.mailbox.now ≡ box
+  pub most_is : p.most ≡ room.posts.left
+  pub inbox_is : p.inbox.value ≡ room.posts.inbox
+
 -- the set has one tag alone
 abbrev pub HasOnly : ℕ → ℕ → Type 0
 HasOnly index tags = (has tags index ≡ true) × ((t : ℕ) → t ≢ index → has tags t ≡ false)
@@ -131,6 +153,14 @@ pub record IsThreadEnded (capacity others index : ℕ) (job : JobState) (box : M
   pub placed : ArePlaced most j.part.made (received_by before) (received_by j.inbox) posts
   pub own_are : own ≡ entries_to_the_end index (kept_records j.part.refused (records_of (with_posts job posts)))
   pub counted : IsThreadReport capacity others (with_posts job posts) j.part
+
+-- What is known of a thread that was joined, where its ticket was taken in: what it sent stands behind what was sent.
+pub record IsTakenIn (trunk : Trunk Entry) (p : Offers) (before after : Ticket Entry) (j : Joined) : Type 0 where
+  pub own : List Entry
+  pub grown : sent after ≡ sent before ++ own
+  pub ended : IsThreadEnded (capacity_of trunk)
+      (bounds_outside (tags_of p.ticket.value) (bounds_of p.ticket.value)) p.index
+      p.job.now p.mailbox.now p.most p.inbox.value j own
 
 -- the same of each thread that was joined
 abbrev pub AreEnded : ℕ → List Entry → List JobState → ℕ → List Mailbox → List Inbox → List Joined → Type 0

@@ -2,6 +2,7 @@
 use Rattle.std.specs.Prelude.{◌≡◌, ℕ, ◌+◌, ◌*◌, ◌^◌, ◌<◌, ◌≤◌, ◌==◌, Bool, true, false, List, [], ◌∷◌, ◌++◌, length}
 use Rattle.std.specs.Prelude.{map, if◌then◌else◌, slice_get, Option, Some, ⊤}
 use Rattle.std.specs.List.{AllByRecursion}
+use Rattle.mil_monitor.specs.declared.Record.{Record}
 use Rattle.ch11_builder.specs.Packet.{Numbered}
 use Rattle.ch11_builder.specs.Held.{Held, latest_number}
 use Rattle.ch11_recording.specs.declared.item.Item.{Item}
@@ -9,6 +10,8 @@ use Rattle.ch11_recording.specs.declared.item.Item.TheVariants as item
 use Rattle.ch11_recording.specs.Items.{numbered, last_number}
 use Rattle.ch11_recording.specs.WrittenFile.{Format}
 use Rattle.ch11_recording.specs.Recording.{Recording, IsRecordingOf}
+use Rattle.bench_core.specs.declared.settings.Settings.{Settings}
+use Rattle.bench_core.specs.Lawful.{format_of}
 use Rattle.bench_run.specs.declared.entry.Entry.{Entry}
 use Rattle.bench_run.specs.declared.entry.Entry.TheVariants as entry
 use Rattle.bench_run.specs.Entries.{index_of, item_of}
@@ -28,17 +31,29 @@ abbrev pub records_at : ℕ → List Entry → List Numbered
 records_at index [] = []
 records_at index (x ∷ later) = (if index_of x == index then record_of x else []) ++ records_at index later
 
+-- a number that is above an earlier one, and a stamp below 2^48
+pub record IsNextNumber (low number : ℕ) (message : Record) : Type 0 where
+  pub above : low < number
+  pub stamp : message.stamp < 2 ^ 48
+
+-- a message of a job, behind the job's message before
+pub record MessageFits (channels : List ℕ) (earlier : List Entry) (index number : ℕ) (message : Record) : Type 0 where
+  pub index_low : index < length channels
+  pub next : IsNextNumber (last_number (records_at index earlier)) number message
+
 -- it can be recorded behind the earlier ones: there is a job at its index, the number of a message is above that of the
 -- job's message before, and its stamp is below 2^48
 abbrev pub FitsRecording : List ℕ → List Entry → Entry → Type 0
-FitsRecording channels earlier (entry.Message index number message) =
-    (index < length channels) × (last_number (records_at index earlier) < number) × (message.stamp < 2 ^ 48)
+FitsRecording channels earlier (entry.Message index number message) = MessageFits channels earlier index number message
 FitsRecording channels earlier (entry.End index) = index < length channels
 
 -- some entry could not be recorded where it stood
-abbrev pub IsUnfit : List ℕ → List Entry → Type 0
-IsUnfit channels got = (earlier : List Entry) × (later : List Entry) × (x : Entry) × (got ≡ earlier ++ x ∷ later)
-    × ¬ FitsRecording channels earlier x
+pub record IsUnfit (channels : List ℕ) (got : List Entry) : Type 0 where
+  pub earlier : List Entry
+  pub later : List Entry
+  pub here : Entry
+  pub split : got ≡ earlier ++ here ∷ later
+  pub unfit : ¬ FitsRecording channels earlier here
 
 -- What a recorder has of the entries `got`: all of them, where `whole`, and else some could not be recorded.
 pub record IsLogged {S : Type 0} (taken : S → Option (List ℕ)) (failures : S → ℕ) (f : Format) (prologue : List ℕ)
@@ -53,6 +68,19 @@ pub record IsLogged {S : Type 0} (taken : S → Option (List ℕ)) (failures : S
   pub unfinished : r.writing.finished ≡ false
   pub few : r.writing.taken ≤ length prologue + 524288 * length got
 
+-- the same of the recorder of a run with these settings
+abbrev pub IsRunLogged : {S : Type 0} → (S → Option (List ℕ)) → (S → ℕ) → Settings → S → List ℕ → List Entry
+    → Recording S → Bool → Type 0
+IsRunLogged taken failures s before channels got r whole =
+    IsLogged taken failures (format_of s) s.prologue.items before channels got r whole
+
+-- what was recorded of a run with these settings before it was stopped: some entries, on some channels
+pub record HasBegun {S : Type 0} (taken : S → Option (List ℕ)) (failures : S → ℕ) (s : Settings) (before : S)
+    (r : Recording S) (whole : Bool) : Type 0 where
+  pub channels : List ℕ
+  pub got : List Entry
+  pub logged : IsRunLogged taken failures s before channels got r whole
+
 -- whatever was recorded of the entries that were received before, is recorded of those that are received now
 abbrev pub Records : {S : Type 0} → (S → Option (List ℕ)) → (S → ℕ) → List ℕ → List Entry → Recording S → Bool
     → List Entry → Recording S → Bool → Type 0
@@ -60,13 +88,17 @@ Records taken failures channels got old old_whole got' new new_whole =
     (f : Format) (prologue : List ℕ) (before : _) → IsLogged taken failures f prologue before channels got old old_whole
     → IsLogged taken failures f prologue before channels got' new new_whole
 
+-- a lane that takes a message
+pub record TakesMessage (lanes : List Held) (index number : ℕ) (message : Record) (h : Held) : Type 0 where
+  pub lane : slice_get lanes index ≡ Some h
+  pub next : IsNextNumber (latest_number h) number message
+
 -- a lane that takes the entry
 abbrev pub IsTakenBy : List Held → Entry → Held → Type 0
-IsTakenBy lanes (entry.Message index number message) h = (slice_get lanes index ≡ Some h) × (latest_number h < number)
-    × (message.stamp < 2 ^ 48)
+IsTakenBy lanes (entry.Message index number message) h = TakesMessage lanes index number message h
 IsTakenBy lanes (entry.End index) h = slice_get lanes index ≡ Some h
 
 -- numbers that rise from above `low` on, and stamps below 2^48
 abbrev pub AreOrdered : ℕ → List Numbered → Type 0
 AreOrdered low [] = ⊤
-AreOrdered low (n ∷ ns) = (low < n.number) × (n.message.stamp < 2 ^ 48) × AreOrdered n.number ns
+AreOrdered low (n ∷ ns) = IsNextNumber low n.number n.message × AreOrdered n.number ns

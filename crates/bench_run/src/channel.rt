@@ -1,12 +1,10 @@
 //! One channel's thread.
-ghost use Rattle.bench_mail.specs.Mail.{IsInboxOf};
 ghost use Rattle.bench_run.specs.Runs.{records_of};
-ghost use Rattle.bench_run.specs.Threads.{IsRoom, Offered, RecordsOfferedSoFar};
+ghost use Rattle.bench_run.specs.Threads.{MayOffer, Offered, RecordsOfferedSoFar};
 ghost use Rattle.bench_run.specs.declared.entry.Entry.TheVariants.{End};
 ghost use Rattle.ch11_builder.specs.Recorded.{IsRecorded};
 ghost use Rattle.ch11_recording.specs.Items.{numbered};
 ghost use Rattle.job_file.specs.Jobs.{JobState};
-ghost use Rattle.job_file.specs.Rooms.{most_items};
 ghost use Rattle.mil_trunk.specs.Ends.{IsTicketOf, tags_of, bounds_of, sent};
 ghost use Rattle.mil_trunk.specs.Tags.{has, bound_of};
 ghost use Rattle.std.specs.Prelude.{◌≡◌, ◌<◌, ◌≤◌, ◌-◌, ◌++◌, ◌∷◌, [], true, length, vec_capacity, slice_get, Some};
@@ -24,6 +22,14 @@ use mil_monitor::Record;
 use mil_trunk::{Ticket, Trunk};
 use std::sync::Wait;
 use std::thread;
+
+/// What the threads of a run share: the handle by which they wait, the trunk, and the gate.
+#[derive(Drop)]
+pub(crate) struct Context<'s, R, G> {
+    pub(crate) rt: &'s R,
+    pub(crate) trunk: &'s Trunk<Entry>,
+    pub(crate) gate: &'s G,
+}
 
 /// What a channel's thread takes along: its job's controller, an empty list with room for the numbers of all messages,
 /// and what it has for the posts of hosts.
@@ -46,21 +52,16 @@ pub(crate) struct Ended {
 /// message is offered once, and the numbers of those that come back are listed; then the end mark is offered until it
 /// is kept. It takes no memory and no lock.
 pub(crate) fn channel<R: Wait, G: Gate>(
-    rt: &R,
-    trunk: &Trunk<Entry>,
-    gate: &G,
+    context: &Context<'_, R, G>,
     index: u8,
     job: &Job,
     mailbox: &Mailbox,
     ticket: Ticket<Entry>,
     room: Room,
 ) -> Ended
-    requires ticket { IsTicketOf trunk.now ticket × (sent ticket ≡ []) }
-    requires tag { has (tags_of ticket) index ≡ true }
-    requires bound { bound_of (bounds_of ticket) index ≡ most_items job.now }
-    requires room { IsRoom job.now room }
-    requires inbox { IsInboxOf mailbox.now room.posts.inbox }
-    ensures { Offered trunk.now ticket index job.now mailbox.now room.posts.left room.posts.inbox result }
+    requires { MayOffer context.now.trunk.now ticket index job.now mailbox.now room }
+    ensures { Offered context.now.trunk.now ticket index job.now mailbox.now room.posts.left room.posts.inbox
+        result }
 {
     let Room {
         mut machine,
@@ -68,6 +69,7 @@ pub(crate) fn channel<R: Wait, G: Gate>(
         mut posts,
     } = room;
     let mut ticket = ticket;
+    let (rt, gate) = (context.rt, context.gate);
     let _sound = job.program();
     job_runs();
     'messages: loop {
@@ -80,9 +82,7 @@ pub(crate) fn channel<R: Wait, G: Gate>(
         let number = machine.number();
         record_fits(&record);
         offer_message(
-            rt,
-            trunk,
-            gate,
+            context,
             index,
             job,
             number,
@@ -91,7 +91,7 @@ pub(crate) fn channel<R: Wait, G: Gate>(
             &mut refused,
         );
     }
-    offer_end(rt, trunk, gate, index, job.channel(), &mut ticket);
+    offer_end(context, index, job.channel(), &mut ticket);
     let Posts { inbox, ordered, .. } = posts;
     let ordered = Actions::of(ordered);
     Ended {
@@ -104,9 +104,7 @@ pub(crate) fn channel<R: Wait, G: Gate>(
 // Offers a message once. Where it comes back, its number joins the list, and the thread gives way, so that the writer
 // may come on.
 fn offer_message<R: Wait, G: Gate>(
-    rt: &R,
-    trunk: &Trunk<Entry>,
-    gate: &G,
+    context: &Context<'_, R, G>,
     index: u8,
     job: &Job,
     number: u32,
@@ -115,7 +113,7 @@ fn offer_message<R: Wait, G: Gate>(
     refused: &mut Vec<u32>,
 )
     requires so_far { (live : JobState)
-        × RecordsOfferedSoFar trunk.now (tags_of ticket.old) (bounds_of ticket.old) index live
+        × RecordsOfferedSoFar context.now.trunk.now (tags_of ticket.old) (bounds_of ticket.old) index live
         (number - 1) ticket.old refused.old.items }
     requires tag { has (tags_of ticket.old) index ≡ true }
     requires bound { number < bound_of (bounds_of ticket.old) index }
@@ -123,10 +121,10 @@ fn offer_message<R: Wait, G: Gate>(
     requires recorded { IsRecorded (numbered 0 message) }
     requires room { number ≤ vec_capacity refused.old }
     ensures so_far { (live : JobState)
-        → RecordsOfferedSoFar trunk.now (tags_of ticket.old) (bounds_of ticket.old) index live
+        → RecordsOfferedSoFar context.now.trunk.now (tags_of ticket.old) (bounds_of ticket.old) index live
         (number - 1) ticket.old refused.old.items
         → slice_get (records_of live) (number - 1) ≡ Some message
-        → RecordsOfferedSoFar trunk.now (tags_of ticket.old)
+        → RecordsOfferedSoFar context.now.trunk.now (tags_of ticket.old)
         (bounds_of ticket.old) index live number ticket.new refused.new.items }
     ensures room { vec_capacity refused.new ≡ vec_capacity refused.old }
 {
@@ -135,6 +133,7 @@ fn offer_message<R: Wait, G: Gate>(
         number,
         record: message,
     };
+    let (rt, trunk, gate) = (context.rt, context.trunk, context.gate);
     match trunk.offer(rt, ticket, entry) {
         Ok(()) => gate.after_offer(job.channel(), number, true),
         Err(_) => {
@@ -147,21 +146,20 @@ fn offer_message<R: Wait, G: Gate>(
 
 // Offers the end mark until it is kept.
 fn offer_end<R: Wait, G: Gate>(
-    rt: &R,
-    trunk: &Trunk<Entry>,
-    gate: &G,
+    context: &Context<'_, R, G>,
     index: u8,
     channel: u16,
     ticket: &mut Ticket<Entry>,
 )
-    requires ticket { IsTicketOf trunk.now ticket.old }
+    requires ticket { IsTicketOf context.now.trunk.now ticket.old }
     requires tag { has (tags_of ticket.old) index ≡ true }
     requires bound { length (sent ticket.old) < bound_of (bounds_of ticket.old) index }
-    ensures ticket { IsTicketOf trunk.now ticket.new }
+    ensures ticket { IsTicketOf context.now.trunk.now ticket.new }
     ensures tags { tags_of ticket.new ≡ tags_of ticket.old }
     ensures bounds { bounds_of ticket.new ≡ bounds_of ticket.old }
     ensures sent { sent ticket.new ≡ sent ticket.old ++ End index ∷ [] }
 {
+    let (rt, trunk, gate) = (context.rt, context.trunk, context.gate);
     for _ in rt.forever() {
         match trunk.offer(rt, ticket, Entry::End { index }) {
             Ok(()) => {

@@ -1,4 +1,4 @@
-//! Points of a run at which its threads may be held.
+//! Context of a run at which its threads may be held.
 
 use mil_monitor::Record;
 use std::thread;

@@ -37,7 +37,7 @@ pub(crate) fn ready(
 ) -> Result<(Shared, Own), AllocError>
     requires few { length jobs.now ≤ 32 }
     requires inboxes { length jobs.now ≡ vec_len inboxes }
-    ensures { IfOk result (λ r. IsReady queue jobs.now most inboxes.items r.0 r.1) }
+    ensures { IfOk result (λ r. IsReady queue jobs.now most inboxes.items r.0.trunk r.0.channels.items r.1) }
 {
     let bounds = bounds(alloc, jobs)?;
     let rooms = rooms(alloc, jobs, most, inboxes)?;

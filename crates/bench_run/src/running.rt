@@ -6,6 +6,7 @@ ghost use Rattle.bench_run.specs.Live.{AreInboxesOf, HaveMail, RanLive, RanLiveO
 ghost use Rattle.bench_run.specs.Runs.{ArePairs, Ran, RefusesNoneWithRoom, LeavesRunInSink};
 ghost use Rattle.std.specs.Prelude.{◌≡◌, ◌-◌, ◌<◌, ◌^◌, length, vec_len, IfOk, IfErr, OnOk, IsTrue};
 
+use crate::channel::Context;
 use crate::ending::Before;
 use crate::error::{LiveError, RunError};
 use crate::gate::Gate;
@@ -30,12 +31,12 @@ struct Mail<'b> {
 }
 
 /// Runs lawful jobs.
-fn run_lawful<R: Threads + Wait + Sync, G: Gate, S: Sink + Drop>(
+fn run_lawful<'b, R: Threads + Wait + Sync, G: Gate, S: Sink + Drop>(
     rt: &R,
     alloc: Global,
-    jobs: &[Job],
-    settings: &Settings,
-    mail: Mail<'_>,
+    jobs: &'b [Job],
+    settings: &'b Settings,
+    mail: Mail<'b>,
     gate: &G,
     sink: S,
 ) -> Result<(Report, Vec<Inbox>, S), LiveError<S>>
@@ -53,6 +54,9 @@ fn run_lawful<R: Threads + Wait + Sync, G: Gate, S: Sink + Drop>(
         most,
     } = mail;
     let before = Before {
+        jobs,
+        settings,
+        boxes,
         most,
         inboxes: Snapshot::of(&inboxes),
         sink: Snapshot::of(&sink),
@@ -69,9 +73,12 @@ fn run_lawful<R: Threads + Wait + Sync, G: Gate, S: Sink + Drop>(
     ) {
         Ok(recorder) => {
             let log = begin(&shared.channels, settings, &before.sink, recorder);
-            run_ready(
-                rt, alloc, &shared, gate, jobs, settings, boxes, before, own, log,
-            )
+            let context = Context {
+                rt,
+                trunk: &shared.trunk,
+                gate,
+            };
+            run_ready(&context, &shared.channels, alloc, &before, own, log)
         }
         Err((_, sink)) => Err(LiveError::of_memory(alloc, sink)),
     }

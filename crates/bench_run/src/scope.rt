@@ -1,24 +1,22 @@
 //! The threads of a run in their scope, while the calling thread writes.
-ghost use Rattle.bench_core.specs.Lawful.{AreLawful, channels_of, format_of};
-ghost use Rattle.bench_run.specs.Ending.{IsReady, MayStart};
-ghost use Rattle.bench_run.specs.Live.{AreInboxesOf, RanLiveOrLeft};
-ghost use Rattle.bench_run.specs.Writer.{IsLogged};
+ghost use Rattle.bench_core.specs.Lawful.{format_of};
+ghost use Rattle.bench_run.specs.Ending.{MayStart, AnswersRun};
+ghost use Rattle.bench_run.specs.Writer.{IsRunLogged};
 ghost use Rattle.ch11_recording.specs.Recording.{IsRecordingOf};
-ghost use Rattle.std.specs.Prelude.{◌≡◌, ◌≤◌, [], false, length, vec_capacity, IfOk};
+ghost use Rattle.std.specs.Prelude.{◌≡◌, ◌≤◌, [], false, vec_capacity, IfOk};
 
-use crate::channel::Ended;
+use crate::channel::{Context, Ended};
 use crate::ending::{Before, conclude, stopped};
 use crate::error::LiveError;
 use crate::gate::Gate;
-use crate::ready::{Own, Shared};
+use crate::ready::Own;
 use crate::threads::{Joined, Offers, join_all, parted, start_all};
 use crate::writer::{Log, settle, write};
 use bench_core::Settings;
-use bench_mail::{Inbox, Mailbox};
+use bench_mail::Inbox;
 use bench_report::{ChannelReport, Report};
 use ch11_recording::Recorder;
 use ch11_writer::Sink;
-use job_file::Job;
 use std::alloc::{AllocError, Global};
 use std::snapshot::Snapshot;
 use std::sync::Wait;
@@ -36,8 +34,7 @@ pub(crate) fn begin<S: Sink>(
         (S.taken before.now.value) channels.now [] recorder }
     requires fresh { recorder.writing
         ≡ record { sink = before.now.value; taken = 0; failed = false; finished = false } }
-    ensures { IsLogged S.taken S.failures
-        (format_of settings.now) settings.now.prologue.items before.now.value channels.now [] result.recorder
+    ensures { IsRunLogged S.taken S.failures settings.now before.now.value channels.now [] result.recorder
         result.whole }
 {
     let _places = channels.len();
@@ -77,96 +74,53 @@ fn make_lists<'s>(alloc: Global, count: usize) -> Result<Lists<'s>, AllocError>
 /// Starts the threads, records what they send, and ends the recording once all was received.
 fn on_threads<'s, E, R: Threads + Wait + Sync, G: Gate, S: Sink + Drop>(
     scope: &Scope<'s, E>,
-    rt: &'s R,
+    context: &Context<'s, R, G>,
+    channels: &[u16],
     alloc: Global,
-    shared: &'s Shared,
-    gate: &'s G,
-    jobs: &'s [Job],
-    settings: &'s Settings,
-    boxes: &'s [Mailbox],
-    before: Before<S>,
+    before: &Before<'s, S>,
     own: Own,
     log: Log<S>,
 ) -> Result<(Report, Vec<Inbox>, S), LiveError<S>>
-    requires { MayStart S.taken S.failures jobs.now settings.now boxes.now before shared.now own log.recorder
-        log.whole }
-    ensures { RanLiveOrLeft S.taken S.failures before.most jobs.now settings.now boxes.now
-        before.inboxes.value.items before.sink.value result }
+    requires { MayStart S.taken S.failures before.now context.now.trunk.now channels.now own log.recorder log.whole }
+    ensures { AnswersRun S.taken S.failures before.now result }
 {
     let (mut rest, mut taker, mut log) = (own.ticket, own.taker, log);
+    let jobs = before.jobs;
     let Ok(lists) = make_lists(alloc, jobs.len()) else {
-        return Err(stopped(alloc, jobs, settings, before, log));
+        return Err(stopped(alloc, before, log));
     };
-    let Shared { trunk, channels } = shared;
-    let handles = start_all(
-        scope,
-        rt,
-        trunk,
-        gate,
-        jobs,
-        boxes,
-        &before.inboxes,
-        before.most,
-        own.rooms,
-        &mut rest,
-        lists.handles,
-    );
+    let (rt, trunk, gate) = (context.rt, context.trunk, context.gate);
+    let handles = start_all(scope, context, before, own.rooms, &mut rest, lists.handles);
     let started = handles.len();
     write(rt, trunk, gate, channels, &mut taker, &mut log, started);
-    let joined = join_all(
-        rt,
-        trunk,
-        jobs,
-        boxes,
-        &before.inboxes,
-        before.most,
-        handles,
-        &mut rest,
-        lists.joined,
-    );
+    let joined = join_all(rt, trunk, before, handles, &mut rest, lists.joined);
     if started < jobs.len() {
-        return Err(stopped(alloc, jobs, settings, before, log));
+        return Err(stopped(alloc, before, log));
     }
     let (_, taker) = settle(rt, trunk, gate, channels, rest, taker, &mut log);
     let (parts, inboxes) = parted(joined, lists.parts, lists.inboxes);
-    conclude(jobs, settings, before, taker, log, parts, inboxes)
+    conclude(before, taker, log, parts, inboxes)
 }
 
 /// Runs the jobs in a scope of threads.
 pub(crate) fn run_ready<R: Threads + Wait + Sync, G: Gate, S: Sink + Drop>(
-    rt: &R,
+    context: &Context<'_, R, G>,
+    channels: &[u16],
     alloc: Global,
-    shared: &Shared,
-    gate: &G,
-    jobs: &[Job],
-    settings: &Settings,
-    boxes: &[Mailbox],
-    before: Before<S>,
+    before: &Before<'_, S>,
     own: Own,
     log: Log<S>,
 ) -> Result<(Report, Vec<Inbox>, S), LiveError<S>>
-    requires lawful { AreLawful jobs.now settings.now }
-    requires boxes { length boxes.now ≡ length jobs.now }
-    requires ends { AreInboxesOf boxes.now before.inboxes.value.items }
-    requires ready { IsReady settings.now.queue jobs.now before.most before.inboxes.value.items shared.now own }
-    requires logged { IsLogged S.taken S.failures
-        (format_of settings.now) settings.now.prologue.items before.sink.value
-        (channels_of jobs.now) [] log.recorder log.whole }
-    ensures { RanLiveOrLeft S.taken S.failures before.most jobs.now settings.now boxes.now
-        before.inboxes.value.items before.sink.value result }
+    requires { MayStart S.taken S.failures before.now context.now.trunk.now channels.now own log.recorder log.whole }
+    ensures { AnswersRun S.taken S.failures before.now result }
 {
     thread::scope(
         thread::scope_env(),
-        rt,
+        context.rt,
         move |scope| -> Result<(Report, Vec<Inbox>, S), LiveError<S>>
-            requires { MayStart S.taken S.failures jobs.now settings.now boxes.now before shared.now own
-                log.recorder log.whole }
-            ensures { RanLiveOrLeft S.taken S.failures before.most jobs.entry.now settings.entry.now
-                boxes.entry.now before.inboxes.value.items before.sink.value result }
-        {
-            on_threads(
-                scope, rt, alloc, shared, gate, jobs, settings, boxes, before, own, log,
-            )
-        },
+            requires { MayStart S.taken S.failures before.now context.now.trunk.now channels.now own log.recorder
+                log.whole }
+            ensures { AnswersRun S.taken S.failures before.entry.now result }
+        { on_threads(scope, context, channels, alloc, before, own, log) },
     )
 }

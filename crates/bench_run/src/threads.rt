@@ -1,22 +1,23 @@
 //! The threads of a run: each is started with its job, and joined again.
 ghost use Rattle.bench_core.specs.Lawful.{channels_of};
-ghost use Rattle.bench_mail.specs.Mail.{IsInboxOf};
 ghost use Rattle.bench_run.specs.Entries.{index_of};
 ghost use Rattle.bench_run.specs.Live.{AreInboxesOf};
 ghost use Rattle.bench_run.specs.Runs.{ArePairs};
-ghost use Rattle.bench_run.specs.Threads.{Offered, IsRoom, HasOnly, ArePromised, IsThreadEnded, AreEnded};
+ghost use Rattle.bench_run.specs.Threads.{MayOffer, Offered, IsPromiseOf, IsRoom, IsTakenIn};
+ghost use Rattle.bench_run.specs.Threads.{HasOnly, ArePromised, AreEnded};
 ghost use Rattle.bench_run.specs.declared.channel.Room.{Room};
 ghost use Rattle.bench_run.specs.declared.threads.Joined.{Joined};
 ghost use Rattle.ch11_recording.specs.Recording.{AreDistinct};
 ghost use Rattle.job_file.specs.Rooms.{most_items};
 ghost use Rattle.mil_trunk.specs.Ends.{IsTicketOf, capacity_of, tags_of, bounds_of, sent};
-ghost use Rattle.mil_trunk.specs.Tags.{has, bound_of, bounds_outside};
+ghost use Rattle.mil_trunk.specs.Tags.{has};
 ghost use Rattle.mil_trunk.specs.Views.{with_tag};
 ghost use Rattle.std.specs.List.{AllByRecursion};
 ghost use Rattle.std.specs.Prelude.{vec_capacity, IfSome, IfOk};
-ghost use Rattle.std.specs.Prelude.{◌≡◌, ◌≢◌, ℕ, List, ◌<◌, ◌≤◌, ◌++◌, ◌||◌, [], true, Some, length, map, vec_len};
+ghost use Rattle.std.specs.Prelude.{◌≡◌, ◌≢◌, ℕ, ◌<◌, ◌≤◌, ◌||◌, [], true, Some, length, map, vec_len};
 
-use crate::channel::{Ended, Room, channel};
+use crate::channel::{Context, Ended, Room, channel};
+use crate::ending::Before;
 use crate::entry::Entry;
 use crate::gate::Gate;
 use crate::posting::Posts;
@@ -121,25 +122,17 @@ fn part_off(trunk: &Trunk<Entry>, rest: &mut Ticket<Entry>, index: u8) -> Ticket
 // Starts the thread of a job; None where it cannot be started.
 fn start<'s, E, R: Wait + Sync, G: Gate>(
     scope: &Scope<'s, E>,
-    rt: &'s R,
-    trunk: &'s Trunk<Entry>,
-    gate: &'s G,
+    context: &Context<'s, R, G>,
     index: u8,
     job: &'s Job,
     mailbox: &'s Mailbox,
     ticket: Ticket<Entry>,
     room: Room,
 ) -> Option<PromisedHandle<Ended, Offers<'s>>>
-    requires ticket { IsTicketOf trunk.now ticket × (sent ticket ≡ []) }
-    requires tag { has (tags_of ticket) index ≡ true }
-    requires bound { bound_of (bounds_of ticket) index ≡ most_items job.now }
-    requires room { IsRoom job.now room }
-    requires inbox { IsInboxOf mailbox.now room.posts.inbox }
-    ensures { IfSome result (λ h. (h.promise.trunk.now ≡ trunk.now) × (h.promise.ticket.value ≡ ticket)
-        × (h.promise.index ≡ index) × (h.promise.job.now ≡ job.now)
-        × (h.promise.mailbox.now ≡ mailbox.now) × (h.promise.most ≡ room.posts.left)
-        × (h.promise.inbox.value ≡ room.posts.inbox)) }
+    requires { MayOffer context.now.trunk.now ticket index job.now mailbox.now room }
+    ensures { IfSome result (λ h. IsPromiseOf context.now.trunk.now ticket index job.now mailbox.now room h.promise) }
 {
+    let (rt, trunk, gate) = (context.rt, context.trunk, context.gate);
     let promise = Offers {
         trunk,
         ticket: Snapshot::of(&ticket),
@@ -152,62 +145,50 @@ fn start<'s, E, R: Wait + Sync, G: Gate>(
     let started = scope.spawn_with(
         promise,
         move || -> Ended
-            requires { IsTicketOf trunk.now ticket × (sent ticket ≡ []) × (has (tags_of ticket) index ≡ true)
-                × (bound_of (bounds_of ticket) index ≡ most_items job.now) × IsRoom job.now room
-                × IsInboxOf mailbox.now room.posts.inbox }
+            requires { MayOffer trunk.now ticket index job.now mailbox.now room }
             ensures { Offered trunk.entry.now ticket index job.entry.now mailbox.entry.now room.posts.left
                 room.posts.inbox result }
-        { channel(rt, trunk, gate, index, job, mailbox, ticket, room) },
+        {
+            let context = Context { rt, trunk, gate };
+            channel(&context, index, job, mailbox, ticket, room)
+        },
     );
     started.ok()
 }
 
 /// Starts the threads of the jobs 0, 1, .. with their rooms, up to the first that cannot be started. The handles stand
 /// in the order of the jobs, in memory that was reserved; the ticket keeps the tags that no thread was given.
-pub(crate) fn start_all<'s, E, R: Wait + Sync, G: Gate>(
+pub(crate) fn start_all<'s, E, R: Wait + Sync, G: Gate, S>(
     scope: &Scope<'s, E>,
-    rt: &'s R,
-    trunk: &'s Trunk<Entry>,
-    gate: &'s G,
-    jobs: &'s [Job],
-    boxes: &'s [Mailbox],
-    inboxes: &Snapshot<Vec<Inbox>>,
-    most: u32,
+    context: &Context<'s, R, G>,
+    before: &Before<'s, S>,
     rooms: Vec<Room>,
     rest: &mut Ticket<Entry>,
     mut handles: Vec<PromisedHandle<Ended, Offers<'s>>>,
 ) -> Vec<PromisedHandle<Ended, Offers<'s>>>
-    requires ticket { IsTicketOf trunk.now rest.old × (sent rest.old ≡ []) }
+    requires ticket { IsTicketOf context.now.trunk.now rest.old × (sent rest.old ≡ []) }
     requires tags { (t : ℕ) → t < 64 → has (tags_of rest.old) t ≡ true }
-    requires few { length jobs.now ≤ 32 }
-    requires bounds { bounds_of rest.old ≡ map most_items jobs.now }
-    requires rooms { ArePairs IsRoom jobs.now rooms.items }
-    requires boxes { length boxes.now ≡ length jobs.now }
-    requires inboxes { AreInboxesOf boxes.now inboxes.now.value.items }
-    requires inboxes_are { map (λ (room : Room). room.posts.inbox) rooms.items ≡ inboxes.now.value.items }
-    requires most { AllByRecursion (λ (room : Room). room.posts.left ≡ most) rooms.items }
-    requires handles { (handles.items ≡ []) × (length jobs.now ≤ vec_capacity handles) }
-    ensures ticket { IsTicketOf trunk.now rest.new × (sent rest.new ≡ []) × (bounds_of rest.new ≡ bounds_of rest.old) }
-    ensures started { vec_len result ≤ length jobs.now }
-    ensures tags { (t : ℕ) → t < 64 → length jobs.now ≤ t → has (tags_of rest.new) t ≡ true }
-    ensures promised { ArePromised trunk.now
-        (bounds_of rest.old) jobs.now most boxes.now inboxes.now.value.items result.items }
+    requires few { length before.now.jobs.now ≤ 32 }
+    requires bounds { bounds_of rest.old ≡ map most_items before.now.jobs.now }
+    requires rooms { ArePairs IsRoom before.now.jobs.now rooms.items }
+    requires boxes { length before.now.boxes.now ≡ length before.now.jobs.now }
+    requires inboxes { AreInboxesOf before.now.boxes.now before.now.inboxes.value.items }
+    requires inboxes_are { map (λ (room : Room). room.posts.inbox) rooms.items ≡ before.now.inboxes.value.items }
+    requires most { AllByRecursion (λ (room : Room). room.posts.left ≡ before.now.most) rooms.items }
+    requires handles { (handles.items ≡ []) × (length before.now.jobs.now ≤ vec_capacity handles) }
+    ensures ticket { IsTicketOf context.now.trunk.now rest.new × (sent rest.new ≡ []) }
+    ensures bounds { bounds_of rest.new ≡ bounds_of rest.old }
+    ensures started { vec_len result ≤ length before.now.jobs.now }
+    ensures tags { (t : ℕ) → t < 64 → length before.now.jobs.now ≤ t → has (tags_of rest.new) t ≡ true }
+    ensures promised { ArePromised context.now.trunk.now (bounds_of rest.old) before.now.jobs.now before.now.most
+        before.now.boxes.now before.now.inboxes.value.items result.items }
 {
+    let (jobs, boxes) = (before.jobs, before.boxes);
     for room in rooms {
         let index = handles.len();
-        let ticket = part_off(trunk, rest, index as u8);
+        let ticket = part_off(context.trunk, rest, index as u8);
         let (job, mailbox) = (&jobs[index], &boxes[index]);
-        match start(
-            scope,
-            rt,
-            trunk,
-            gate,
-            index as u8,
-            job,
-            mailbox,
-            ticket,
-            room,
-        ) {
+        match start(scope, context, index as u8, job, mailbox, ticket, room) {
             Some(handle) => handles.push_reserved(handle),
             None => return handles,
         }
@@ -233,11 +214,7 @@ fn join_one<R: Threads>(
     ensures ticket { IsTicketOf trunk.now rest.new × (bounds_of rest.new ≡ bounds_of rest.old) }
     ensures tags { (t : ℕ) → has (tags_of rest.new) t
         ≡ (has (tags_of rest.old) t || has (tags_of handle.entry.promise.ticket.value) t) }
-    ensures ended { (own : List Entry) × (sent rest.new ≡ sent rest.old ++ own) × IsThreadEnded (capacity_of trunk.now)
-        (bounds_outside (tags_of handle.entry.promise.ticket.value) (bounds_of handle.entry.promise.ticket.value))
-        handle.entry.promise.index
-        handle.entry.promise.job.now handle.entry.promise.mailbox.now handle.entry.promise.most
-        handle.entry.promise.inbox.value result own }
+    ensures ended { IsTakenIn trunk.now handle.entry.promise rest.old rest.new result }
 {
     let Ended {
         ticket,
@@ -250,31 +227,29 @@ fn join_one<R: Threads>(
 
 /// Waits for the threads of the jobs 0, 1, .., takes their tickets in, and gives what is left of them, in the order of
 /// the jobs and in memory that was reserved.
-pub(crate) fn join_all<R: Threads>(
+pub(crate) fn join_all<R: Threads, S>(
     rt: &R,
     trunk: &Trunk<Entry>,
-    jobs: &[Job],
-    boxes: &[Mailbox],
-    inboxes: &Snapshot<Vec<Inbox>>,
-    most: u32,
+    before: &Before<'_, S>,
     handles: Vec<PromisedHandle<Ended, Offers<'_>>>,
     rest: &mut Ticket<Entry>,
     mut joined: Vec<Joined>,
 ) -> Vec<Joined>
     requires ticket { IsTicketOf trunk.now rest.old × (sent rest.old ≡ []) }
-    requires bounds { bounds_of rest.old ≡ map most_items jobs.now }
-    requires distinct { AreDistinct (channels_of jobs.now) }
-    requires promised { ArePromised trunk.now
-        (bounds_of rest.old) jobs.now most boxes.now inboxes.now.value.items handles.items }
+    requires bounds { bounds_of rest.old ≡ map most_items before.now.jobs.now }
+    requires distinct { AreDistinct (channels_of before.now.jobs.now) }
+    requires promised { ArePromised trunk.now (bounds_of rest.old) before.now.jobs.now before.now.most
+        before.now.boxes.now before.now.inboxes.value.items handles.items }
     requires joined { (joined.items ≡ []) × (vec_len handles ≤ vec_capacity joined) }
     ensures ticket { IsTicketOf trunk.now rest.new × (bounds_of rest.new ≡ bounds_of rest.old) }
     ensures held { (t : ℕ) → has (tags_of rest.old) t ≡ true → has (tags_of rest.new) t ≡ true }
     ensures gained { (t : ℕ) → t < vec_len handles.entry → has (tags_of rest.new) t ≡ true }
     ensures len { vec_len result ≡ vec_len handles.entry }
-    ensures ended { AreEnded (capacity_of trunk.now)
-        (sent rest.new) jobs.now most boxes.now inboxes.now.value.items result.items }
+    ensures ended { AreEnded (capacity_of trunk.now) (sent rest.new) before.now.jobs.now before.now.most
+        before.now.boxes.now before.now.inboxes.value.items result.items }
     ensures unsent { (t : ℕ) → vec_len handles.entry ≤ t → with_tag index_of t (sent rest.new) ≡ [] }
 {
+    let _before = before;
     for handle in handles {
         joined.push_reserved(join_one(rt, trunk, handle, rest));
     }

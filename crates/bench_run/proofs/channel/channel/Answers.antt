@@ -20,10 +20,10 @@ pub messages-init : goal.messages-init
 messages-init g c =
     let room = c.args.room in
     record {
-      stage = stage_first c.args.trunk.now (tags_of c.args.ticket) (bounds_of c.args.ticket) c.args.index room.posts.left (received_by room.posts.inbox) c.args.job.now room.machine c.args.ticket room.refused.items room.posts refl refl c.requires.room.machine c.requires.room.ordered
-          (first_stage c.args.trunk.now (tags_of c.args.ticket) (bounds_of c.args.ticket) c.args.index (with_posts c.args.job.now []) room.machine.point.number c.args.ticket room.refused.items c.requires.room.first c.requires.room.empty c.requires.ticket.0 refl refl c.requires.ticket.1);
+      stage = stage_first c.args.context.now.trunk.now (tags_of c.args.ticket) (bounds_of c.args.ticket) c.args.index room.posts.left (received_by room.posts.inbox) c.args.job.now room.machine c.args.ticket room.refused.items room.posts refl refl c.requires.fits.machine c.requires.fits.ordered
+          (first_stage c.args.context.now.trunk.now (tags_of c.args.ticket) (bounds_of c.args.ticket) c.args.index (with_posts c.args.job.now []) room.machine.point.number c.args.ticket room.refused.items c.requires.fits.first c.requires.fits.empty c.requires.ours refl refl c.requires.unsent);
       inbox = c.requires.inbox;
-      ordered = c.requires.room.fit;
+      ordered = c.requires.fits.fit;
       room = refl;
     }
 
@@ -32,11 +32,11 @@ offer_message-requires-clause-so_far g c κs within =
     let job = c.args.job.now in
     let room = c.args.room in
     let posted = c.place_all.ensures.posted room.posts.left (received_by room.posts.inbox) job c.messages.invariant.stage.posted in
-    let st = so_far_placed c.args.trunk.now (tags_of c.args.ticket) (bounds_of c.args.ticket) c.args.index room.posts.left (received_by room.posts.inbox) job c.messages.machine c.place_all.new.machine c.messages.ticket c.messages.refused.items c.messages.posts c.place_all.new.self
+    let st = so_far_placed c.args.context.now.trunk.now (tags_of c.args.ticket) (bounds_of c.args.ticket) c.args.index room.posts.left (received_by room.posts.inbox) job c.messages.machine c.place_all.new.machine c.messages.ticket c.messages.refused.items c.messages.posts c.place_all.new.self
     (λ placed m of. c.job_runs.ensures.so_far (job_in job) placed m c.program-sound.ensures.sound of) c.place_all.ensures.point c.messages.invariant.stage posted in
     let is = c.number-number.ensures.value ∙ c.in-Some.ensures.number in (
       with_posts job posted.posts,
-      by_ticket c.args.trunk.now (tags_of c.args.ticket) (bounds_of c.args.ticket) c.args.index (with_posts job posted.posts) c.place_all.new.machine.point.number c.number-number.result c.messages.ticket c.messages.refused.items is st,
+      by_ticket c.args.context.now.trunk.now (tags_of c.args.ticket) (bounds_of c.args.ticket) c.args.index (with_posts job posted.posts) c.place_all.new.machine.point.number c.number-number.result c.messages.ticket c.messages.refused.items is st,
     )
 
 pub offer_message-requires-clause-tag : goal.offer_message-requires-clause-tag
@@ -61,7 +61,7 @@ offer_message-requires-clause-room g c κs within =
     let posted = c.place_all.ensures.posted room.posts.left (received_by room.posts.inbox) job c.messages.invariant.stage.posted in
     let of = c.next_record.ensures.of_job (job_in job) (job.actions ++ posted.posts) posted.of in
     let top : new.point.number ≤ worst_messages (code_of_tree (tree_in job)).operations = subst (λ code. new.point.number ≤ worst_messages code.operations) of.code of.under_way.messages in
-    omega (arith, top, c.requires.room.capacity, c.messages.invariant.room, c.number-number.ensures.value)
+    omega (arith, top, c.requires.fits.capacity, c.messages.invariant.room, c.number-number.ensures.value)
 
 pub offer_message-requires-clause-recorded : goal.offer_message-requires-clause-recorded
 offer_message-requires-clause-recorded g c κs within = c.record_fits.ensures 0
@@ -72,7 +72,7 @@ messages-preserved g c =
     let room = c.args.room in
     let n = c.place_all.new.machine.point.number in
     let posted = c.place_all.ensures.posted room.posts.left (received_by room.posts.inbox) job c.messages.invariant.stage.posted in
-    let st = so_far_placed c.args.trunk.now (tags_of c.args.ticket) (bounds_of c.args.ticket) c.args.index room.posts.left (received_by room.posts.inbox) job c.messages.machine c.place_all.new.machine c.messages.ticket c.messages.refused.items c.messages.posts c.place_all.new.self
+    let st = so_far_placed c.args.context.now.trunk.now (tags_of c.args.ticket) (bounds_of c.args.ticket) c.args.index room.posts.left (received_by room.posts.inbox) job c.messages.machine c.place_all.new.machine c.messages.ticket c.messages.refused.items c.messages.posts c.place_all.new.self
     (λ placed m of. c.job_runs.ensures.so_far (job_in job) placed m c.program-sound.ensures.sound of) c.place_all.ensures.point c.messages.invariant.stage posted in
     let live = with_posts job posted.posts in
     let of = c.next_record.ensures.of_job (job_in job) (job.actions ++ posted.posts) posted.of in
@@ -80,12 +80,12 @@ messages-preserved g c =
     let before : n ≡ c.number-number.result - 1 = omega (arith, is) in
     let message : slice_get (records_of live) (c.number-number.result - 1) ≡ Some c.in-Some.record =
     subst (λ k. slice_get (records_of live) k ≡ Some c.in-Some.record) before (c.in-Some.ensures.record (job_in job) (job.actions ++ posted.posts) c.program-sound.ensures.sound posted.of) in
-    let old = by_ticket c.args.trunk.now (tags_of c.args.ticket) (bounds_of c.args.ticket) c.args.index live n c.number-number.result c.messages.ticket c.messages.refused.items is st in
-    let next = by_given c.args.trunk.now (tags_of c.args.ticket) (bounds_of c.args.ticket) c.args.index live c.number-number.result c.messages.ticket c.offer_message.new.ticket c.offer_message.new.refused.items st.tags st.bounds (c.offer_message.ensures.so_far live old message) in
+    let old = by_ticket c.args.context.now.trunk.now (tags_of c.args.ticket) (bounds_of c.args.ticket) c.args.index live n c.number-number.result c.messages.ticket c.messages.refused.items is st in
+    let next = by_given c.args.context.now.trunk.now (tags_of c.args.ticket) (bounds_of c.args.ticket) c.args.index live c.number-number.result c.messages.ticket c.offer_message.new.ticket c.offer_message.new.refused.items st.tags st.bounds (c.offer_message.ensures.so_far live old message) in
     record {
-      stage = stage_on c.args.trunk.now (tags_of c.args.ticket) (bounds_of c.args.ticket) c.args.index room.posts.left (received_by room.posts.inbox) job c.place_all.new.machine c.next_record.new.machine c.offer_message.new.ticket c.offer_message.new.refused.items c.place_all.new.self
+      stage = stage_on c.args.context.now.trunk.now (tags_of c.args.ticket) (bounds_of c.args.ticket) c.args.index room.posts.left (received_by room.posts.inbox) job c.place_all.new.machine c.next_record.new.machine c.offer_message.new.ticket c.offer_message.new.refused.items c.place_all.new.self
           posted (omega (arith, c.in-Some.ensures.number)) of
-          (subst (λ k. RecordsOfferedSoFar c.args.trunk.now (tags_of c.args.ticket) (bounds_of c.args.ticket) c.args.index live k c.offer_message.new.ticket c.offer_message.new.refused.items) c.number-number.ensures.value next);
+          (subst (λ k. RecordsOfferedSoFar c.args.context.now.trunk.now (tags_of c.args.ticket) (bounds_of c.args.ticket) c.args.index live k c.offer_message.new.ticket c.offer_message.new.refused.items) c.number-number.ensures.value next);
       inbox = c.place_all.ensures.inbox;
       ordered = c.place_all.ensures.ordered;
       room = c.offer_message.ensures.room ∙ c.messages.invariant.room;
@@ -103,7 +103,7 @@ offer_end-requires-clause-bound g c κs within =
     let st = stage.so_far in
     let top : n ≤ worst_messages (code_of_tree (tree_in job)).operations = subst (λ code. n ≤ worst_messages code.operations) of.code of.under_way.messages in
     let bound : bound_of (bounds_of c.messages.ticket) c.args.index ≡ most_items job = ap (λ l. bound_of l c.args.index) st.bounds ∙ c.requires.bound in
-    let few = few_sent c.args.trunk.now (tags_of c.args.ticket) (bounds_of c.args.ticket) c.args.index (with_posts job stage.posted.posts) n c.messages.ticket c.messages.refused.items st in
+    let few = few_sent c.args.context.now.trunk.now (tags_of c.args.ticket) (bounds_of c.args.ticket) c.args.index (with_posts job stage.posted.posts) n c.messages.ticket c.messages.refused.items st in
     omega (arith, top, bound, few)
 
 pub channel_report-requires-clause-refused : goal.channel_report-requires-clause-refused
@@ -118,7 +118,7 @@ returns g c =
     let m = c.place_all.new.machine in
     let n = m.point.number in
     let posted = c.place_all.ensures.posted room.posts.left (received_by room.posts.inbox) job c.messages.invariant.stage.posted in
-    let st = so_far_placed c.args.trunk.now (tags_of c.args.ticket) (bounds_of c.args.ticket) c.args.index room.posts.left (received_by room.posts.inbox) job c.messages.machine m c.messages.ticket c.messages.refused.items c.messages.posts c.place_all.new.self
+    let st = so_far_placed c.args.context.now.trunk.now (tags_of c.args.ticket) (bounds_of c.args.ticket) c.args.index room.posts.left (received_by room.posts.inbox) job c.messages.machine m c.messages.ticket c.messages.refused.items c.messages.posts c.place_all.new.self
     (λ placed m of. c.job_runs.ensures.so_far (job_in job) placed m c.program-sound.ensures.sound of) c.place_all.ensures.point c.messages.invariant.stage posted in
     let live = with_posts job posted.posts in
     let of = posted.of in
@@ -131,8 +131,8 @@ returns g c =
       posts = posted.posts;
       inbox = c.place_all.ensures.inbox;
       placed = placed_all room.posts.left (received_by room.posts.inbox) job c.channel_report.result.made m c.place_all.new.self (received_by c.place_all.new.self.inbox) posted (sym made ∙ sym part.made) refl;
-      offered = last_stage c.args.trunk.now c.args.ticket c.args.index live c.number-2.result c.messages.ticket c.offer_end.new.ticket c.messages.refused.items c.channel_report.result
-          (subst (λ k. RecordsOfferedSoFar c.args.trunk.now (tags_of c.args.ticket) (bounds_of c.args.ticket) c.args.index live k c.messages.ticket c.messages.refused.items) (sym made) st) (made ∙ whole) end.ticket end.tags end.bounds end.sent
+      offered = last_stage c.args.context.now.trunk.now c.args.ticket c.args.index live c.number-2.result c.messages.ticket c.offer_end.new.ticket c.messages.refused.items c.channel_report.result
+          (subst (λ k. RecordsOfferedSoFar c.args.context.now.trunk.now (tags_of c.args.ticket) (bounds_of c.args.ticket) c.args.index live k c.messages.ticket c.messages.refused.items) (sym made) st) (made ∙ whole) end.ticket end.tags end.bounds end.sent
           (part.channel ∙ c.channel-3.ensures.value) part.made part.refused (part.placed live.actions (c.of-ordered.ensures ∙ posted.ordered))
           (omega (arith, c.channel-3.ensures.value)) (omega (arith, c.number-2.ensures.range)) (omega (arith, made, top));
     }

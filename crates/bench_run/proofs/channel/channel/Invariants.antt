@@ -7,7 +7,7 @@ use Rattle.bench_run.proofs.channel.channel.Given as goal
 
 abbrev pub invariant-messages : goal.invariant-messages
 invariant-messages g l = record {
-  stage : IsThreadStage l.trunk (tags_of l.fn.ticket) (bounds_of l.fn.ticket) l.index l.fn.room.posts.left (received_by l.fn.room.posts.inbox) l.job l.machine l.ticket l.refused.items l.posts;
+  stage : IsThreadStage l.context.trunk.now (tags_of l.fn.ticket) (bounds_of l.fn.ticket) l.index l.fn.room.posts.left (received_by l.fn.room.posts.inbox) l.job l.machine l.ticket l.refused.items l.posts;
   inbox : IsInboxOf l.mailbox l.posts.inbox;
   ordered : IsOrdered l.posts.ordered.actions;
   room : vec_capacity l.refused ≡ vec_capacity l.fn.room.refused;

@@ -14,12 +14,12 @@ pub make-report-requires : goal.make-report-requires
 make-report-requires g c =
     let taken = g.S.Sink.taken in
     let failures = g.S.Sink.failures in
-    let jobs = c.args.jobs.now in
-    let s = c.args.settings.now in
-    let most = c.args.before.most in
-    let olds = c.args.before.inboxes.value.items in
+    let jobs = c.args.before.now.jobs.now in
+    let s = c.args.before.now.settings.now in
+    let most = c.args.before.now.most in
+    let olds = c.args.before.now.inboxes.value.items in
     let news = c.args.inboxes.items in
-    let before = c.args.before.sink.value in
+    let before = c.args.before.now.sink.value in
     let parts = c.args.parts.items in
     let got = received c.args.taker in
     let old = c.args.log.recorder in
@@ -35,16 +35,16 @@ make-report-requires g c =
     let fits = count_fits taken failures lives s before parts got old whole lawful c.version_fits.ensures all logged r of in
     omega (arith, fits, c.packets.ensures)
 
-pub returns-in-Ok-clause-ran : goal.returns-in-Ok-clause-ran
-returns-in-Ok-clause-ran g c =
+pub returns-in-Ok : goal.returns-in-Ok
+returns-in-Ok g c =
     let taken = g.S.Sink.taken in
     let failures = g.S.Sink.failures in
-    let jobs = c.args.jobs.now in
-    let s = c.args.settings.now in
-    let most = c.args.before.most in
-    let olds = c.args.before.inboxes.value.items in
+    let jobs = c.args.before.now.jobs.now in
+    let s = c.args.before.now.settings.now in
+    let most = c.args.before.now.most in
+    let olds = c.args.before.now.inboxes.value.items in
     let news = c.args.inboxes.items in
-    let before = c.args.before.sink.value in
+    let before = c.args.before.now.sink.value in
     let parts = c.args.parts.items in
     let got = received c.args.taker in
     let old = c.args.log.recorder in
@@ -59,36 +59,31 @@ returns-in-Ok-clause-ran g c =
     (c.finish-ended.ensures.same (format_of s) s.prologue.items (taken before) (channels_of lives) logged.items logged.recording) in
     let done = ran taken failures lives s before parts got old whole lawful c.version_fits.ensures all logged
     c.recording_is_read_again.ensures.read c.recording_is_read_again.ensures.kept c.recording_is_read_again.ensures.ended c.file_is_packets.ensures.file c.file_is_packets.ensures.whole r of (c.in-Ok.ensures.ok.0 refl) in
-    let report : c.make-report.result ≡ record { channels = parts; packets = r.packets } = c.make-report.ensures ∙ ap (λ n. record { channels = parts; packets = n }) c.packets.ensures in (
-      lives,
-      subst (λ (ps : List ChannelPart). AreLive most jobs olds news ps lives) (ap (λ (z : RunReport). z.channels) (sym report)) live,
-      subst (λ (z : RunReport × _). Ran taken lives s before z.0 z.1) (λ i. (sym report i, sym c.into_sink-sink.ensures i)) done,
-    )
+    let report : c.make-report.result ≡ record { channels = parts; packets = r.packets } = c.make-report.ensures ∙ ap (λ n. record { channels = parts; packets = n }) c.packets.ensures in
+    record {
+      ran = record {
+        lives = lives;
+        live = subst (λ (ps : List ChannelPart). AreLive most jobs olds news ps lives) (ap (λ (z : RunReport). z.channels) (sym report)) live;
+        ran = subst (λ (z : RunReport × _). Ran taken lives s before z.0 z.1) (λ i. (sym report i, sym c.into_sink-sink.ensures i)) done;
+      };
+      ends = c.requires.ends;
+      room = λ room.
+          let fits : most_in_all lives ≤ s.queue = subst (λ n. n ≤ s.queue) (sym (lives_most most jobs olds news parts lives live)) room in
+          rw c.make-report.ensures (none_refused s.queue lives parts lawful.distinct c.requires.all.all.counted fits);
+      refused = tt;
+      back = tt;
+    }
 
-pub returns-in-Ok-clause-room : goal.returns-in-Ok-clause-room
-returns-in-Ok-clause-room g c room =
-    let jobs = c.args.jobs.now in
-    let s = c.args.settings.now in
-    let most = c.args.before.most in
-    let olds = c.args.before.inboxes.value.items in
-    let news = c.args.inboxes.items in
-    let parts = c.args.parts.items in
-    let lives = c.requires.all.lives in
-    let live = c.requires.all.live in
-    let lawful = lives_lawful most jobs olds news parts lives live s c.requires.lawful in
-    let fits : most_in_all lives ≤ s.queue = subst (λ n. n ≤ s.queue) (sym (lives_most most jobs olds news parts lives live)) room in
-    rw c.make-report.ensures (none_refused s.queue lives parts lawful.distinct c.requires.all.all.counted fits)
-
-pub returns-clause-refused : goal.returns-clause-refused
-returns-clause-refused g c =
+pub returns : goal.returns
+returns g c =
     let taken = g.S.Sink.taken in
     let failures = g.S.Sink.failures in
-    let jobs = c.args.jobs.now in
-    let s = c.args.settings.now in
-    let most = c.args.before.most in
-    let olds = c.args.before.inboxes.value.items in
+    let jobs = c.args.before.now.jobs.now in
+    let s = c.args.before.now.settings.now in
+    let most = c.args.before.now.most in
+    let olds = c.args.before.now.inboxes.value.items in
     let news = c.args.inboxes.items in
-    let before = c.args.before.sink.value in
+    let before = c.args.before.now.sink.value in
     let parts = c.args.parts.items in
     let got = received c.args.taker in
     let old = c.args.log.recorder in
@@ -103,12 +98,17 @@ returns-clause-refused g c =
     (c.finish-ended.ensures.same (format_of s) s.prologue.items (taken before) (channels_of lives) logged.items logged.recording) in
     let part = cut taken failures lives s before parts got old whole lawful c.version_fits.ensures all logged r c.in-Err.fault.taken of c.in-Err.ensures.fault in
     let up = rose taken failures lives s before parts got old whole lawful c.version_fits.ensures all logged false (failures old.writing.sink) (failures r.writing.sink) c.in-Err.ensures.failures refl refl in
-    let report : c.make-report.result ≡ record { channels = parts; packets = r.packets } = c.make-report.ensures ∙ ap (λ n. record { channels = parts; packets = n }) c.packets.ensures in (
-      c.requires.lawful,
-      subst (λ x. failures before < failures x) (sym c.into_sink-sink.ensures) up,
-      (
-        lives,
-        subst (λ (ps : List ChannelPart). AreLive most jobs olds news ps lives) (ap (λ (z : RunReport). z.channels) (sym report)) live,
-        subst (λ (z : RunReport × _). IsCut taken lives s before z.0 c.in-Err.fault.taken z.1) (λ i. (sym report i, sym c.into_sink-sink.ensures i)) part,
-      ),
-    )
+    let report : c.make-report.result ≡ record { channels = parts; packets = r.packets } = c.make-report.ensures ∙ ap (λ n. record { channels = parts; packets = n }) c.packets.ensures in
+    record {
+      ran = tt;
+      ends = tt;
+      room = tt;
+      refused = record {
+        lawful = c.requires.lawful;
+        failed = subst (λ x. failures before < failures x) (sym c.into_sink-sink.ensures) up;
+        lives = lives;
+        live = subst (λ (ps : List ChannelPart). AreLive most jobs olds news ps lives) (ap (λ (z : RunReport). z.channels) (sym report)) live;
+        cut = subst (λ (z : RunReport × _). IsCut taken lives s before z.0 c.in-Err.fault.taken z.1) (λ i. (sym report i, sym c.into_sink-sink.ensures i)) part;
+      };
+      back = c.requires.ends;
+    }

@@ -27,5 +27,5 @@ returns-in-Ok c =
       rooms = c.in_ok-rooms.ensures.rooms;
       inboxes_are = c.in_ok-rooms.ensures.inboxes;
       most_are = c.in_ok-rooms.ensures.most;
-      channels = c.in_ok-channels.ensures;
+      channels_are = c.in_ok-channels.ensures;
     }

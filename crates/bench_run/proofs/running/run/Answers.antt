@@ -9,16 +9,16 @@ use Rattle.bench_run.proofs.running.run.Goals as goal
 pub returns-in-Err-Memory-clause-refused : goal.returns-in-Err-Memory-clause-refused
 returns-in-Err-Memory-clause-refused g c =
     let fits : RefusesJobs c.args.jobs.now c.args.settings.now fault.Memory =
-    subst (RefusesJobs c.args.jobs.now c.args.settings.now) c.in-Err-Memory.field-0-is c.in-Err-Memory.ensures.refused in (
-      fits,
-      ([], 0, nothing_taken (g.S.Sink.taken c.args.sink) (written_file (format_of c.args.settings.now) c.args.settings.now.prologue.items [])),
-    )
+    subst (RefusesJobs c.args.jobs.now c.args.settings.now) c.in-Err-Memory.field-0-is c.in-Err-Memory.ensures.refused in
+    record { lawful = fits; items = []; count = 0; part = nothing_taken (g.S.Sink.taken c.args.sink) (written_file (format_of c.args.settings.now) c.args.settings.now.prologue.items []) }
 
 pub returns-in_default-clause-refused : goal.returns-in_default-clause-refused
-returns-in_default-clause-refused g c = (
-  c.in-Ok.ensures.lawful,
-  ([], 0, nothing_taken (g.S.Sink.taken c.args.sink) (written_file (format_of c.args.settings.now) c.args.settings.now.prologue.items [])),
-)
+returns-in_default-clause-refused g c = record {
+  lawful = c.in-Ok.ensures.lawful;
+  items = [];
+  count = 0;
+  part = nothing_taken (g.S.Sink.taken c.args.sink) (written_file (format_of c.args.settings.now) c.args.settings.now.prologue.items []);
+}
 
 pub returns-in-Ok-run_lawful-clause-ran : goal.returns-in-Ok-run_lawful-clause-ran
 returns-in-Ok-run_lawful-clause-ran g c =

@@ -36,7 +36,7 @@ loop-handle-init g c =
       promised = λ k h at.
           let at_first : slice_get c.args.handles.items k ≡ Some h = ap (λ l. slice_get l k) (sym gives.0) ∙ at in
           let place : k ≡ vec_len c.args.joined + k = omega (arith, none) in
-          subst (λ m. IsPromised c.args.trunk.now (bounds_of c.args.rest.now) c.args.jobs.now c.args.most c.args.boxes.now c.args.inboxes.now.value.items m h.promise) place (c.requires.promised k h at_first);
+          subst (λ m. IsPromised c.args.trunk.now (bounds_of c.args.rest.now) c.args.before.now.jobs.now c.args.before.now.most c.args.before.now.boxes.now c.args.before.now.inboxes.value.items m h.promise) place (c.requires.promised k h at_first);
       ended = λ k x at_x job box before. absurd (none_at c.args.joined.items k x c.requires.joined.0 at_x);
       later = λ t top. ap (with_tag index_of t) c.requires.ticket.1;
     }
@@ -45,7 +45,7 @@ pub join_one-requires : goal.join_one-requires
 join_one-requires g c =
     let step = c.in-Some.ensures.steps in
     let n = vec_len c.loop-handle.joined in
-    let first = row_first (λ k h. IsPromised c.args.trunk.now (bounds_of c.args.rest.now) c.args.jobs.now c.args.most c.args.boxes.now c.args.inboxes.now.value.items (n + k) h.promise) _ _ c.in-Some.handle step.0 c.loop-handle.invariant.promised in
+    let first = row_first (λ k h. IsPromised c.args.trunk.now (bounds_of c.args.rest.now) c.args.before.now.jobs.now c.args.before.now.most c.args.before.now.boxes.now c.args.before.now.inboxes.value.items (n + k) h.promise) _ _ c.in-Some.handle step.0 c.loop-handle.invariant.promised in
     record { ticket = (c.loop-handle.invariant.ours.0, first.trunk_is) }
 
 pub loop-handle-preserved : goal.loop-handle-preserved
@@ -55,23 +55,23 @@ loop-handle-preserved g c =
     let pushed = c.push_reserved.ensures in
     let one = c.join_one.ensures in
     let n = vec_len c.loop-handle.joined in
-    let jobs = c.args.jobs.now in
-    let boxes = c.args.boxes.now in
-    let inboxes = c.args.inboxes.now.value.items in
-    let most = c.args.most in
+    let jobs = c.args.before.now.jobs.now in
+    let boxes = c.args.before.now.boxes.now in
+    let inboxes = c.args.before.now.inboxes.value.items in
+    let most = c.args.before.now.most in
     let bounds = bounds_of c.args.rest.now in
     let capacity = capacity_of c.args.trunk.now in
     let new = c.join_one.result in
     let p = c.in-Some.handle.promise in
     let first = row_first (λ k h. IsPromised c.args.trunk.now bounds jobs most boxes inboxes (n + k) h.promise) _ _ c.in-Some.handle step.0 was.promised in
     let here : IsPromised c.args.trunk.now bounds jobs most boxes inboxes n p = let n0 : n + 0 ≡ n = omega arith in subst (λ m. IsPromised c.args.trunk.now bounds jobs most boxes inboxes m p) n0 first in
-    let e = one.ended.2 in
+    let e = one.ended.ended in
     let rs : List Numbered = kept_records new.part.refused (records_of (with_posts p.job.now e.posts)) in
     let mine : List Entry = entries_to_the_end n rs in
     let old : List Entry = sent c.loop-handle.rest in
     let now : List Entry = sent c.join_one.new.rest in
-    let mine_are : one.ended.0 ≡ mine = e.own_are ∙ ap (λ i. entries_to_the_end i rs) here.index_is in
-    let grown : now ≡ old ++ mine = one.ended.1 ∙ ap (λ l. old ++ l) mine_are in
+    let mine_are : one.ended.own ≡ mine = e.own_are ∙ ap (λ i. entries_to_the_end i rs) here.index_is in
+    let grown : now ≡ old ++ mine = one.ended.grown ∙ ap (λ l. old ++ l) mine_are in
     let keeps : (t : ℕ) → has (tags_of c.loop-handle.rest) t ≡ true → has (tags_of c.join_one.new.rest) t ≡ true = λ t it. one.tags t ∙ ap (λ b. b || has (tags_of p.ticket.value) t) it in
     let gains : has (tags_of c.join_one.new.rest) n ≡ true = one.tags n ∙ ap (λ b. has (tags_of c.loop-handle.rest) n || b) here.tags.0 ∙ or-true (has (tags_of c.loop-handle.rest) n) in
     let apart : (t : ℕ) → n ≢ t → with_tag index_of t now ≡ with_tag index_of t old = λ t ne. ap (with_tag index_of t) grown ∙ with_tag-append index_of t old mine

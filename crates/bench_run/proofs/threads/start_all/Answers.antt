@@ -16,7 +16,7 @@ use Rattle.bench_run.proofs.threads.start_all.Goals as goal
 
 pub loop-room-init : goal.loop-room-init
 loop-room-init g c =
-    let jobs = c.args.jobs.now in
+    let jobs = c.args.before.now.jobs.now in
     let long = pairs_length IsRoom jobs c.args.rooms.items c.requires.rooms in
     let all : length c.args.rooms.items ≡ vec_len c.args.rooms = search rules in
     let none : length c.args.handles.items ≡ vec_len c.args.handles = search rules in
@@ -31,43 +31,38 @@ loop-room-init g c =
       inboxes = λ k room at.
           let at_room : slice_get c.args.rooms.items k ≡ Some room = ap (λ l. slice_get l k) (sym gives.0) ∙ at in
           let place : k ≡ vec_len c.args.handles + k = omega (arith, none, empty) in (
-            subst (λ m. slice_get c.args.inboxes.now.value.items m ≡ Some room.posts.inbox) place (mapped_at (λ (x : Room). x.posts.inbox) c.args.rooms.items c.args.inboxes.now.value.items k room c.requires.inboxes_are at_room),
-            all_at (λ (x : Room). x.posts.left ≡ c.args.most) c.args.rooms.items k room c.requires.most at_room,
+            subst (λ m. slice_get c.args.before.now.inboxes.value.items m ≡ Some room.posts.inbox) place (mapped_at (λ (x : Room). x.posts.inbox) c.args.rooms.items c.args.before.now.inboxes.value.items k room c.requires.inboxes_are at_room),
+            all_at (λ (x : Room). x.posts.left ≡ c.args.before.now.most) c.args.rooms.items k room c.requires.most at_room,
           );
       promised = λ k h at. absurd (none_at c.args.handles.items k h c.requires.handles.0 at);
     }
 
-pub start-requires-clause-inbox : goal.start-requires-clause-inbox
-start-requires-clause-inbox g c κs within =
+pub start-requires : goal.start-requires
+start-requires g c =
     let step = c.in-Some.ensures.steps in
+    let part = c.part_off-ticket.ensures in
+    let jobs = c.args.before.now.jobs.now in
+    let boxes = c.args.before.now.boxes.now in
+    let inboxes = c.args.before.now.inboxes.value.items in
     let n = vec_len c.loop-room.handles in
-    let inboxes = c.args.inboxes.now.value.items in
-    let first = row_first (λ k room. (slice_get inboxes (n + k) ≡ Some room.posts.inbox) × (room.posts.left ≡ c.args.most)) _ _ c.in-Some.room step.0 c.loop-room.invariant.inboxes in
-    let is : n + 0 ≡ c.len-index.result = omega (arith, c.len-index.ensures) in
-    let boxes = c.args.boxes.now in
-    let lt : c.len-index.result < length boxes = omega (arith, c.len-index.ensures, step.1, c.loop-room.invariant.left, c.requires.boxes) in
-    let at : slice_get boxes c.len-index.result ≡ Some c.index-boxes-index.result = slice_get_read boxes (length boxes) c.len-index.result c.index-boxes-index.result refl lt c.index-boxes-index.is in
-    c.requires.inboxes c.len-index.result c.index-boxes-index.result c.in-Some.room.posts.inbox at (subst (λ k. slice_get inboxes k ≡ Some c.in-Some.room.posts.inbox) is first.0)
-
-pub start-requires-clause-room : goal.start-requires-clause-room
-start-requires-clause-room g c κs within =
-    let step = c.in-Some.ensures.steps in
-    let jobs = c.args.jobs.now in
-    let n = vec_len c.loop-room.handles in
-    let first = row_first (λ k room. (job : JobState) → slice_get jobs (n + k) ≡ Some job → IsRoom job room) _ _ c.in-Some.room step.0 c.loop-room.invariant.rooms in
-    let same : c.len-index.result ≡ n + 0 = omega (arith, c.len-index.ensures) in
-    let lt : c.len-index.result < length jobs = omega (arith, c.len-index.ensures, step.1, c.loop-room.invariant.left) in
-    let at : slice_get jobs c.len-index.result ≡ Some c.index-jobs-index.result = slice_get_read jobs (length jobs) c.len-index.result c.index-jobs-index.result refl lt c.index-jobs-index.is in
-    first c.index-jobs-index.result (subst (λ m. slice_get jobs m ≡ Some c.index-jobs-index.result) same at)
-
-pub start-requires-clause-bound : goal.start-requires-clause-bound
-start-requires-clause-bound g c κs within =
-    let step = c.in-Some.ensures.steps in
-    let jobs = c.args.jobs.now in
-    let n = vec_len c.loop-room.handles in
-    let lt : c.len-index.result < length jobs = omega (arith, c.len-index.ensures, step.1, c.loop-room.invariant.left) in
-    let at : slice_get jobs c.len-index.result ≡ Some c.index-jobs-index.result = slice_get_read jobs (length jobs) c.len-index.result c.index-jobs-index.result refl lt c.index-jobs-index.is in
-    ap (λ l. bound_of l c.len-index.result) (c.part_off-ticket.ensures.bounds.1 ∙ c.loop-room.invariant.ours.2 ∙ c.requires.bounds) ∙ bound_at jobs c.len-index.result c.index-jobs-index.result at
+    let i = c.len-index.result in
+    let place : n + 0 ≡ i = omega (arith, c.len-index.ensures) in
+    let lt : i < length jobs = omega (arith, c.len-index.ensures, step.1, c.loop-room.invariant.left) in
+    let lt_box : i < length boxes = omega (arith, lt, c.requires.boxes) in
+    let at : slice_get jobs i ≡ Some c.index-jobs-index.result = slice_get_read jobs (length jobs) i c.index-jobs-index.result refl lt c.index-jobs-index.is in
+    let at_box : slice_get boxes i ≡ Some c.index-boxes-index.result = slice_get_read boxes (length boxes) i c.index-boxes-index.result refl lt_box c.index-boxes-index.is in
+    let room = row_first (λ k room. (job : JobState) → slice_get jobs (n + k) ≡ Some job → IsRoom job room) _ _ c.in-Some.room step.0 c.loop-room.invariant.rooms in
+    let inbox = row_first (λ k room. (slice_get inboxes (n + k) ≡ Some room.posts.inbox) × (room.posts.left ≡ c.args.before.now.most)) _ _ c.in-Some.room step.0 c.loop-room.invariant.inboxes in (
+      λ κs within. record {
+        ours = part.tickets.1;
+        unsent = part.sent.1;
+        tag = part.tags.0;
+        bound = ap (λ l. bound_of l i) (part.bounds.1 ∙ c.loop-room.invariant.ours.2 ∙ c.requires.bounds) ∙ bound_at jobs i c.index-jobs-index.result at;
+        fits = room c.index-jobs-index.result (subst (λ m. slice_get jobs m ≡ Some c.index-jobs-index.result) (sym place) at);
+        inbox = c.requires.inboxes i c.index-boxes-index.result c.in-Some.room.posts.inbox at_box (subst (λ k. slice_get inboxes k ≡ Some c.in-Some.room.posts.inbox) place inbox.0);
+      },
+      tt,
+    )
 
 pub loop-room-preserved : goal.loop-room-preserved
 loop-room-preserved g c =
@@ -76,17 +71,17 @@ loop-room-preserved g c =
     let pushed = c.push_reserved.ensures in
     let start = c.in-Some-start.ensures in
     let part = c.part_off-ticket.ensures in
-    let jobs = c.args.jobs.now in
+    let jobs = c.args.before.now.jobs.now in
     let n = vec_len c.loop-room.handles in
     let long : length c.loop-room.handles.items ≡ n = search rules in
     let is : c.len-index.result ≡ n = c.len-index.ensures in
     let lt : c.len-index.result < length jobs = omega (arith, c.len-index.ensures, step.1, c.loop-room.invariant.left) in
     let at : slice_get jobs c.len-index.result ≡ Some c.index-jobs-index.result = slice_get_read jobs (length jobs) c.len-index.result c.index-jobs-index.result refl lt c.index-jobs-index.is in
-    let inboxes = c.args.inboxes.now.value.items in
-    let boxes = c.args.boxes.now in
+    let inboxes = c.args.before.now.inboxes.value.items in
+    let boxes = c.args.before.now.boxes.now in
     let lt_box : c.len-index.result < length boxes = omega (arith, lt, c.requires.boxes) in
     let at_box : slice_get boxes c.len-index.result ≡ Some c.index-boxes-index.result = slice_get_read boxes (length boxes) c.len-index.result c.index-boxes-index.result refl lt_box c.index-boxes-index.is in
-    let first = row_first (λ k room. (slice_get inboxes (n + k) ≡ Some room.posts.inbox) × (room.posts.left ≡ c.args.most)) _ _ c.in-Some.room step.0 was.inboxes in
+    let first = row_first (λ k room. (slice_get inboxes (n + k) ≡ Some room.posts.inbox) × (room.posts.left ≡ c.args.before.now.most)) _ _ c.in-Some.room step.0 was.inboxes in
     let here : n + 0 ≡ n = omega arith in
     record {
       ours = (part.tickets.0, part.sent.0, part.bounds.0 ∙ was.ours.2);
@@ -96,21 +91,21 @@ loop-room-preserved g c =
       rooms = λ k room at_room job at_job. row_rest (λ i x. (j : JobState) → slice_get jobs (n + i) ≡ Some j → IsRoom j x) _ _ c.in-Some.room step.0 was.rooms k room at_room job
           (let more : vec_len c.push_reserved.new.self + k ≡ n + suc k = omega (arith, pushed.len) in subst (λ m. slice_get jobs m ≡ Some job) more at_job);
       inboxes = λ k room at_room.
-          let next = row_rest (λ i x. (slice_get inboxes (n + i) ≡ Some x.posts.inbox) × (x.posts.left ≡ c.args.most)) _ _ c.in-Some.room step.0 was.inboxes k room at_room in
+          let next = row_rest (λ i x. (slice_get inboxes (n + i) ≡ Some x.posts.inbox) × (x.posts.left ≡ c.args.before.now.most)) _ _ c.in-Some.room step.0 was.inboxes k room at_room in
           let more : n + suc k ≡ vec_len c.push_reserved.new.self + k = omega (arith, pushed.len) in (
             subst (λ m. slice_get inboxes m ≡ Some room.posts.inbox) more next.0,
             next.1,
           );
-      promised = row_push (λ k h. IsPromised c.args.trunk.now (bounds_of c.args.rest.now) jobs c.args.most c.args.boxes.now c.args.inboxes.now.value.items k h.promise) n c.loop-room.handles.items c.push_reserved.new.self.items c.in-Some-start.handle
+      promised = row_push (λ k h. IsPromised c.args.context.now.trunk.now (bounds_of c.args.rest.now) jobs c.args.before.now.most c.args.before.now.boxes.now c.args.before.now.inboxes.value.items k h.promise) n c.loop-room.handles.items c.push_reserved.new.self.items c.in-Some-start.handle
           long pushed.items was.promised
           (record {
-            trunk_is = start.0;
-            index_is = start.2 ∙ is;
-            job_is = subst (λ m. slice_get jobs m ≡ Some c.index-jobs-index.result) is at ∙ ap (λ (j : JobState). Some j) (sym start.3);
-            most_is = start.5 ∙ first.1;
-            box_is = subst (λ m. slice_get boxes m ≡ Some c.index-boxes-index.result) is at_box ∙ ap (λ (b : Mailbox). Some b) (sym start.4);
-            inbox_is = subst (λ m. slice_get inboxes m ≡ Some c.in-Some.room.posts.inbox) here first.0 ∙ ap (λ (i : Inbox). Some i) (sym start.6);
-            tags = subst (λ (y : Ticket Entry × ℕ). HasOnly y.1 (tags_of y.0)) (λ i. (sym start.1 i, is i)) part.tags;
-            bounds_are = ap bounds_of start.1 ∙ part.bounds.1 ∙ was.ours.2;
+            trunk_is = start.trunk_is;
+            index_is = start.index_is ∙ is;
+            job_is = subst (λ m. slice_get jobs m ≡ Some c.index-jobs-index.result) is at ∙ ap (λ (j : JobState). Some j) (sym start.job_is);
+            most_is = start.most_is ∙ first.1;
+            box_is = subst (λ m. slice_get boxes m ≡ Some c.index-boxes-index.result) is at_box ∙ ap (λ (b : Mailbox). Some b) (sym start.box_is);
+            inbox_is = subst (λ m. slice_get inboxes m ≡ Some c.in-Some.room.posts.inbox) here first.0 ∙ ap (λ (i : Inbox). Some i) (sym start.inbox_is);
+            tags = subst (λ (y : Ticket Entry × ℕ). HasOnly y.1 (tags_of y.0)) (λ i. (sym start.ticket_is i, is i)) part.tags;
+            bounds_are = ap bounds_of start.ticket_is ∙ part.bounds.1 ∙ was.ours.2;
           });
     }
