@@ -1,9 +1,9 @@
 //! `bench check`: jobs tried without a recording.
 
 use crate::options::{command_of, flag, jobs, words_in};
-use crate::streams::on_stream;
+use crate::streams::{on_stream, printed};
 use bench_check::{Bits, print_findings, tight_frames_in, try_job};
-use bench_core::{Settings, judge};
+use bench_core::{DEFAULT_LIMIT, DEFAULT_QUEUE, DEFAULT_VERSION, Settings, judge};
 use bench_requests::{Fault, jobs_of, read_texts};
 use clap::{ArgMatches, Command};
 use job_file::Job;
@@ -87,9 +87,9 @@ pub fn check_jobs<'a, R: Files + AllocGlobal + Print>(
 /// Judges jobs as those of a run with the settings that it has where none are given.
 fn judge_jobs<'a>(alloc: Global, jobs: &[Job]) -> Result<(), Fault<'a>> {
     let settings = Settings {
-        version: 6,
-        limit: 65536,
-        queue: 4096,
+        version: DEFAULT_VERSION,
+        limit: DEFAULT_LIMIT,
+        queue: DEFAULT_QUEUE,
         prologue: Vec::new(alloc),
         posts: 0,
     };
@@ -107,11 +107,8 @@ fn print_checks<'a, R: AllocGlobal + Print>(
     jobs: &[Job],
 ) -> Result<(), Fault<'a>> {
     let mut out = on_stream("-", BufWriter::new(rt.alloc(), io::writer(rt)))?;
-    match check_each(rt.alloc(), request, texts, jobs, &mut out) {
-        Ok(()) => on_stream("-", out.flush()),
-        Err(WriteFault::Memory) => Err(Fault::Memory),
-        Err(WriteFault::Device) => Err(Fault::Device("-")),
-    }
+    let answer = check_each(rt.alloc(), request, texts, jobs, &mut out);
+    printed(answer, &mut out)
 }
 
 /// Tries each job, and prints the room that all of them need together where there are several.

@@ -4,6 +4,7 @@ use crate::options::{Row, argument, channel, command_of, file, flag, force, valu
 use crate::replacing::{begin_to_write, may_write, put_or_give_up};
 use crate::streams::on_stream;
 use bench_complete::{Additions, CompleteFault, Completion, UtcSecond};
+use bench_core::DEFAULT_VERSION;
 use bench_files::{Hold, Kind};
 use bench_requests::{Fault, read_whole};
 use ch11_reader::Skip;
@@ -83,7 +84,7 @@ pub(crate) fn complete_request<'a>(given: &ArgMatches<'a>) -> CompleteRequest<'a
         setup: given.get_str("setup"),
         time: given.get_str("time"),
         time_channel: given.get_one::<u16>("time-channel").unwrap_or(65535),
-        version: given.get_one::<u8>("version").unwrap_or(6),
+        version: given.get_one::<u8>("version").unwrap_or(DEFAULT_VERSION),
         skip: given.get_flag("skip"),
         force: given.get_flag("force"),
     }

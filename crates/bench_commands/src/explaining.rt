@@ -1,10 +1,10 @@
 //! `bench explain`: what codes mean, and what to do.
 
-use crate::streams::on_stream;
+use crate::streams::print_to_output;
 use bench_explain::{explain, print_explanation, print_list};
 use bench_requests::Fault;
 use std::io;
-use std::io::{BufWriter, Write};
+use std::io::Write;
 
 /// Prints what codes mean, or a line for each code where none is given. A word may have several codes, separated by
 /// spaces. An unknown code is refused, and nothing is printed.
@@ -19,20 +19,19 @@ pub fn show_explanations<'a, R: AllocGlobal + Print>(
             }
         }
     }
-    on_stream("-", print_codes(rt, given))
+    print_to_output(rt, |out| print_codes(out, given))
 }
 
-fn print_codes<R: AllocGlobal + Print>(rt: &R, given: &[&str]) -> io::Result<()> {
-    let mut out = BufWriter::new(rt.alloc(), io::writer(rt))?;
+fn print_codes<W: Write>(out: &mut W, given: &[&str]) -> io::Result<()> {
     if given.is_empty() {
-        print_list(&mut out)?;
+        print_list(out)?;
     }
     for word in given {
         for code in word.split(' ') {
             if let Some(explanation) = explain(code) {
-                print_explanation(&mut out, explanation)?;
+                print_explanation(out, explanation)?;
             }
         }
     }
-    out.flush()
+    Ok(())
 }

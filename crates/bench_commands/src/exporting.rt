@@ -6,6 +6,7 @@ use crate::looking::{clock_if, index_of};
 use crate::options::{Row, choice, command_of, flag};
 use crate::replacing::{begin_to_write, put_or_give_up};
 use crate::selecting::selection_options;
+use crate::streams::flushed;
 use crate::watching::{Watch, open_watched};
 use bench_clock::Clock as RecordingClock;
 use bench_export::{
@@ -275,10 +276,8 @@ fn write_dump_from<F: Advance + Drop, W: Write + Drop>(
         return Err(ExportFromFault::Writing(WriteFault::Memory));
     };
     let selected = export_waves_from(alloc, input, selection, &mut out)?;
-    match out.flush() {
-        Ok(()) => Ok(selected),
-        Err(_) => Err(ExportFromFault::Writing(WriteFault::Device)),
-    }
+    flushed(&mut out)?;
+    Ok(selected)
 }
 
 /// The fault of an out file that was not written to its end.
@@ -340,8 +339,5 @@ fn write_dump<W: Write + Drop>(
         return Err(WriteFault::Memory);
     };
     export_waves(alloc, index, selection, &mut out)?;
-    match out.flush() {
-        Ok(()) => Ok(()),
-        Err(_) => Err(WriteFault::Device),
-    }
+    flushed(&mut out)
 }

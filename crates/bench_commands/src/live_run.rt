@@ -6,7 +6,7 @@ ghost use Rattle.std.specs.Prelude.{◌-◌, ◌<◌, ◌^◌, IfOk};
 use crate::hosts::{Errors, Host};
 use crate::judging::is_for_people;
 use crate::options::{Row, flag, value};
-use bench_core::Settings;
+use bench_core::{MOST_POSTS, Settings};
 use bench_decode::Shown;
 use bench_files::leads_to_output;
 use bench_live::{Desk, Manner, Pace, Session, Show, Showing, open_desk, start_host};
@@ -105,11 +105,11 @@ pub(crate) fn way_of<'a, R: Files>(
     })
 }
 
-/// The settings of a run that goes on like that: 65,536 posts of each channel are taken where lines are posted.
+/// The settings of a run that goes on like that: where lines are posted, as many for each channel as may be.
 pub(crate) fn with_posts(settings: Settings, way: Way) -> Settings {
     let mut settings = settings;
     if way.live {
-        settings.posts = 65_536;
+        settings.posts = MOST_POSTS;
     }
     settings
 }

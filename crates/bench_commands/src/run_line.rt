@@ -4,6 +4,7 @@ use crate::completed_run::completing_options;
 use crate::judged_run::judge_option;
 use crate::live_run::going_options;
 use crate::options::{Row, command_of, file, flag, force, jobs, number, version, words_in};
+use bench_core::{DEFAULT_LIMIT, DEFAULT_QUEUE, DEFAULT_VERSION};
 use bench_requests::RunRequest;
 use clap::{ArgMatches, Command};
 use std::alloc::{AllocError, Global};
@@ -85,9 +86,9 @@ pub(crate) fn run_request<'a>(
     given: &ArgMatches<'a>,
 ) -> Result<RunRequest<'a>, AllocError> {
     Ok(RunRequest {
-        version: given.get_one::<u8>("version").unwrap_or(6),
-        limit: given.get_one::<u32>("limit").unwrap_or(65536),
-        queue: given.get_one::<u32>("queue").unwrap_or(4096),
+        version: given.get_one::<u8>("version").unwrap_or(DEFAULT_VERSION),
+        limit: given.get_one::<u32>("limit").unwrap_or(DEFAULT_LIMIT),
+        queue: given.get_one::<u32>("queue").unwrap_or(DEFAULT_QUEUE),
         drops: given.get_flag("drop"),
         force: given.get_flag("force"),
         prologue: given.get_str("prologue"),

@@ -4,7 +4,7 @@ use crate::large::{answer_of_reading, clock_of_large, tell_of_large_loss};
 use crate::looking::{clock_if, index_of, tell_of_loss};
 use crate::options::{argument, choice, command_of, flag};
 use crate::selecting::{GivenSelection, given_selection, selection_in, selection_options};
-use crate::streams::on_stream;
+use crate::streams::{on_stream, printed};
 use crate::watching::{Watch, open_watched};
 use bench_clock::Clock as RecordingClock;
 use bench_requests::{Fault, is_large, read_whole};
@@ -202,8 +202,8 @@ fn print_indexed<'a, R: AllocGlobal + Print>(
 ) -> Result<(), Fault<'a>> {
     let mut out = on_stream("-", BufWriter::new(rt.alloc(), io::writer(rt)))?;
     let told = Indexed { index, selection };
-    let printed = print_figures(rt.alloc(), &mut out, &told, clock, figures, request);
-    ended(printed, &mut out)
+    let answer = print_figures(rt.alloc(), &mut out, &told, clock, figures, request);
+    printed(answer, &mut out)
 }
 
 /// Prints the figures of a recording that is not kept.
@@ -215,8 +215,8 @@ fn print_counted<'a, R: AllocGlobal + Print>(
     let mut out = on_stream("-", BufWriter::new(rt.alloc(), io::writer(rt)))?;
     let (told, clock) = (&counted.told, &counted.clock);
     let figures = counted.figures.as_slice();
-    let printed = print_figures(rt.alloc(), &mut out, told, clock, figures, request);
-    ended(printed, &mut out)
+    let answer = print_figures(rt.alloc(), &mut out, told, clock, figures, request);
+    printed(answer, &mut out)
 }
 
 /// Prints figures, and what is told beside them, as rows or as a page.
@@ -232,14 +232,5 @@ fn print_figures<W: Write, T: Tells>(
         print_tables(alloc, out, told, figures, &request.shown, clock)
     } else {
         print_page(alloc, out, told, figures, &request.shown, clock)
-    }
-}
-
-/// What printing comes to that ended so, once all is handed on.
-fn ended<'a, W: Write>(printed: Result<(), WriteFault>, out: &mut W) -> Result<(), Fault<'a>> {
-    match printed {
-        Ok(()) => on_stream("-", out.flush()),
-        Err(WriteFault::Memory) => Err(Fault::Memory),
-        Err(WriteFault::Device) => Err(Fault::Device("-")),
     }
 }

@@ -1,32 +1,11 @@
 -- The lowest and the highest counter of packets.
-use Rattle.std.proofs.Common.{◌≡◌, ℕ, zero, suc, ◌+◌, ◌-◌, ◌*◌, ◌<◌, ◌≤◌, min, max, Bool, true, false, cond, List, [], ◌∷◌, ◌++◌, Option, None, Some, refl, sym, ap, subst, ◌∙◌, arith}
+use Rattle.std.proofs.Common.{◌≡◌, ℕ, zero, suc, ◌+◌, ◌-◌, ◌*◌, ◌<◌, ◌≤◌, min, max, List, [], ◌∷◌, ◌++◌, Option, None, Some, refl, sym, ap, subst, ◌∙◌, arith}
 use Rattle.std.specs.List.{AllByRecursion}
-use Rattle.ch11_reader.specs.declared.packet.Packet.{Packet}
 use Rattle.bench_complete.specs.declared.extent.Extent.{Extent}
 use Rattle.bench_complete.specs.declared.times.Times.{Times}
-use Rattle.bench_complete.specs.Pieces.{Piece, piece_at, goes_over, kept_entries}
+use Rattle.bench_complete.specs.Pieces.{Piece}
 use Rattle.bench_complete.specs.TimePackets.{times_from, times_in}
-use Rattle.bench_complete.specs.Complete.{widened, extent_behind, extent_of, low_of}
-
-one_by : (file : List ℕ) (e : Packet) (es : List Packet) (x y all : Option Extent) (over : Bool) → goes_over e.header ≡ over → extent_behind x (kept_entries file (e ∷ es)) ≡ all
-    → y ≡ cond over (widened x e.header.counter) x → extent_behind y (kept_entries file es) ≡ all
-one_by file e es x y all true o so_far is =
-    let here : kept_entries file (e ∷ es) ≡ piece_at file e.offset e.header ∷ kept_entries file es =
-    ap (λ (b : Bool). cond b (piece_at file e.offset e.header ∷ kept_entries file es) (kept_entries file es)) o in
-    ap (λ (z : Option Extent). extent_behind z (kept_entries file es)) is ∙ sym (ap (extent_behind x) here) ∙ so_far
-one_by file e es x y all false o so_far is =
-    let here : kept_entries file (e ∷ es) ≡ kept_entries file es =
-    ap (λ (b : Bool). cond b (piece_at file e.offset e.header ∷ kept_entries file es) (kept_entries file es)) o in
-    ap (λ (z : Option Extent). extent_behind z (kept_entries file es)) is ∙ sym (ap (extent_behind x) here) ∙ so_far
-
--- one entry more was looked at
-pub one_widened : (file : List ℕ) (e : Packet) (es : List Packet) (x y all : Option Extent) → extent_behind x (kept_entries file (e ∷ es)) ≡ all
-    → y ≡ cond (goes_over e.header) (widened x e.header.counter) x → extent_behind y (kept_entries file es) ≡ all
-one_widened file e es x y all so_far is = one_by file e es x y all (goes_over e.header) refl so_far is
-
-pub extent_behind-append : (x : Option Extent) (ps qs : List Piece) → extent_behind x (ps ++ qs) ≡ extent_behind (extent_behind x ps) qs
-extent_behind-append x [] qs = refl
-extent_behind-append x (p ∷ ps) qs = extent_behind-append (widened x p.header.counter) ps qs
+use Rattle.bench_complete.specs.Complete.{extent_behind, extent_of, low_of}
 
 abbrev pub AreFrom : ℕ → List Piece → Type 0
 AreFrom low ps = AllByRecursion (λ (p : Piece). low ≤ p.header.counter) ps

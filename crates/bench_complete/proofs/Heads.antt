@@ -139,9 +139,6 @@ module _ (file : List ℕ) (es : List Packet) (t : Times) where
 
 -- ---- the order of heads
 
-abbrev not_less : ℕ → ℕ → Ordering → Bool
-not_less a b others = is_lt (ordering_then (nat_cmp b a) others)
-
 by_number : (a b : ℕ) (others : Ordering) (less same : Bool) → ltb b a ≡ less → eqb b a ≡ same
     → is_lt (ordering_then (cond less Less (cond same Equal Greater)) others) ≡ false → (a < b) ⊎ ((a ≡ b) × (is_lt others ≡ false))
 by_number a b others true same l s is = absurd (cc)

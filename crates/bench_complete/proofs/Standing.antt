@@ -111,23 +111,6 @@ module _ (file : List ℕ) (es : List Packet) (t : Times) (first next : List ℕ
       let same : at ≡ get_or next place 0 = is ∙ get_or_default next place at 0 (omega (arith, n.1, links.places)) in
       follows_recorded h place rest r e stands (subst (λ (k : ℕ). MatchOption r (length es ≤ k) (IsRecordedHead es k)) same m)
 
-pub follows_timed : (file : List ℕ) (es : List Packet) (t : Times) (h : Head) (second : ℕ) (rest : List Piece) (r : Option Head) → h.source ≡ Time second → Stands file es t h rest
-    → MatchOption r (t.end ≤ second + 1) (IsTimed t (second + 1)) → Follows file es t h r
-follows_timed file es t h second rest None e stands m = λ p ps z.
-    let (low, within, is, others) = front file es t h (Time second) p ps e z in
-    let none : t.end - (second + 1) ≡ 0 = omega (arith, m) in
-    others ∙ ap (λ (k : ℕ). times_from t k (second + 1)) none
-follows_timed file es t h second rest (Some x) e stands m =
-    let here : Stands file es t h (stands.first ∷ stands.others) = subst (Stands file es t h) stands.is stands in
-    let f = front file es t h (Time second) stands.first stands.others e here in
-    let own : h.channel ≡ t.channel = front_channel file es t h stands.first stands.others here ∙ ap (λ (q : Piece). q.header.channel) f.2 in
-    let at = stands_timed file es t (second + 1) x (omega (arith, f.0)) m in
-    let fewer : t.end - (second + 1) < t.end - second = omega (arith, f.1) in (
-      m.channel ∙ sym own,
-      subst (λ (s : Source). steps_by es t s < steps es t h) (sym m.source) (subst (λ (s : Source). t.end - (second + 1) < steps_by es t s) (sym e) fewer),
-      λ p ps z. subst (Stands file es t x) (sym (front file es t h (Time second) p ps e z).3) at,
-    )
-
 -- a head has a step left
 pub some_step : (file : List ℕ) (es : List Packet) (t : Times) (h : Head) (s : Source) (rest : List Piece) → h.source ≡ s → Stands file es t h rest → 0 < steps es t h
 some_step file es t h (Recorded place) rest e stands =

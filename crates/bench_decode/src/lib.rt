@@ -18,7 +18,6 @@ mod streaming;
 mod times;
 mod whole;
 
-pub use bench_select::{Bound, Bus, Selection, Selector};
 pub use chosen::{Chosen, messages_by_time};
 pub use details::put_details;
 pub use forms::Form;

@@ -5,6 +5,7 @@ use Rattle.std.specs.List.{filter, position_or_len, AllByRecursion}
 use Rattle.mil_trunk.specs.Tags.{has, bound_of}
 use Rattle.text_lines.specs.Words.{Text}
 use Rattle.text_lines.specs.Lines.{text_lines}
+use Rattle.bench_core.specs.Lawful.{most_posts}
 use Rattle.bench_mail.specs.declared.mailbox.Post.{Post}
 use Rattle.bench_mail.specs.declared.mailbox.Mailbox.{Mailbox}
 use Rattle.bench_mail.specs.declared.mailbox.Inbox.{Inbox}
@@ -18,13 +19,13 @@ use Rattle.bench_live.specs.declared.posting.PostFault.{PostFault}
 use Rattle.bench_live.specs.declared.posting.PostFault.TheVariants as fault
 use Rattle.bench_live.specs.declared.posting.Told.{Told}
 
--- with the hand of a mailbox host 0 may post, and this is how many it has posted, at most 65,536
+-- with the hand of a mailbox host 0 may post, and this is how many it has posted, at most as many as a channel takes
 pub record IsHandOf (box : Mailbox) (h : Hand) : Type 0 where
   pub poster : IsPosterOf box h.poster
   pub holds : has (hosts_of h.poster) 0 ≡ true
   pub limit : bound_of (limits_of h.poster) 0 ≡ 2 ^ 55
   pub counted : h.count ≡ length (posted h.poster)
-  pub few : h.count ≤ 65536
+  pub few : h.count ≤ most_posts
 
 -- there is a channel, a flag and a hand for each mailbox
 pub record AreHandsOf (desk : Desk) (hands : List Hand) : Type 0 where
@@ -72,7 +73,7 @@ abbrev pub IsPostRefusal : Mailbox → Hand → LivePost → PostFault → Type 
 IsPostRefusal box h post (fault.Line bad) = ⊥
 IsPostRefusal box h post (fault.NoChannel channel) = ⊥
 IsPostRefusal box h post fault.NoTerminal = stands_in box post.address ≡ false
-IsPostRefusal box h post (fault.Spent channel) = (channel ≡ post.channel) × (length (posted h.poster) ≡ 65536)
+IsPostRefusal box h post (fault.Spent channel) = (channel ≡ post.channel) × (length (posted h.poster) ≡ most_posts)
 IsPostRefusal box h post (fault.Ended channel) = channel ≡ post.channel
 
 -- a refusal posts nothing

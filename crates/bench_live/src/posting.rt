@@ -8,6 +8,7 @@ ghost use Rattle.text_lines.specs.Lines.{is_line_end};
 
 use crate::desk::{Desk, Hand};
 use crate::line::{LivePost, read_post};
+use bench_core::MOST_POSTS;
 use bench_run::{Mailbox, PostError};
 use mil_host::BadAction;
 use std::alloc::Global;
@@ -18,9 +19,6 @@ use std::sync::atomic::{AtomicU32, Ordering};
 use std::time::Duration;
 use std::{io, thread};
 use text_lines::without_end;
-
-/// How many posts a channel takes at most.
-pub(crate) const MOST: u32 = 65_536;
 
 /// How many milliseconds lie between two tries at a full mailbox.
 const PAUSE: u64 = 1;
@@ -34,7 +32,7 @@ pub enum PostFault {
     NoChannel(u16),
     /// E3: the job has no terminal at the address.
     NoTerminal,
-    /// 65,536 actions were posted to the channel.
+    /// `MOST_POSTS` actions were posted to the channel.
     Spent(u16),
     /// The script of the channel has ended.
     Ended(u16),
@@ -66,7 +64,7 @@ fn post_to<R: Wait + Clock>(
         address,
         mut action,
     } = post;
-    if hand.count >= MOST {
+    if hand.count >= MOST_POSTS {
         return Err(PostFault::Spent(channel));
     }
     for _ in rt.forever() {

@@ -142,7 +142,7 @@ impl<'a> Fault<'a> {
     }
 
     /// The fault of a file with this name that cannot be written by one of this kind.
-    pub fn of_out(name: &'a str, kind: Kind, error: &OutError) -> Fault<'a>
+    pub(crate) fn of_out(name: &'a str, kind: Kind, error: &OutError) -> Fault<'a>
         ensures { IsOfOut name.now kind error.now result }
     {
         match error {

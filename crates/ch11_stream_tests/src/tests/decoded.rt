@@ -3,7 +3,8 @@
 use crate::tests::equal::{are_bytes, same, wrote};
 use crate::tests::streamed::{damaged, failing, pair, refusal};
 use crate::tests::streams::{Slow, reader_of};
-use bench_decode::{Output, Selection, Shown, decode, decode_from};
+use bench_decode::{Output, Shown, decode, decode_from};
+use bench_select::Selection;
 use ch11_stream::StreamFault;
 use std::alloc::Global;
 use std::process::Abort;

@@ -1,9 +1,8 @@
 //! What `bench dump --decode` shows of messages, worked out by hand.
 use crate::looks::equal::{reads, reads_all, same, same_in};
 use crate::looks::made::{TRANSFER, recorded};
-use bench_decode::{
-    Bound, Bus, Line, Numbers, Output, Place, Selection, Shown, decode, write_message,
-};
+use bench_decode::{Line, Numbers, Output, Place, Shown, decode, write_message};
+use bench_select::{Bound, Bus, Selection};
 use ch11_f1::Seen;
 use std::alloc::Global;
 use std::process::Abort;

@@ -5,9 +5,9 @@ use Rattle.bench_mail.specs.declared.mailbox.Post.{Post}
 use Rattle.bench_mail.specs.Mail.{posted}
 use Rattle.bench_live.proofs.posting.post_to.Goals as goal
 
-pub returns-then-hand-ge-MOST-clause-refused : goal.returns-then-hand-ge-MOST-clause-refused
-returns-then-hand-ge-MOST-clause-refused g c =
-    (refl, (refl, omega (arith, c.requires.hand.counted, c.requires.hand.few, c.if-hand-ge-MOST.true)))
+pub returns-then-hand-ge-MOST_POSTS-clause-refused : goal.returns-then-hand-ge-MOST_POSTS-clause-refused
+returns-then-hand-ge-MOST_POSTS-clause-refused g c =
+    (refl, (refl, omega (arith, c.requires.hand.counted, c.requires.hand.few, c.if-hand-ge-MOST_POSTS.true)))
 
 pub post-requires-clause-limit : goal.post-requires-clause-limit
 post-requires-clause-limit g c =
