@@ -129,7 +129,7 @@ fn start<'s, E, R: Wait + Sync, G: Gate>(
     ticket: Ticket<Entry>,
     room: Room,
 ) -> Option<PromisedHandle<Ended, Offers<'s>>>
-    requires { MayOffer context.now.trunk.now ticket index job.now mailbox.now room }
+    requires begins { MayOffer context.now.trunk.now ticket index job.now mailbox.now room }
     ensures { IfSome result (λ h. IsPromiseOf context.now.trunk.now ticket index job.now mailbox.now room h.promise) }
 {
     let (rt, trunk, gate) = (context.rt, context.trunk, context.gate);

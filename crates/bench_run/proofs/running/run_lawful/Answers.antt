@@ -25,18 +25,16 @@ returns-in_default g c =
       back = no_inboxes c.args.mail.boxes.now _ e.inboxes;
     }
 
-pub run_ready-requires : goal.run_ready-requires
-run_ready-requires g c =
-    let ends = subst (AreInboxesOf c.args.mail.boxes.now) (ap (λ v. v.items) (sym c.of.ensures)) c.requires.ends in (
-      λ κs within. record {
-        lawful = c.requires.lawful;
-        mailboxes = c.requires.boxes;
-        ends = ends;
-        ready = subst (λ (z : List Inbox × List ℕ). IsReady c.args.settings.now.queue c.args.jobs.now c.args.mail.most z.0 c.in-Ok.shared.trunk z.1 c.in-Ok.own) (λ i. ((sym c.of.ensures i).items, sym c.deref-in-Ok-make-2.ensures.value i)) c.in-Ok.ensures;
-        logged = log_moved g.S.Sink.taken g.S.Sink.failures (format_of c.args.settings.now) c.args.settings.now.prologue.items _ _ _ _ _ (c.deref-in-Ok-make.ensures.value ∙ c.in-Ok.ensures.channels_are) c.begin-log.ensures;
-      },
-      tt,
-    )
+pub run_ready-requires-clause-begins : goal.run_ready-requires-clause-begins
+run_ready-requires-clause-begins g c κs within =
+    let ends = subst (AreInboxesOf c.args.mail.boxes.now) (ap (λ v. v.items) (sym c.of.ensures)) c.requires.ends in
+    record {
+      lawful = c.requires.lawful;
+      mailboxes = c.requires.boxes;
+      ends = ends;
+      ready = subst (λ (z : List Inbox × List ℕ). IsReady c.args.settings.now.queue c.args.jobs.now c.args.mail.most z.0 c.in-Ok.shared.trunk z.1 c.in-Ok.own) (λ i. ((sym c.of.ensures i).items, sym c.deref-in-Ok-make-2.ensures.value i)) c.in-Ok.ensures;
+      logged = log_moved g.S.Sink.taken g.S.Sink.failures (format_of c.args.settings.now) c.args.settings.now.prologue.items _ _ _ _ _ (c.deref-in-Ok-make.ensures.value ∙ c.in-Ok.ensures.channels_are) c.begin-log.ensures;
+    }
 
 pub returns : goal.returns
 returns g c =

@@ -37,8 +37,8 @@ loop-room-init g c =
       promised = λ k h at. absurd (none_at c.args.handles.items k h c.requires.handles.0 at);
     }
 
-pub start-requires : goal.start-requires
-start-requires g c =
+pub start-requires-clause-begins : goal.start-requires-clause-begins
+start-requires-clause-begins g c κs within =
     let step = c.in-Some.ensures.steps in
     let part = c.part_off-ticket.ensures in
     let jobs = c.args.before.now.jobs.now in
@@ -52,17 +52,15 @@ start-requires g c =
     let at : slice_get jobs i ≡ Some c.index-jobs-index.result = slice_get_read jobs (length jobs) i c.index-jobs-index.result refl lt c.index-jobs-index.is in
     let at_box : slice_get boxes i ≡ Some c.index-boxes-index.result = slice_get_read boxes (length boxes) i c.index-boxes-index.result refl lt_box c.index-boxes-index.is in
     let room = row_first (λ k room. (job : JobState) → slice_get jobs (n + k) ≡ Some job → IsRoom job room) _ _ c.in-Some.room step.0 c.loop-room.invariant.rooms in
-    let inbox = row_first (λ k room. (slice_get inboxes (n + k) ≡ Some room.posts.inbox) × (room.posts.left ≡ c.args.before.now.most)) _ _ c.in-Some.room step.0 c.loop-room.invariant.inboxes in (
-      λ κs within. record {
-        ours = part.tickets.1;
-        unsent = part.sent.1;
-        tag = part.tags.0;
-        bound = ap (λ l. bound_of l i) (part.bounds.1 ∙ c.loop-room.invariant.ours.2 ∙ c.requires.bounds) ∙ bound_at jobs i c.index-jobs-index.result at;
-        fits = room c.index-jobs-index.result (subst (λ m. slice_get jobs m ≡ Some c.index-jobs-index.result) (sym place) at);
-        inbox = c.requires.inboxes i c.index-boxes-index.result c.in-Some.room.posts.inbox at_box (subst (λ k. slice_get inboxes k ≡ Some c.in-Some.room.posts.inbox) place inbox.0);
-      },
-      tt,
-    )
+    let inbox = row_first (λ k room. (slice_get inboxes (n + k) ≡ Some room.posts.inbox) × (room.posts.left ≡ c.args.before.now.most)) _ _ c.in-Some.room step.0 c.loop-room.invariant.inboxes in
+    record {
+      ours = part.tickets.1;
+      unsent = part.sent.1;
+      tag = part.tags.0;
+      bound = ap (λ l. bound_of l i) (part.bounds.1 ∙ c.loop-room.invariant.ours.2 ∙ c.requires.bounds) ∙ bound_at jobs i c.index-jobs-index.result at;
+      fits = room c.index-jobs-index.result (subst (λ m. slice_get jobs m ≡ Some c.index-jobs-index.result) (sym place) at);
+      inbox = c.requires.inboxes i c.index-boxes-index.result c.in-Some.room.posts.inbox at_box (subst (λ k. slice_get inboxes k ≡ Some c.in-Some.room.posts.inbox) place inbox.0);
+    }
 
 pub loop-room-preserved : goal.loop-room-preserved
 loop-room-preserved g c =
