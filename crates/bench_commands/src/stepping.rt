@@ -1,12 +1,13 @@
 //! `bench step`: a recording, walked through by lines of the standard input.
 
 use crate::command_line::StepRequest;
-use crate::looking::index_of;
+use crate::large::answer_of_reading;
 use crate::streams::on_stream;
 use bench_reasons::Explained;
 use bench_report::{Report, ReportError, ReportFault, read_report};
 use bench_requests::{Fault, jobs_of, read_texts, read_whole};
 use bench_step::{Prompted, step};
+use ch11_check::check_from;
 use job_file::Job;
 use std::alloc::Global;
 use std::io;
@@ -24,10 +25,11 @@ pub fn step_through<
     let recording = read_whole(rt, request.recording)?;
     let report = read_whole(rt, request.report)?;
     let texts = read_texts(rt, &request.jobs)?;
+    judge_recording(rt.alloc(), request.recording, &recording)?;
     step_read(rt, errors, explains, &recording, &report, &texts)
 }
 
-/// The same of files that were read.
+/// The same of files that were read, where the recording can be read.
 fn step_read<'a, R: AllocGlobal + Input<Reader: IsTerminal> + Print, E: Eprint + IsTerminal>(
     rt: &R,
     errors: &E,
@@ -36,18 +38,14 @@ fn step_read<'a, R: AllocGlobal + Input<Reader: IsTerminal> + Print, E: Eprint +
     report: &[u8],
     texts: &[Vec<u8>],
 ) -> Result<(), Fault<'a>> {
-    judge_recording(rt.alloc(), recording)?;
     let report = judge_report(rt.alloc(), report)?;
     let jobs = jobs_of(rt.alloc(), texts)?;
     walk(rt, errors, explains, &jobs, &report, recording)
 }
 
-/// A recording is judged before the report and the jobs are.
-fn judge_recording<'a>(alloc: Global, recording: &[u8]) -> Result<(), Fault<'a>> {
-    match index_of(alloc, recording, false) {
-        Ok(_) => Ok(()),
-        Err(fault) => Err(fault),
-    }
+/// A recording is judged before the report and the jobs are, by a pass that keeps nothing of it.
+fn judge_recording<'a>(alloc: Global, name: &'a str, recording: &[u8]) -> Result<(), Fault<'a>> {
+    answer_of_reading(name, check_from(alloc, recording))
 }
 
 fn judge_report<'a>(alloc: Global, text: &[u8]) -> Result<Report, Fault<'a>> {
