@@ -105,7 +105,7 @@ impl Form {
 fn put_words(others: &mut ArrayVec<u16, 32>, words: &ArrayVec<u16, 32>)
     ensures { others.new ≡ words.now }
 {
-    others.clear();
+    *others = ArrayVec::new();
     let _ = others.try_extend_from_slice(words.as_slice());
 }
 
