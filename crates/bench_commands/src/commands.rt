@@ -17,8 +17,8 @@ use crate::recording::run_jobs;
 use crate::replacing::may_write;
 use crate::statistics::show_statistics;
 use crate::stepping::step_through;
-use crate::streams::print_to_output;
-use bench_assemble::{AssembleFault, assemble_text, print_sizes};
+use crate::streams::on_stream;
+use bench_assemble::{AssembleFault, Sizes, assemble_text, print_sizes};
 use bench_dump::{dump, dump_with_times};
 use bench_files::{Hold, Kind, leads_to_output};
 use bench_one::{OneFault, one, print_bytes};
@@ -26,7 +26,7 @@ use bench_requests::{Fault, is_large, read_whole, write_new};
 use clap::Error;
 use clap::error::ErrorKind;
 use std::io;
-use std::io::IsTerminal;
+use std::io::{BufWriter, IsTerminal, Write};
 use std::process::ExitCode;
 use std::rt::{Clock, Files};
 
@@ -156,7 +156,13 @@ fn run_one<'a, R: AllocGlobal + Print>(
         Err(OneFault::Memory) => return Err(Fault::Memory),
         Err(fault) => return Err(Fault::Text(fault)),
     };
-    print_to_output(rt, |out| print_bytes(out, bytes.as_slice()))
+    on_stream("-", print_to_output(rt, bytes.as_slice()))
+}
+
+fn print_to_output<R: AllocGlobal + Print>(rt: &R, bytes: &[u8]) -> io::Result<()> {
+    let mut out = BufWriter::new(rt.alloc(), io::writer(rt))?;
+    print_bytes(&mut out, bytes)?;
+    out.flush()
 }
 
 fn run_assemble<'a, R: Files<File: Hold> + AllocGlobal + Print, E: Eprint>(
@@ -179,7 +185,13 @@ fn run_assemble<'a, R: Files<File: Hold> + AllocGlobal + Print, E: Eprint>(
         let _ = eprintln!(errors; "{sizes}");
         return Ok(());
     }
-    print_to_output(rt, |out| print_sizes(out, &sizes))
+    on_stream("-", print_sizes_to_output(rt, &sizes))
+}
+
+fn print_sizes_to_output<R: AllocGlobal + Print>(rt: &R, sizes: &Sizes) -> io::Result<()> {
+    let mut out = BufWriter::new(rt.alloc(), io::writer(rt))?;
+    print_sizes(&mut out, sizes)?;
+    out.flush()
 }
 
 /// Prints a recording. One of more than 64 MiB is read packet by packet.

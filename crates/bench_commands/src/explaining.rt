@@ -1,10 +1,10 @@
 //! `bench explain`: what codes mean, and what to do.
 
-use crate::streams::print_to_output;
+use crate::streams::on_stream;
 use bench_explain::{explain, print_explanation, print_list};
 use bench_requests::Fault;
 use std::io;
-use std::io::Write;
+use std::io::{BufWriter, Write};
 
 /// Prints what codes mean, or a line for each code where none is given. A word may have several codes, separated by
 /// spaces. An unknown code is refused, and nothing is printed.
@@ -19,19 +19,20 @@ pub fn show_explanations<'a, R: AllocGlobal + Print>(
             }
         }
     }
-    print_to_output(rt, |out| print_codes(out, given))
+    on_stream("-", print_codes(rt, given))
 }
 
-fn print_codes<W: Write>(out: &mut W, given: &[&str]) -> io::Result<()> {
+fn print_codes<R: AllocGlobal + Print>(rt: &R, given: &[&str]) -> io::Result<()> {
+    let mut out = BufWriter::new(rt.alloc(), io::writer(rt))?;
     if given.is_empty() {
-        print_list(out)?;
+        print_list(&mut out)?;
     }
     for word in given {
         for code in word.split(' ') {
             if let Some(explanation) = explain(code) {
-                print_explanation(out, explanation)?;
+                print_explanation(&mut out, explanation)?;
             }
         }
     }
-    Ok(())
+    out.flush()
 }

@@ -5,7 +5,7 @@ use crate::completing::setup_text;
 use crate::hosts::{Errors, Host};
 use crate::judged_run::{judge_run, rules_of_run};
 use crate::live_run::{Going, Run, begin_showing, end_showing, record, way_of, with_posts};
-use crate::streams::print_to_output;
+use crate::streams::on_stream;
 use bench_complete::Additions;
 use bench_core::judge;
 use bench_files::Hold;
@@ -18,6 +18,8 @@ use bench_requests::{
 use bench_run_command::{Counts, print_counts, refusals};
 use ch11_writer::StdSink;
 use std::alloc::{AllocError, Global};
+use std::io;
+use std::io::{BufWriter, Write};
 use std::rt::Files;
 
 /// Records the jobs into the out file; once that is whole, writes the report and prints how much was recorded. Before
@@ -188,7 +190,7 @@ fn tell<'a, R: AllocGlobal + Print, E: Eprint>(
     if is_output {
         let _ = eprintln!(errors; "{counts}");
     } else {
-        print_to_output(rt, |out| print_counts(out, &counts))?;
+        on_stream("-", print_counts_to_output(rt, &counts))?;
     }
     let text = refusals(rt.alloc(), report)?;
     if !text.is_empty() {
@@ -215,4 +217,10 @@ fn files_read<'a>(
         names.push(setup)?;
     }
     Ok(names)
+}
+
+fn print_counts_to_output<R: AllocGlobal + Print>(rt: &R, counts: &Counts) -> io::Result<()> {
+    let mut out = BufWriter::new(rt.alloc(), io::writer(rt))?;
+    print_counts(&mut out, counts)?;
+    out.flush()
 }

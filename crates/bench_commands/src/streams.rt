@@ -2,7 +2,7 @@
 
 use bench_requests::Fault;
 use std::io;
-use std::io::{BufWriter, Printer, Write};
+use std::io::Write;
 use text_lines::WriteFault;
 
 /// What a call on the file or stream with this name answered, `-` for standard input and output; or its fault.
@@ -11,20 +11,6 @@ pub(crate) fn on_stream<'a, T>(name: &'a str, answer: io::Result<T>) -> Result<T
         Ok(value) => Ok(value),
         Err(error) => Err(Fault::of_stream(name, &error)),
     }
-}
-
-/// Prints to the standard output through one buffer, all of which is handed on.
-pub(crate) fn print_to_output<'a, 'r, R: AllocGlobal + Print, P>(
-    rt: &'r R,
-    print: P,
-) -> Result<(), Fault<'a>>
-where
-    P: Drop + FnOnce(&mut BufWriter<Printer<'r, R>>) -> io::Result<()>,
-    requires { P.IsAlwaysCallable print }
-{
-    let mut out = on_stream("-", BufWriter::new(rt.alloc(), io::writer(rt)))?;
-    on_stream("-", print(&mut out))?;
-    on_stream("-", out.flush())
 }
 
 /// What printing to the standard output comes to that ended so, once all is handed on.
