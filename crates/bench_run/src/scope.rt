@@ -111,7 +111,8 @@ pub(crate) fn run_ready<R: Threads + Wait + Sync, G: Gate, S: Sink + Drop>(
     own: Own,
     log: Log<S>,
 ) -> Result<(Report, Vec<Inbox>, S), LiveError<S>>
-    requires begins { MayStart S.taken S.failures before.now context.now.trunk.now channels.now own log.recorder log.whole }
+    requires begins { MayStart S.taken S.failures before.now context.now.trunk.now channels.now own log.recorder
+        log.whole }
     ensures { AnswersRun S.taken S.failures before.now result }
 {
     thread::scope(
