@@ -17,7 +17,10 @@ struct Trunk {
 
 impl Trunk {
     fn make(capacity: usize) -> Trunk {
-        Trunk { capacity, items: Mutex::new(VecDeque::with_capacity(capacity)) }
+        Trunk {
+            capacity,
+            items: Mutex::new(VecDeque::with_capacity(capacity)),
+        }
     }
 
     fn offer(&self, item: Item) -> Result<(), Item> {
@@ -55,7 +58,10 @@ fn take_all(trunk: &Trunk, wanted: u64) -> u64 {
 }
 
 fn main() {
-    let words: Vec<u32> = std::env::args().skip(1).map(|word| word.parse().expect("a number")).collect();
+    let words: Vec<u32> = std::env::args()
+        .skip(1)
+        .map(|word| word.parse().expect("a number"))
+        .collect();
     let [threads, count, capacity] = words[..] else {
         eprintln!("mutex_queue THREADS COUNT CAPACITY");
         std::process::exit(2);

@@ -45,23 +45,44 @@ impl Bus {
             places[*own as usize] = place as u8;
         }
         let terminals = addresses.iter().map(|own| Terminal::new(*own)).collect();
-        Bus { begin: start, clock: start, least: None, on_a: None, on_b: None, terminals, places, opened: u32::MAX }
+        Bus {
+            begin: start,
+            clock: start,
+            least: None,
+            on_a: None,
+            on_b: None,
+            terminals,
+            places,
+            opened: u32::MAX,
+        }
     }
     // The places of a mask, each told, with the mask of the windows that are open afterwards.
     fn each(&mut self, mask: u32, mut tell: impl FnMut(&mut Terminal)) {
         let mut left = mask;
         while left != 0 {
             let place = left.trailing_zeros() as usize;
-            let Some(terminal) = self.terminals.get_mut(place) else { break };
+            let Some(terminal) = self.terminals.get_mut(place) else {
+                break;
+            };
             left &= left - 1;
             tell(terminal);
-            if terminal.window.is_some() { self.opened |= 1 << place } else { self.opened &= !(1 << place) }
+            if terminal.window.is_some() {
+                self.opened |= 1 << place
+            } else {
+                self.opened &= !(1 << place)
+            }
         }
     }
     pub fn hear(&mut self, line: Line, own: Option<u8>, word: Option<Word>, gap: u16) {
         let mask = match word {
-            Some(Word { is_command: true, value }) if is_broadcast(value) => u32::MAX,
-            Some(Word { is_command: true, value }) => self.opened | 1 << (self.places[address(value) as usize] % 32),
+            Some(Word {
+                is_command: true,
+                value,
+            }) if is_broadcast(value) => u32::MAX,
+            Some(Word {
+                is_command: true,
+                value,
+            }) => self.opened | 1 << (self.places[address(value) as usize] % 32),
             _ => self.opened,
         };
         self.each(mask, |terminal| {
@@ -74,12 +95,23 @@ impl Bus {
     fn hear_run(&mut self, line: Line, own: Option<u8>, gap: u16, commands: &[u16], values: &[u16]) {
         let mut gap = gap;
         for value in commands {
-            self.hear(line, own, Some(Word { is_command: true, value: *value }), gap);
+            self.hear(
+                line,
+                own,
+                Some(Word {
+                    is_command: true,
+                    value: *value,
+                }),
+                gap,
+            );
             gap = 20;
         }
         if !values.is_empty() {
             self.each(self.opened, |terminal| {
-                if own != Some(terminal.own) && let Some(pending) = &mut terminal.window && pending.line == line {
+                if own != Some(terminal.own)
+                    && let Some(pending) = &mut terminal.window
+                    && pending.line == line
+                {
                     pending.take_data(values);
                 }
             });
@@ -89,7 +121,9 @@ impl Bus {
         let mut answered = false;
         self.each(self.opened, |terminal| {
             let own = terminal.own;
-            if let Some(reply) = terminal.quiet(line) && !answered {
+            if let Some(reply) = terminal.quiet(line)
+                && !answered
+            {
                 answered = true;
                 offer.own = Some(own);
                 offer.gap = reply.gap;
@@ -101,14 +135,28 @@ impl Bus {
         answered
     }
     pub fn exchange<'a>(&mut self, line: Line, ready: &'a Ready, gap: u16, faults: &[Fault]) -> Talk<'a> {
-        let start = self.least.map_or(self.begin, |least| self.clock + u64::from(gap.max(least)) - 20);
+        let start = self
+            .least
+            .map_or(self.begin, |least| self.clock + u64::from(gap.max(least)) - 20);
         let on_line = match line {
             Line::A => self.on_a,
             Line::B => self.on_b,
         };
-        let mut talk =
-            Talk { start, line, ready, values: List::new(), seen: Seen::default(), end: start, is_controllers_last: true };
-        let mut offer = Offered { own: None, gap: gap_from(on_line, start), commands: ready.commands, values: ready.values };
+        let mut talk = Talk {
+            start,
+            line,
+            ready,
+            values: List::new(),
+            seen: Seen::default(),
+            end: start,
+            is_controllers_last: true,
+        };
+        let mut offer = Offered {
+            own: None,
+            gap: gap_from(on_line, start),
+            commands: ready.commands,
+            values: ready.values,
+        };
         for run in 0..40u8 {
             let before = talk.values.len;
             let gap = late_gap(faults, u32::from(run), offer.gap);
@@ -135,7 +183,8 @@ impl Bus {
         let values = &offer.values.as_slice()[..count];
         if count > 0 {
             talk.values.extend(values);
-            talk.seen.note_run(talk.ready.due_count(), run, offer.gap, values[0], count);
+            talk.seen
+                .note_run(talk.ready.due_count(), run, offer.gap, values[0], count);
             let (commands, data) = values.split_at(offer.commands.min(count));
             self.hear_run(talk.line, offer.own, offer.gap, commands, data);
         }
@@ -143,21 +192,29 @@ impl Bus {
     fn altered_run(&mut self, talk: &mut Talk, run: u8, gap: u16, offer: &Offered, faults: &[Fault]) {
         let mut given: List<u64, 34> = List::new();
         for (place, value) in offer.values.as_slice().iter().enumerate() {
-            given.push(encode(Word { is_command: place < offer.commands, value: *value }));
+            given.push(encode(Word {
+                is_command: place < offer.commands,
+                value: *value,
+            }));
         }
         let waves = altered(faults, u32::from(run), given.as_slice(), 40 - talk.values.len);
         let mut gap = gap;
         for wave in waves.as_slice() {
             let word = decode(*wave);
             talk.values.push(raw_bits(*wave));
-            talk.seen.note(talk.ready.commands, talk.ready.due_count(), run, gap, word);
+            talk.seen
+                .note(talk.ready.commands, talk.ready.due_count(), run, gap, word);
             self.hear(talk.line, offer.own, word, gap);
             gap = 20;
         }
     }
     pub fn note(&mut self, talk: &Talk) {
         self.clock = talk.end;
-        self.least = Some(if talk.errors().2 || talk.is_controllers_last { 180 } else { 40 });
+        self.least = Some(if talk.errors().2 || talk.is_controllers_last {
+            180
+        } else {
+            40
+        });
         if talk.values.len > 0 {
             match talk.line {
                 Line::A => self.on_a = Some(talk.end),

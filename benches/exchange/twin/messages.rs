@@ -10,9 +10,23 @@ pub struct Due {
 #[allow(dead_code)]
 #[derive(Clone, Copy)]
 pub enum Message {
-    ToTerminal { address: u8, sub: u8, words: List<u16, 32> },
-    FromTerminal { address: u8, sub: u8, count: u8 },
-    Between { sender: u8, sender_sub: u8, receiver: u8, receiver_sub: u8, count: u8 },
+    ToTerminal {
+        address: u8,
+        sub: u8,
+        words: List<u16, 32>,
+    },
+    FromTerminal {
+        address: u8,
+        sub: u8,
+        count: u8,
+    },
+    Between {
+        sender: u8,
+        sender_sub: u8,
+        receiver: u8,
+        receiver_sub: u8,
+        count: u8,
+    },
 }
 
 pub fn command(address: u8, transmit: bool, sub: u8, count: usize) -> u16 {
@@ -24,7 +38,13 @@ impl Message {
         match self {
             Message::ToTerminal { address, sub, words } => (command(*address, false, *sub, words.len), None),
             Message::FromTerminal { address, sub, count } => (command(*address, true, *sub, usize::from(*count)), None),
-            Message::Between { sender, sender_sub, receiver, receiver_sub, count } => (
+            Message::Between {
+                sender,
+                sender_sub,
+                receiver,
+                receiver_sub,
+                count,
+            } => (
                 command(*receiver, false, *receiver_sub, usize::from(*count)),
                 Some(command(*sender, true, *sender_sub, usize::from(*count))),
             ),
@@ -38,11 +58,35 @@ impl Message {
     }
     pub fn due(&self) -> (Option<Due>, Option<Due>) {
         match self {
-            Message::ToTerminal { address, .. } => (Some(Due { address: *address, words: 0 }), None),
-            Message::FromTerminal { address, count, .. } => (Some(Due { address: *address, words: *count }), None),
-            Message::Between { sender, receiver, count, .. } => {
-                (Some(Due { address: *sender, words: *count }), Some(Due { address: *receiver, words: 0 }))
-            }
+            Message::ToTerminal { address, .. } => (
+                Some(Due {
+                    address: *address,
+                    words: 0,
+                }),
+                None,
+            ),
+            Message::FromTerminal { address, count, .. } => (
+                Some(Due {
+                    address: *address,
+                    words: *count,
+                }),
+                None,
+            ),
+            Message::Between {
+                sender,
+                receiver,
+                count,
+                ..
+            } => (
+                Some(Due {
+                    address: *sender,
+                    words: *count,
+                }),
+                Some(Due {
+                    address: *receiver,
+                    words: 0,
+                }),
+            ),
         }
     }
 }
@@ -64,7 +108,11 @@ impl Ready {
             values.push(second);
         }
         values.extend(message.data_words());
-        Ready { values, commands: 1 + usize::from(second.is_some()), due: message.due() }
+        Ready {
+            values,
+            commands: 1 + usize::from(second.is_some()),
+            due: message.due(),
+        }
     }
     pub fn due_count(&self) -> u8 {
         u8::from(self.due.0.is_some()) + u8::from(self.due.1.is_some())
@@ -83,22 +131,36 @@ pub enum Fault {
 
 pub fn altered(faults: &[Fault], at_run: u32, given: &[u64], room: usize) -> List<u64, 40> {
     let mut waves = List::new();
-    if faults.iter().any(|f| matches!(f, Fault::Mute { run } if *run == at_run)) {
+    if faults
+        .iter()
+        .any(|f| matches!(f, Fault::Mute { run } if *run == at_run))
+    {
         return waves;
     }
     for (place, wave) in given.iter().enumerate() {
         let at = place as u32;
-        if !faults.iter().any(|f| matches!(f, Fault::Drop { run, index } if *run == at_run && *index == at)) && waves.len < room {
+        if !faults
+            .iter()
+            .any(|f| matches!(f, Fault::Drop { run, index } if *run == at_run && *index == at))
+            && waves.len < room
+        {
             let mut wave = *wave;
             for f in faults {
-                if let Fault::Mask { run, index, half_bits } = f && *run == at_run && *index == at {
+                if let Fault::Mask { run, index, half_bits } = f
+                    && *run == at_run
+                    && *index == at
+                {
                     wave ^= half_bits;
                 }
             }
             waves.push(wave);
         }
         for f in faults {
-            if let Fault::Add { run, index, word } = f && *run == at_run && *index == at && waves.len < room {
+            if let Fault::Add { run, index, word } = f
+                && *run == at_run
+                && *index == at
+                && waves.len < room
+            {
                 waves.push(encode(*word));
             }
         }
@@ -109,7 +171,9 @@ pub fn altered(faults: &[Fault], at_run: u32, given: &[u64], room: usize) -> Lis
 pub fn late_gap(faults: &[Fault], at_run: u32, gap: u16) -> u16 {
     let mut gap = gap;
     for f in faults {
-        if let Fault::Late { run, ticks } = f && *run == at_run {
+        if let Fault::Late { run, ticks } = f
+            && *run == at_run
+        {
             gap = *ticks;
         }
     }

@@ -37,17 +37,23 @@ pub fn is_late(due: Option<Due>, came: Option<Came>) -> bool {
     due.is_some() && came.is_none_or(|came| came.gap > 140)
 }
 pub fn is_miscounted(due: Option<Due>, came: Option<Came>) -> bool {
-    let (Some(due), Some(came)) = (due, came) else { return false };
+    let (Some(due), Some(came)) = (due, came) else {
+        return false;
+    };
     let excuse = came.first.is_some_and(|w| w.is_command && w.value & 0x0408 != 0);
     u16::from(came.count) != u16::from(due.words) + 1 && !(came.count == 1 && excuse)
 }
 pub fn has_other_address(due: Option<Due>, came: Option<Came>) -> bool {
-    let (Some(due), Some(came)) = (due, came) else { return false };
-    came.first.is_some_and(|w| w.is_command && address(w.value) != due.address)
+    let (Some(due), Some(came)) = (due, came) else {
+        return false;
+    };
+    came.first
+        .is_some_and(|w| w.is_command && address(w.value) != due.address)
 }
 pub fn came_bits(due: Option<Due>, came: Option<Came>) -> u16 {
     let (Some(_), Some(came)) = (due, came) else { return 0 };
-    came.first.map_or(0, |w| if w.is_command { w.value & 0x071F } else { 0 })
+    came.first
+        .map_or(0, |w| if w.is_command { w.value & 0x071F } else { 0 })
 }
 
 pub struct Record {
@@ -78,7 +84,14 @@ impl Seen {
     // A whole run without a fault, which begins with this word: of the controller, or a status word with its data
     // words.
     pub fn note_run(&mut self, due: u8, run: u8, gap: u16, first: u16, count: usize) {
-        let came = Some(Came { gap, first: Some(Word { is_command: true, value: first }), count: count as u8 });
+        let came = Some(Came {
+            gap,
+            first: Some(Word {
+                is_command: true,
+                value: first,
+            }),
+            count: count as u8,
+        });
         match run {
             0 => self.controllers = count as u8,
             1 => self.one = came,
@@ -95,10 +108,15 @@ impl Talk<'_> {
         let seen = &self.seen;
         let (first, second) = self.ready.due;
         let late = is_late(first, seen.one) || is_late(second, seen.two);
-        let miscounted =
-            usize::from(seen.controllers) != self.ready.values.len || is_miscounted(first, seen.one) || is_miscounted(second, seen.two);
+        let miscounted = usize::from(seen.controllers) != self.ready.values.len
+            || is_miscounted(first, seen.one)
+            || is_miscounted(second, seen.two);
         let other = has_other_address(first, seen.one) || has_other_address(second, seen.two);
-        (late, miscounted, late || miscounted || seen.other_sync || seen.unsound || other || seen.beyond)
+        (
+            late,
+            miscounted,
+            late || miscounted || seen.other_sync || seen.unsound || other || seen.beyond,
+        )
     }
     #[allow(dead_code)]
     pub fn outcome(&self) -> Outcome {

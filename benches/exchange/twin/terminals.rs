@@ -43,8 +43,12 @@ impl Pending {
         match self.phase {
             Phase::Start => match heard {
                 Some(called)
-                    if is_receive(self.command) && gap == 20 && is_transmit(called) && !is_mode(called)
-                        && address(called) != own && !is_broadcast(called) =>
+                    if is_receive(self.command)
+                        && gap == 20
+                        && is_transmit(called)
+                        && !is_mode(called)
+                        && address(called) != own
+                        && !is_broadcast(called) =>
                 {
                     self.phase = Phase::Called(address(called));
                 }
@@ -65,7 +69,11 @@ impl Pending {
             Phase::Start | Phase::Taking => {
                 let taken = values.len().min(words_due(self.command) - self.words.len);
                 self.words.extend(&values[..taken]);
-                self.phase = if taken < values.len() { Phase::Lost } else { Phase::Taking };
+                self.phase = if taken < values.len() {
+                    Phase::Lost
+                } else {
+                    Phase::Taking
+                };
             }
             Phase::Called(_) => self.phase = Phase::LostTransfer,
             Phase::Waiting(_) => self.phase = Phase::Lost,
@@ -161,7 +169,10 @@ impl Terminal {
         &self.words[32 * slot..32 * slot + self.counts[slot] as usize]
     }
     pub fn is_question(&self, command: u16) -> bool {
-        address(command) == self.own && is_transmit(command) && is_mode(command) && (code(command) == 2 || code(command) == 18)
+        address(command) == self.own
+            && is_transmit(command)
+            && is_mode(command)
+            && (code(command) == 2 || code(command) == 18)
     }
     pub fn tell(&mut self, command: u16, good: bool) {
         if !self.is_question(command) {
@@ -184,17 +195,27 @@ impl Terminal {
     }
     pub fn hear(&mut self, line: Line, word: Option<Word>, gap: u16) {
         match word {
-            Some(Word { is_command: true, value }) if address(value) == self.own || is_broadcast(value) => {
+            Some(Word {
+                is_command: true,
+                value,
+            }) if address(value) == self.own || is_broadcast(value) => {
                 if let Some(pending) = self.window.take() {
                     self.tell(pending.command, false);
                 }
-                self.window = Some(Pending { line, command: value, phase: Phase::Start, words: List::new() });
+                self.window = Some(Pending {
+                    line,
+                    command: value,
+                    phase: Phase::Start,
+                    words: List::new(),
+                });
                 if !(self.is_question(value) && code(value) == 18) {
                     self.last_command = value;
                 }
             }
             _ => {
-                if let Some(pending) = &mut self.window && pending.line == line {
+                if let Some(pending) = &mut self.window
+                    && pending.line == line
+                {
                     pending.take_word(self.own, word, gap);
                 }
             }
@@ -283,12 +304,19 @@ impl Terminal {
                     _ => {}
                 }
             } else if !self.busy {
-                let from = if sub(command) == 30 { self.at(30) } else { self.at(64 + sub(command) as usize) };
+                let from = if sub(command) == 30 {
+                    self.at(30)
+                } else {
+                    self.at(64 + sub(command) as usize)
+                };
                 for place in 0..count(command) {
                     words.push(from.get(place).copied().unwrap_or(0));
                 }
             }
         }
-        Reply { gap: self.response, words }
+        Reply {
+            gap: self.response,
+            words,
+        }
     }
 }

@@ -8,7 +8,10 @@ pub struct List<T: Copy + Default, const N: usize> {
 
 impl<T: Copy + Default, const N: usize> List<T, N> {
     pub fn new() -> Self {
-        List { items: [T::default(); N], len: 0 }
+        List {
+            items: [T::default(); N],
+            len: 0,
+        }
     }
     pub fn push(&mut self, item: T) {
         self.items[self.len] = item;
@@ -80,7 +83,10 @@ pub fn raw_bits(wave: u64) -> u16 {
 }
 
 pub fn decode(wave: u64) -> Option<Word> {
-    let word = Word { is_command: wave >> 34 == 0b111000, value: raw_bits(wave) };
+    let word = Word {
+        is_command: wave >> 34 == 0b111000,
+        value: raw_bits(wave),
+    };
     (encode(word) == wave).then_some(word)
 }
 
@@ -109,8 +115,16 @@ pub fn is_receive(command: u16) -> bool {
     !is_mode(command) && !is_transmit(command)
 }
 pub fn is_legal_mode(transmit: bool, code: u8) -> bool {
-    if transmit { code <= 8 || code == 16 || code == 18 || code == 19 } else { code == 17 || code == 20 || code == 21 }
+    if transmit {
+        code <= 8 || code == 16 || code == 18 || code == 19
+    } else {
+        code == 17 || code == 20 || code == 21
+    }
 }
 pub fn broadcast_allowed(transmit: bool, code: u8) -> bool {
-    if transmit { code == 1 || (3..=8).contains(&code) } else { code == 17 || code == 20 || code == 21 }
+    if transmit {
+        code == 1 || (3..=8).contains(&code)
+    } else {
+        code == 17 || code == 20 || code == 21
+    }
 }

@@ -24,8 +24,9 @@ pub struct Controller {
 }
 
 const WORDS: [u16; 32] = [
-    0x0000, 0x1234, 0xffff, 0x8001, 0xaaaa, 0x5555, 0x00ff, 0xff00, 0x0f0f, 0xf0f0, 0x0102, 0x0304, 0x0506, 0x0708, 0x090a, 0x0b0c,
-    0x0d0e, 0x0f10, 0x1112, 0x1314, 0x1516, 0x1718, 0x191a, 0x1b1c, 0x1d1e, 0x1f20, 0x2122, 0x2324, 0x2526, 0x2728, 0x292a, 0x2b2c,
+    0x0000, 0x1234, 0xffff, 0x8001, 0xaaaa, 0x5555, 0x00ff, 0xff00, 0x0f0f, 0xf0f0, 0x0102, 0x0304, 0x0506, 0x0708,
+    0x090a, 0x0b0c, 0x0d0e, 0x0f10, 0x1112, 0x1314, 0x1516, 0x1718, 0x191a, 0x1b1c, 0x1d1e, 0x1f20, 0x2122, 0x2324,
+    0x2526, 0x2728, 0x292a, 0x2b2c,
 ];
 
 impl Controller {
@@ -41,7 +42,16 @@ impl Controller {
         ops.extend([Op::Again(2), Op::Again(1), Op::Halt]);
         Controller {
             ops,
-            messages: all.iter().map(|address| Ready::of(&Message::ToTerminal { address: *address, sub: 1, words })).collect(),
+            messages: all
+                .iter()
+                .map(|address| {
+                    Ready::of(&Message::ToTerminal {
+                        address: *address,
+                        sub: 1,
+                        words,
+                    })
+                })
+                .collect(),
             faults: Vec::new(),
             bus: Bus::new(0, &all),
             place: 0,
@@ -78,7 +88,10 @@ impl Controller {
             Ok(place) => self.faults[place].1.as_slice(),
             Err(_) => &[],
         };
-        let record = self.bus.exchange(Line::A, &self.messages[index as usize], 40, faults).observe();
+        let record = self
+            .bus
+            .exchange(Line::A, &self.messages[index as usize], 40, faults)
+            .observe();
         self.failed = record.block & 0x1000 != 0;
         record
     }

@@ -11,9 +11,9 @@ mod controller;
 #[path = "../../exchange/twin/messages.rs"]
 mod messages;
 mod reading;
+mod recorder;
 #[path = "../../exchange/twin/records.rs"]
 mod records;
-mod recorder;
 mod run;
 #[path = "../../exchange/twin/terminals.rs"]
 mod terminals;
@@ -42,8 +42,17 @@ fn main() -> io::Result<()> {
     match words[..] {
         [channels, times, rounds, gate, place] => {
             let channels = number(channels).min(8) as u8;
-            let load = Load { channels, times: number(times), rounds: number(rounds), paced: gate == "paced" };
-            if place == "memory" { timed(load, Vec::new()) } else { timed(load, File::create(place)?) }
+            let load = Load {
+                channels,
+                times: number(times),
+                rounds: number(rounds),
+                paced: gate == "paced",
+            };
+            if place == "memory" {
+                timed(load, Vec::new())
+            } else {
+                timed(load, File::create(place)?)
+            }
         }
         ["compare", ours, twin] => reading::compare(&std::fs::read(ours)?, &std::fs::read(twin)?),
         ["count", file] => {

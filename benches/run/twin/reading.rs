@@ -23,7 +23,10 @@ fn packets(file: &[u8]) -> io::Result<Vec<&[u8]>> {
 }
 
 pub fn count(file: &[u8]) -> io::Result<u64> {
-    Ok(packets(file)?.iter().map(|packet| u64::from(u32_at(packet, 24) & 0xff_ffff)).sum())
+    Ok(packets(file)?
+        .iter()
+        .map(|packet| u64::from(u32_at(packet, 24) & 0xff_ffff))
+        .sum())
 }
 
 fn channels(file: &[u8]) -> io::Result<BTreeMap<u16, Vec<u8>>> {
@@ -38,6 +41,13 @@ pub fn compare(ours: &[u8], twin: &[u8]) -> io::Result<()> {
     if channels(ours)? != channels(twin)? {
         return Err(Error::other("the two recordings differ"));
     }
-    println!("{}", if ours == twin { "the same bytes" } else { "the same packets of each channel" });
+    println!(
+        "{}",
+        if ours == twin {
+            "the same bytes"
+        } else {
+            "the same packets of each channel"
+        }
+    );
     Ok(())
 }

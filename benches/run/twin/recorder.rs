@@ -26,7 +26,15 @@ impl Lane {
     pub fn new(channel: u16) -> Lane {
         let mut bytes = Vec::with_capacity(LIMIT);
         bytes.resize(FIRST_MESSAGE, 0);
-        Lane { channel, bytes, count: 0, first_stamp: 0, last: 0, overflow: false, sequence: 0 }
+        Lane {
+            channel,
+            bytes,
+            count: 0,
+            first_stamp: 0,
+            last: 0,
+            overflow: false,
+            sequence: 0,
+        }
     }
     pub fn takes(&self, record: &Record) -> bool {
         let size = self.bytes.len() + 14 + 2 * record.words.len;
@@ -58,7 +66,9 @@ impl Lane {
         head[8..12].copy_from_slice(&(used as u32 - 24).to_le_bytes());
         head[12..16].copy_from_slice(&[6, self.sequence, if self.overflow { 0x10 } else { 0 }, 0x19]);
         head[16..22].copy_from_slice(&self.first_stamp.to_le_bytes()[..6]);
-        let sum = head[..22].chunks_exact(2).fold(0u16, |sum, word| sum.wrapping_add(u16::from_le_bytes([word[0], word[1]])));
+        let sum = head[..22].chunks_exact(2).fold(0u16, |sum, word| {
+            sum.wrapping_add(u16::from_le_bytes([word[0], word[1]]))
+        });
         head[22..24].copy_from_slice(&sum.to_le_bytes());
         head[24..].copy_from_slice(&(0x4000_0000 + self.count).to_le_bytes());
         self.bytes[..FIRST_MESSAGE].copy_from_slice(&head);
@@ -74,7 +84,11 @@ impl Lane {
 impl<W: Write> Recorder<W> {
     pub fn new(channels: u8, sink: W) -> Recorder<W> {
         let lanes = (1..=u16::from(channels)).map(Lane::new).collect();
-        Recorder { lanes, packets: 0, sink }
+        Recorder {
+            lanes,
+            packets: 0,
+            sink,
+        }
     }
     pub fn keep(&mut self, index: u8, number: u32, record: &Record) -> io::Result<()> {
         let lane = &mut self.lanes[usize::from(index)];

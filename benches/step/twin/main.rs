@@ -29,7 +29,9 @@ use std::time::Instant;
 fn by_chance(replay: &mut Replay, count: u64) -> u64 {
     let (places, mut state, mut sum) = (replay.total() as u64 + 1, 1u64, 0u64);
     for _ in 0..count {
-        state = state.wrapping_mul(6_364_136_223_846_793_005).wrapping_add(1_442_695_040_888_963_407);
+        state = state
+            .wrapping_mul(6_364_136_223_846_793_005)
+            .wrapping_add(1_442_695_040_888_963_407);
         replay.go(((state >> 33) % places) as usize);
         sum = sum.wrapping_add(replay.ticks());
     }
@@ -58,7 +60,9 @@ fn back(replay: &mut Replay, count: usize) -> u64 {
 fn main() -> std::io::Result<()> {
     let words: Vec<String> = std::env::args().skip(1).collect();
     let words: Vec<&str> = words.iter().map(String::as_str).collect();
-    let [channels, times, rounds, chance, steps, path] = words[..] else { exit(2) };
+    let [channels, times, rounds, chance, steps, path] = words[..] else {
+        exit(2)
+    };
     let number = |word: &str| word.parse::<u16>().expect("a number");
     let steps = steps.parse().expect("a number");
     let file = std::fs::read(path)?;

@@ -22,7 +22,10 @@ pub struct Replay {
 }
 
 fn number(bytes: &[u8], place: usize, size: usize) -> u64 {
-    bytes[place..place + size].iter().rev().fold(0, |sum, byte| sum << 8 | u64::from(*byte))
+    bytes[place..place + size]
+        .iter()
+        .rev()
+        .fold(0, |sum, byte| sum << 8 | u64::from(*byte))
 }
 
 // Whether a message of the file is this record.
@@ -30,11 +33,17 @@ fn is_record(message: &[u8], record: &Record) -> bool {
     number(message, 0, 8) == record.stamp
         && number(message, 8, 2) == u64::from(record.block)
         && number(message, 10, 2) == u64::from(record.gaps)
-        && message[14..].chunks_exact(2).map(|word| u16::from_le_bytes([word[0], word[1]])).eq(record.words.as_slice().iter().copied())
+        && message[14..]
+            .chunks_exact(2)
+            .map(|word| u16::from_le_bytes([word[0], word[1]]))
+            .eq(record.words.as_slice().iter().copied())
 }
 
 fn stop(place: usize, live: &[Controller]) -> Stop {
-    Stop { place, states: live.iter().map(save).collect() }
+    Stop {
+        place,
+        states: live.iter().map(save).collect(),
+    }
 }
 
 // The messages of a file, each with its channel; None where a packet is not sound.
@@ -44,7 +53,9 @@ fn messages(file: &[u8]) -> Option<Vec<(u16, &[u8])>> {
         if rest.len() < 28 || number(rest, 0, 2) != 0xEB25 {
             return None;
         }
-        let sum = rest[..22].chunks_exact(2).fold(0u16, |sum, word| sum.wrapping_add(u16::from_le_bytes([word[0], word[1]])));
+        let sum = rest[..22].chunks_exact(2).fold(0u16, |sum, word| {
+            sum.wrapping_add(u16::from_le_bytes([word[0], word[1]]))
+        });
         let (length, used) = (number(rest, 4, 4) as usize, number(rest, 8, 4) as usize);
         if u64::from(sum) != number(rest, 22, 2) || rest.len() < length || length < used + 24 {
             return None;
@@ -85,13 +96,21 @@ impl Replay {
         for (controller, saved) in live.iter_mut().zip(&checkpoints[0].states) {
             restore(controller, saved);
         }
-        Some(Replay { channels, live, place: 0, checkpoints, recent: VecDeque::with_capacity(RECENT) })
+        Some(Replay {
+            channels,
+            live,
+            place: 0,
+            checkpoints,
+            recent: VecDeque::with_capacity(RECENT),
+        })
     }
     pub fn total(&self) -> usize {
         self.channels.len()
     }
     pub fn ticks(&self) -> u64 {
-        self.live.iter().fold(0, |sum, controller| sum.wrapping_add(controller.bus.clock))
+        self.live
+            .iter()
+            .fold(0, |sum, controller| sum.wrapping_add(controller.bus.clock))
     }
     // To a place that the file has: from where it stands, or from the nearest state below.
     pub fn go(&mut self, place: usize) {

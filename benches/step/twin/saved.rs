@@ -32,7 +32,11 @@ pub struct Saved {
 }
 
 fn saved_terminal(terminal: &Terminal) -> SavedTerminal {
-    let room = terminal.counts.iter().map(|count| if *count > 0 { 1 + usize::from(*count) } else { 0 }).sum();
+    let room = terminal
+        .counts
+        .iter()
+        .map(|count| if *count > 0 { 1 + usize::from(*count) } else { 0 })
+        .sum();
     let mut words = Vec::with_capacity(room);
     for (slot, count) in terminal.counts.iter().enumerate() {
         if *count > 0 {
@@ -101,7 +105,9 @@ pub fn restore(controller: &mut Controller, saved: &Saved) {
     }
     controller.place = saved.place;
     controller.counters.clear();
-    controller.counters.extend_from_slice(&saved.counters[..saved.open_loops]);
+    controller
+        .counters
+        .extend_from_slice(&saved.counters[..saved.open_loops]);
     controller.number = saved.number;
     controller.failed = saved.failed;
 }
