@@ -2,7 +2,7 @@
 use Rattle.std.specs.Prelude.{ℕ, Bool, List, Option, Some, None, ◌||◌, ◌==◌, nat_le, if◌then◌else◌, option_map}
 use Rattle.std.specs.Borrow.{Bor}
 use Rattle.mil_mode.specs.Codes.{transmit_vector_word, transmit_last_command, transmit_bit_word}
-use Rattle.mil_mode.specs.Codes.{first_reserved_with_word}
+use Rattle.mil_mode.specs.Codes.{last_without_word, first_reserved_with_word}
 use Rattle.mil_message.specs.declared.drafts.ModeSubaddress.{ModeSubaddress}
 use Rattle.mil_message.specs.declared.drafts.Draft.{Draft}
 use Rattle.mil_message.specs.declared.drafts.Draft.TheVariants.{ToTerminal, FromTerminal, Between, Mode, ModeFrom}
@@ -46,7 +46,7 @@ request_of (BetweenAll sender sender_subaddress receiver_subaddress count) = bet
 request_of (ModeAll subaddress code words) = mode_all subaddress code (written words)
 request_of (ModeAllTo subaddress code words) = mode_all_to subaddress code (written words)
 
--- codes 16, 18 and 19 have a data word from the terminal, and codes 22 on where no word is written
+-- three codes have a data word from the terminal, and so have the reserved ones where no word is written
 abbrev is_from : ℕ → Option (List ℕ) → Bool
 is_from code None = code == transmit_vector_word || code == transmit_last_command || code == transmit_bit_word
     || nat_le first_reserved_with_word code
@@ -55,11 +55,11 @@ is_from code (Some words) = code == transmit_vector_word || code == transmit_las
 -- a mode command to one terminal, whose code and words choose the form (own choice)
 abbrev pub mode_request : ℕ → ModeSubaddress → ℕ → Option (List ℕ) → Request
 mode_request address subaddress code words =
-    if nat_le code 15 then mode address subaddress code words
+    if nat_le code last_without_word then mode address subaddress code words
     else if is_from code words then mode_from address subaddress code words
     else mode_to address subaddress code words
 
 -- a mode command to all terminals, whose code chooses the form (own choice)
 abbrev pub mode_request_to_all : ModeSubaddress → ℕ → Option (List ℕ) → Request
 mode_request_to_all subaddress code words =
-    if nat_le code 15 then mode_all subaddress code words else mode_all_to subaddress code words
+    if nat_le code last_without_word then mode_all subaddress code words else mode_all_to subaddress code words

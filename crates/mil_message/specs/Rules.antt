@@ -3,7 +3,7 @@ use Rattle.std.specs.Prelude.{ℕ, ◌≡◌, Bool, true, false, not, ◌&&◌, 
 use Rattle.std.specs.Prelude.{None, Result, Ok, Err, MatchResult}
 use Rattle.mil_word.specs.Fields.{highest_address, highest_subaddress, most_words}
 use Rattle.mil_mode.specs.Table.{data_word_count}
-use Rattle.mil_mode.specs.Codes.{last_code}
+use Rattle.mil_mode.specs.Codes.{last_without_word, last_code}
 use Rattle.mil_message.specs.declared.faults.BadMessage.{BadMessage}
 use Rattle.mil_message.specs.declared.faults.BadMessage.TheVariants.{Address, Subaddress, CountOrCode, SameEnds}
 use Rattle.mil_message.specs.declared.faults.BadMessage.TheVariants.{ModeWord}
@@ -25,9 +25,9 @@ is_subaddress n = nat_le 1 n && nat_le n highest_subaddress
 abbrev pub is_count : ℕ → Bool
 is_count n = nat_le 1 n && nat_le n most_words
 
--- a mode code that goes without a data word: 0 to 15 (4.3.3.6.4)
+-- a mode code that goes without a data word (4.3.3.6.4)
 abbrev pub is_code_alone : ℕ → Bool
-is_code_alone code = nat_le code 15
+is_code_alone code = nat_le code last_without_word
 
 -- a mode code with a data word that the terminal sends: T/R 1 (4.3.3.6.5)
 abbrev pub is_code_from : ℕ → Bool

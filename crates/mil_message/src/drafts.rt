@@ -2,6 +2,11 @@
 ghost use Rattle.mil_message.specs.Request.{request_of, written, mode_request, mode_request_to_all};
 ghost use Rattle.std.specs.Prelude.{◌≡◌};
 
+use mil_mode::codes::{
+    FIRST_RESERVED_WITH_WORD, LAST_WITHOUT_WORD, TRANSMIT_BIT_WORD, TRANSMIT_LAST_COMMAND,
+    TRANSMIT_VECTOR_WORD,
+};
+
 /// The two subaddresses that mark a mode command, alike in meaning (MIL-STD-1553B 4.3.3.5.1.7, Notice 2).
 #[derive(Clone, Copy, Debug, PartialEq, Eq)]
 pub enum ModeSubaddress {
@@ -93,8 +98,12 @@ impl<'a> Draft<'a> {
     ) -> Draft<'a>
         ensures { request_of result ≡ mode_request address subaddress code (written words.entry) }
     {
-        let from_terminal = code == 16 || code == 18 || code == 19 || code >= 22 && words.is_none();
-        if code <= 15 {
+        let is_sent = code == u32::from(TRANSMIT_VECTOR_WORD)
+            || code == u32::from(TRANSMIT_LAST_COMMAND)
+            || code == u32::from(TRANSMIT_BIT_WORD);
+        let from_terminal = is_sent
+            || code >= u32::from(FIRST_RESERVED_WITH_WORD) && words.is_none();
+        if code <= u32::from(LAST_WITHOUT_WORD) {
             Draft::Mode {
                 address,
                 subaddress,
@@ -127,7 +136,7 @@ impl<'a> Draft<'a> {
     ) -> Draft<'a>
         ensures { request_of result ≡ mode_request_to_all subaddress code (written words.entry) }
     {
-        if code <= 15 {
+        if code <= u32::from(LAST_WITHOUT_WORD) {
             Draft::ModeAll {
                 subaddress,
                 code,

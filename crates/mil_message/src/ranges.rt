@@ -8,7 +8,7 @@ ghost use Rattle.std.specs.Prelude.{⊤, ◌≡◌, ◌==◌, ◌&&◌, nat_le, 
 
 use crate::BadMessage;
 use arrayvec::ArrayVec;
-use mil_mode::codes::{LAST_CODE, LAST_RESERVED_WITHOUT_WORD};
+use mil_mode::codes::{LAST_CODE, LAST_WITHOUT_WORD};
 use mil_mode::data_words as mode_data_words;
 use mil_word::fields::{HIGHEST_ADDRESS, HIGHEST_SUBADDRESS, MOST_WORDS};
 
@@ -61,7 +61,7 @@ pub fn data_words(words: &[u16]) -> Result<ArrayVec<u16, 32>, BadMessage>
 pub fn code_alone(code: u32) -> Result<u8, BadMessage>
     ensures { Meets result (is_code_alone code) (λ n. n ≡ code) BadMessage.CountOrCode }
 {
-    within(code, 0, LAST_RESERVED_WITHOUT_WORD, BadMessage::CountOrCode)
+    within(code, 0, LAST_WITHOUT_WORD, BadMessage::CountOrCode)
 }
 
 /// A code that goes with a data word under this T/R bit.

@@ -59,6 +59,9 @@ first_reserved_with_word = 22
 abbrev pub last_code : ℕ
 last_code = 31
 
--- from this code on a mode command has a data word
+-- up to this code a mode command has no data word, and from the next one on it has one
+abbrev pub last_without_word : ℕ
+last_without_word = 15
+
 abbrev pub first_with_word : ℕ
 first_with_word = 16

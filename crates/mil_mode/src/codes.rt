@@ -54,7 +54,9 @@ pub const OVERRIDE_SELECTED_SHUTDOWN: u8 = 21;
 /// The first code with a data word that the standard keeps for later (4.3.3.5.1.7.17).
 pub const FIRST_RESERVED_WITH_WORD: u8 = 22;
 
-/// From this code on a mode command has a data word.
+/// Up to this code a mode command has no data word, and from the next one on it has one.
+pub const LAST_WITHOUT_WORD: u8 = 15;
+
 pub const FIRST_WITH_WORD: u8 = 16;
 
 /// The highest code.
