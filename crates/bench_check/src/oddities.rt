@@ -10,7 +10,7 @@ use mil_word::fields::WRAP_AROUND;
 /// How many addresses there are, and how many subaddresses.
 const PLACES: usize = 32;
 
-/// The mode codes whose status word is that of the command before (4.3.3.5.1.7.3, 4.3.3.5.1.7.11): transmit status
+/// The mode codes whose status word is that of the command before (4.3.3.5.1.7.3, 4.3.3.5.1.7.13): transmit status
 /// word, transmit last command.
 const OF_LAST_COMMAND: [u8; 2] = [TRANSMIT_STATUS_WORD, TRANSMIT_LAST_COMMAND];
 

@@ -30,8 +30,7 @@ fn count_of(date: Date) -> Option<u64>
 }
 
 /// The number of the day with this date, counted from 1 January 1970; None where the calendar has no such day of the
-/// years 1970 to
-/// 2099.
+/// years 1970 to 2099.
 fn day_of(year: u64, month: u64, day: u64) -> Option<u64>
     ensures found { (n : ℕ) → n < 47482 → year ≡ (day_numbered n).year → month ≡ (day_numbered n).month
         → day ≡ (day_numbered n).day → result ≡ Some n }

@@ -2,6 +2,7 @@
 ghost use Rattle.bc_machine.specs.declared.placed.Placed.{Placed};
 ghost use Rattle.bench_core.specs.Placing.{placed_up_to, IsOrdered};
 ghost use Rattle.bench_report.specs.Reports.{IsPlace};
+ghost use Rattle.mil_word.specs.Fields.{highest_address};
 ghost use Rattle.std.specs.Prelude.{◌≡◌, ◌<◌, ◌≤◌, ◌++◌, ◌∷◌, [], List, length, IfOk};
 
 use bc_machine::{Actions, Placed, Schedule};
@@ -39,7 +40,7 @@ const LAST: u32 = 1_000_000;
 /// which makes no difference. It takes no memory.
 pub(crate) fn add_posted(ordered: &mut Schedule, one: Placed)
     requires number { 1 ≤ one.number }
-    requires address { one.address ≤ 30 }
+    requires address { one.address ≤ highest_address }
     requires ordered { IsOrdered ordered.old.actions }
     requires room { length ordered.old.actions < ordered.old.capacity }
     ensures ordered { (actions : List Placed) → ordered.old.actions ≡ placed_up_to 1000000 actions

@@ -4,6 +4,7 @@ ghost use Rattle.std.specs.Prelude.{◌≡◌};
 ghost use Rattle.text_lines.specs.Words.{words};
 
 use mil_host::{Action, BadAction, number_within, read_action};
+use mil_word::fields::HIGHEST_ADDRESS;
 use text_lines::next_word;
 
 /// What a line asks for.
@@ -31,7 +32,7 @@ pub fn read_post(line: &[u8]) -> Result<LivePost, BadAction>
     let Some((address, behind)) = next_word(behind) else {
         return Err(BadAction::Word);
     };
-    let address = number_within(address, 0, 30)?;
+    let address = number_within(address, 0, u16::from(HIGHEST_ADDRESS))?;
     let action = read_action(behind)?;
     Ok(LivePost {
         channel,

@@ -3,6 +3,7 @@
 use bench_decode::{Line, Place, Shown, write_columns, write_message};
 use ch11_f1::{RECORD_HEAD, body, put_record};
 use crossbeam_queue::ArrayQueue;
+use mil_line::MOST_SENT;
 use mil_monitor::Record;
 use std::alloc::{AllocError, Global};
 use std::io::Write;
@@ -22,11 +23,8 @@ const PAUSE: u64 = 2;
 /// How many bytes the word takes that tells how many messages a body has.
 const COUNT: usize = 4;
 
-/// How many words a message has at most.
-const WORDS: usize = 40;
-
 /// How many bytes the body of a packet with one message takes at most.
-const BODY: usize = COUNT + RECORD_HEAD + 2 * WORDS;
+const BODY: usize = COUNT + RECORD_HEAD + 2 * MOST_SENT;
 
 /// A message that waits to be shown, as the body of a packet that has no other.
 #[derive(Clone, Copy)]
@@ -42,7 +40,7 @@ impl Waiting {
         let mut body = [0; BODY];
         body[0] = 1;
         let mut len = 0;
-        if record.stamp >> 48 == 0 && record.words.len() <= WORDS {
+        if record.stamp >> 48 == 0 && record.words.len() <= MOST_SENT {
             len = COUNT + put_record(record, &mut body[COUNT..]);
         }
         Waiting { place, body, len }

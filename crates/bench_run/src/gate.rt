@@ -1,4 +1,4 @@
-//! Context of a run at which its threads may be held.
+//! Points of a run at which its threads may be held.
 
 use mil_monitor::Record;
 use std::thread;

@@ -24,7 +24,7 @@ pub enum Action {
     Fault(bool),
     /// Whether an offer of dynamic bus control is accepted (4.3.3.5.3.10).
     Control(bool),
-    /// The vector word (4.3.3.5.1.7.10).
+    /// The vector word (4.3.3.5.1.7.11).
     Vector(u16),
     /// The result of the terminal's self test, which becomes its BIT word when a self test is initiated.
     SelfTest(u16),

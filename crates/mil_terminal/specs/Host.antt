@@ -83,9 +83,13 @@ accepts_control h = latest_set told_control false h
 abbrev pub self_test : History → ℕ
 self_test h = latest_set told_self_test 0 h
 
+-- the response time before a host sets one, in ticks of 0.1 µs (own choice, within 4.3.3.8)
+abbrev pub first_response : ℕ
+first_response = 80
+
 -- the response time in ticks of 0.1 µs (MIL-STD-1553B 4.3.3.8)
 abbrev pub response_gap : History → ℕ
-response_gap h = latest_set told_response 80 h
+response_gap h = latest_set told_response first_response h
 
 -- the words that the host put up at a subaddress
 abbrev pub words_put_up : ℕ → History → List ℕ

@@ -101,7 +101,7 @@ is_flag_inhibited own h =
     (λ e. code_of e.window.command == inhibit_terminal_flag) false h
 
 -- transmit status word (2) or transmit last command (18), which leave the status word as it was (4.3.3.5.1.7.3,
--- 4.3.3.5.1.7.11)
+-- 4.3.3.5.1.7.13)
 abbrev pub keeps_status : ℕ → Bool
 keeps_status c = is_transmit c && is_mode c
     && (code_of c == transmit_status_word || code_of c == transmit_last_command)

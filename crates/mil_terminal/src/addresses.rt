@@ -1,4 +1,5 @@
 //! The address of a terminal.
+ghost use Rattle.mil_word.specs.Fields.{highest_address};
 ghost use Rattle.std.specs.Prelude.{◌≡◌, ◌≤◌};
 
 use std::marker::Model;
@@ -10,13 +11,14 @@ pub struct Address {
 }
 
 impl Model for Address {
+    ghost use Rattle.mil_word.specs.Fields.{highest_address};
     ghost use Rattle.std.specs.Prelude.{ℕ, ◌≤◌};
 
     ghost Value = { ℕ };
 
     ghost view = { λ a. a.value };
 
-    ghost invariant = { λ a. a.value ≤ 30 };
+    ghost invariant = { λ a. a.value ≤ highest_address };
 
     ghost inverse = { λ n. record { value = n } };
 }
@@ -24,7 +26,7 @@ impl Model for Address {
 impl Address {
     /// The address of this number, 0 to 30.
     pub fn of(value: u8) -> Address
-        requires { value ≤ 30 }
+        requires { value ≤ highest_address }
         ensures { result ≡ value }
     {
         Address { value }
@@ -34,7 +36,7 @@ impl Address {
     #[inline]
     pub fn value(self) -> u8
         ensures value { result ≡ self }
-        ensures range { result ≤ 30 }
+        ensures range { result ≤ highest_address }
     {
         self.value
     }

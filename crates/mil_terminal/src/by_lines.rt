@@ -12,14 +12,14 @@ pub struct ByLine {
 }
 
 impl ByLine {
-    /// It is on on neither line.
+    /// It is off on both lines.
     pub fn none() -> ByLine
         ensures { result ≡ record { a = false; b = false } }
     {
         ByLine { a: false, b: false }
     }
 
-    /// Whether it is on on this line.
+    /// Whether it is on for this line.
     #[inline]
     pub fn has(&self, line: Line) -> bool
         ensures { result ≡ on_line self.now line }
@@ -30,7 +30,7 @@ impl ByLine {
         }
     }
 
-    /// Turns it on or off on this line.
+    /// Turns it on or off for this line.
     pub fn set(&mut self, line: Line, on: bool)
         ensures { self.new ≡ with_line self.old line on }
     {

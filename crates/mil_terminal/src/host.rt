@@ -8,6 +8,9 @@ use crate::marks::Marks;
 use mil_host::Action;
 use mil_line::Gap;
 
+/// The response time before a host sets one, in ticks of 0.1 µs (own choice, within MIL-STD-1553B 4.3.3.8).
+const FIRST_RESPONSE: u16 = 80;
+
 /// The latest setting of each kind, the words that are put up excepted.
 #[derive(Drop)]
 pub struct Settings {
@@ -39,7 +42,7 @@ impl Settings {
             control: false,
             vector: 0,
             self_test: 0,
-            response: Gap::of(80),
+            response: Gap::of(FIRST_RESPONSE),
             marks: Marks::none(),
             deaf: ByLine::none(),
             mute: ByLine::none(),

@@ -7,6 +7,7 @@ ghost use Rattle.mil_terminal.specs.Station.{after};
 ghost use Rattle.mil_terminal.specs.Status as statuses;
 ghost use Rattle.mil_terminal.specs.Windows as windows;
 ghost use Rattle.mil_terminal.specs.declared.events.Event.TheVariants.{Heard, Quiet, Host};
+ghost use Rattle.mil_word.specs.Fields.{highest_address, highest_subaddress};
 ghost use Rattle.mil_word.specs.Wave.{word_of};
 ghost use Rattle.mil_word.specs.Words.{data_wave};
 ghost use Rattle.mil_word.specs.declared.Line.{Line as LineValue};
@@ -48,7 +49,7 @@ impl Terminal {
     /// A terminal that has met nothing yet, at an address of 0 to 30. All room of later calls is made here.
     pub fn make(alloc: Global, address: u8) -> Result<Terminal, TerminalError>
         ensures made { IfOk result (λ t. t ≡ record { own = address; history = [] }) }
-        ensures address { (result ≡ Err TerminalError.Address) ↔ (30 < address) }
+        ensures address { (result ≡ Err TerminalError.Address) ↔ (highest_address < address) }
     {
         if address > HIGHEST_ADDRESS {
             return Err(TerminalError::Address);
@@ -60,8 +61,8 @@ impl Terminal {
         })
     }
 
-    /// A word on a line, and the gap before it. A data word costs a
-    /// few instructions where no window is open on its line.
+    /// A word on a line, and the gap before it. A data word costs a few instructions where no window is open on its
+    /// line.
     pub fn hear(&mut self, line: Line, wave: Wave, gap: Gap)
         ensures { self.new ≡ after self.old (Heard line wave gap) }
     {
@@ -162,7 +163,7 @@ impl Terminal {
     #[inline]
     pub fn address(&self) -> u8
         ensures value { result ≡ self.now.own }
-        ensures range { result ≤ 30 }
+        ensures range { result ≤ highest_address }
     {
         self.registers.own.value()
     }
@@ -174,21 +175,21 @@ impl Terminal {
         self.registers.status()
     }
 
-    /// The last command (4.3.3.5.1.7.11); 0000 before any.
+    /// The last command (4.3.3.5.1.7.13); 0000 before any.
     pub fn last_command(&self) -> u16
         ensures { result ≡ registers.last_command self.now.own self.now.history }
     {
         self.registers.last_command()
     }
 
-    /// The vector word that the host set (4.3.3.5.1.7.10); 0000 at first.
+    /// The vector word that the host set (4.3.3.5.1.7.11); 0000 at first.
     pub fn vector(&self) -> u16
         ensures { result ≡ registers.vector self.now.history }
     {
         self.registers.vector()
     }
 
-    /// The BIT word: the result of the last self test that was initiated (4.3.3.5.1.7.12); 0000 at first.
+    /// The BIT word: the result of the last self test that was initiated (4.3.3.5.1.7.14); 0000 at first.
     pub fn bit_word(&self) -> u16
         ensures { result ≡ registers.bit_word self.now.own self.now.history }
     {
@@ -237,7 +238,7 @@ impl Terminal {
     /// The words that the latest receive command to this terminal left at a subaddress of 1 to 30; none at first.
     pub fn received(&self, sub: u8) -> &[u16]
         requires low { 1 ≤ sub }
-        requires high { sub ≤ 30 }
+        requires high { sub ≤ highest_subaddress }
         ensures { result.now ≡ registers.received self.now.own sub self.now.history }
     {
         self.registers.received(sub)
@@ -246,7 +247,7 @@ impl Terminal {
     /// The words that the latest receive command to all terminals left there (Notice 2); none at first.
     pub fn received_from_all(&self, sub: u8) -> &[u16]
         requires low { 1 ≤ sub }
-        requires high { sub ≤ 30 }
+        requires high { sub ≤ highest_subaddress }
         ensures { result.now ≡ registers.received_from_all self.now.own sub self.now.history }
     {
         self.registers.received_from_all(sub)
@@ -256,7 +257,7 @@ impl Terminal {
     /// the host put up, and at subaddress 30 those that were received there (Notice 2); none at first.
     pub fn transmit_words(&self, sub: u8) -> &[u16]
         requires low { 1 ≤ sub }
-        requires high { sub ≤ 30 }
+        requires high { sub ≤ highest_subaddress }
         ensures { result.now ≡ registers.transmit_words self.now.own sub self.now.history }
     {
         self.registers.transmit_words(sub)
