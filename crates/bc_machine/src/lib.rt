@@ -1,6 +1,8 @@
-//! The bus controller (own choice): a loaded program under way on a real bus, step by step.
+//! The bus controller (own choice): a loaded program under way on a real bus, step by step; and lists of placed
+//! actions, in rows of 16 bytes.
 //!
-//! It may know: the loader, the bus and its monitor. Its tests: `frame_tests`. Its wrong bodies: `edits/`.
+//! It may know: words, messages, status bits, host actions, gaps and planned faults, the bus, the monitor, code,
+//! the loader. Its tests: `frame_tests`. Its wrong bodies: `edits/`.
 #![tactic(auto)]
 
 mod actions;

@@ -1,6 +1,6 @@
 //! The command `bench assemble`: a script as the bytes of an image, and how large it is.
 //!
-//! It may know: scripts, the assembler, the loader. Its tests: `command_tests`. Its wrong bodies: `edits/`.
+//! It may know: scripts from their text to the loader. Its tests: `command_tests`. Its wrong bodies: `edits/`.
 #![tactic(auto)]
 
 mod assembling;

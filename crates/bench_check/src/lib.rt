@@ -1,7 +1,9 @@
 //! The command `bench check`: a job tried without a recording, message by message, and what is probably a mistake
-//! in it.
+//! in it, such as a planned fault that meets nothing.
 //!
-//! It may know: jobs, controllers, the bus. Its tests: `command_tests`. Its wrong bodies: `edits/`.
+//! It may know: words, mode codes, status bits, messages, host actions, gaps and planned faults, the bus, scripts
+//! from their text to the loader, the controller, jobs, words of a text. Its tests: `command_tests`. Its wrong
+//! bodies: `edits/`.
 #![tactic(auto)]
 
 mod calls;

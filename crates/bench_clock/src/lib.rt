@@ -1,4 +1,5 @@
-//! Times of day of a recording: the bodies of time packets, written and read, and the time of day at a stamp.
+//! Times of day of a recording: the bodies of time packets, written and read, and the time of day at a stamp, also
+//! as packets come.
 //!
 //! It may know: headers, the reader, the packets of a stream; the kit's `jiff_core` for dates. Its tests:
 //! `ch11_tests`, and those of `clock_from` `ch11_stream_tests`. Its wrong bodies: `edits/`.

@@ -1,8 +1,8 @@
-//! The commands of `bench`: the command line, the files, the faults and the exit statuses; each command calls one
-//! proved function of a crate below.
+//! The commands of `bench`: the command line, the files, the faults and the exit statuses; each command calls
+//! proved functions of crates below.
 //!
-//! It may know: all commands. It has no tests: each command is tried by `.ci/commands`, and its faults by
-//! `.ci/faults`. It has no wrong bodies.
+//! It may know: all commands, and what their calls take and give. It has no tests: each command is tried by
+//! `.ci/commands`, and its faults by `.ci/faults`. It has no wrong bodies.
 #![tactic(auto)]
 
 mod checking;

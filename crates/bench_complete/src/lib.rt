@@ -1,5 +1,5 @@
 //! The command `bench complete`: a recording made into the file that other Chapter 10 and 11 tools expect, with a
-//! setup record in front, a time packet each second, and packets in order of time.
+//! setup record in front, a time packet each second, and packets in order of time: the one merge of its channels.
 //!
 //! It may know: headers, bodies, the reader, times; the kit's `jiff_core` for dates. Its tests: `command_tests`.
 //! Its wrong bodies: `edits/`.

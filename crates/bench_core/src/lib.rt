@@ -1,7 +1,9 @@
-//! The pure bench: every interleaving of buses and writer, one step at a time, and one channel from its job to a
+//! The bench one step at a time: every interleaving of buses, hosts and writer; and one channel from its job to a
 //! recording.
 //!
-//! It may know: jobs, recordings, reports. Its tests: `bench_tests`. Its wrong bodies: `edits/`.
+//! It may know: words, messages, host actions, gaps and planned faults, the bus, the monitor, trees, the
+//! controller, jobs, bodies, the builder, the reader, the writer, recordings, reports, histories. Its tests:
+//! `bench_tests`. Its wrong bodies: `edits/`.
 #![tactic(auto)]
 
 mod alone;

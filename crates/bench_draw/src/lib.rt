@@ -1,7 +1,9 @@
-//! A recording as a picture: the bus over time.
+//! The command `bench draw`: a recording as a picture, its messages over time, also where it is read anew for each
+//! pass.
 //!
-//! It may know: selections, layouts, the reader, the packets of a stream, watched files, decoded messages. Its
-//! tests: `command_tests`, and of recordings that are read anew `ch11_stream_tests`. Its wrong bodies: `edits/`.
+//! It may know: words, bodies, layouts, the reader, the packets of a stream, watched files, selections, the dump,
+//! decoded messages, times. Its tests: `command_tests`, and of recordings that are read anew `ch11_stream_tests`.
+//! Its wrong bodies: `edits/`.
 #![tactic(auto)]
 
 mod axis;

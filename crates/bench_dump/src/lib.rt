@@ -1,7 +1,7 @@
-//! The command `bench dump`: a recording as lines of text.
+//! The command `bench dump`: a recording as lines of text, also as its packets come.
 //!
-//! It may know: headers, bodies, the reader, the packets of a stream, times. Its tests: `ch11_tests`. Its wrong
-//! bodies: `edits/`.
+//! It may know: headers, bodies, the reader, the packets of a stream, times, numbers of a text. Its tests:
+//! `ch11_tests`, and of packets as they come `ch11_stream_tests`. Its wrong bodies: `edits/`.
 #![tactic(auto)]
 
 mod digits;

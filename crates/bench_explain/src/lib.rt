@@ -1,6 +1,6 @@
 //! The command `bench explain`: what a fault code means, and what to do.
 //!
-//! It may know: nothing of the house. Its tests: `command_tests`. Its wrong bodies: `edits/`.
+//! It may know: no other crate. Its tests: `command_tests`. Its wrong bodies: `edits/`.
 #![tactic(auto)]
 
 mod buses;

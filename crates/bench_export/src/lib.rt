@@ -1,7 +1,9 @@
-//! The command `bench export`: a recording as comma-separated values, a row a message, or as a value change dump.
+//! The command `bench export`: a recording as comma-separated values, a row a message, or as a value change dump,
+//! also as its packets come.
 //!
-//! It may know: the reader, the packets of a stream, layouts, selections, dumps, times. Its tests: `command_tests`,
-//! and of packets as they come `ch11_stream_tests`. Its wrong bodies: `edits/`.
+//! It may know: words, bodies, layouts, the reader, the packets of a stream, selections, the dump, times, numbers
+//! and words of a text. Its tests: `command_tests`, and of packets as they come `ch11_stream_tests`. Its wrong
+//! bodies: `edits/`.
 #![tactic(auto)]
 
 mod changes;

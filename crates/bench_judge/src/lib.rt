@@ -1,8 +1,9 @@
 //! The command `bench judge`: which messages of a recording a rule selects, which of them miss it, and whether it
-//! is held.
+//! is held, also where the recording is read anew for each pass and never kept.
 //!
-//! It may know: rules, selections, layouts, the reader, the packets of a stream, watched files, decoded messages,
-//! places. Its tests: `command_tests`, and of packets as they come `ch11_stream_tests`. Its wrong bodies: `edits/`.
+//! It may know: words, mode codes, messages, bodies, layouts, the reader, the packets of a stream, watched files,
+//! rules, selections, the dump, decoded messages, places, words of a text. Its tests: `command_tests`, and of
+//! packets as they come `ch11_stream_tests`. Its wrong bodies: `edits/`.
 #![tactic(auto)]
 
 mod checks;

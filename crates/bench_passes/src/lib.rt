@@ -1,8 +1,8 @@
 //! Commands over a recording that is read twice, so that it need not be kept: a first pass says whether it can be
 //! read, and only then a second one prints it.
 //!
-//! It may know: `ch11_check`, which is the first pass, or `bench_clock` where that has to tell times of day, and
-//! `bench_dump`, the second. Its tests: `ch11_stream_tests`. Its wrong bodies: `edits/`.
+//! It may know: the reader, the packets of a stream; for the first pass `ch11_check`, or `bench_clock` where it has
+//! to tell times of day; for the second `bench_dump`. Its tests: `ch11_stream_tests`. Its wrong bodies: `edits/`.
 #![tactic(auto)]
 
 mod dumping;

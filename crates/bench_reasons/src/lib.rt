@@ -1,7 +1,8 @@
-//! Why a text is refused, in words: which of its words is at fault, what is wrong with it, and what to do. What is
-//! said here stands behind a fault's line, and changes nothing of that line.
+//! Why the text of a script or a job is refused, in words: which of its words is at fault, what is wrong with it,
+//! and what to do. What is said here stands behind a fault's line, and changes nothing of that line.
 //!
-//! It may know: the words of lines, the tokens of scripts. Its tests: `command_tests`. Its wrong bodies: `edits/`.
+//! It may know: the text of scripts, numbers and words of a text. Its tests: `command_tests`. Its wrong bodies:
+//! `edits/`.
 #![tactic(auto)]
 
 mod fault;

@@ -1,6 +1,7 @@
-//! The report of a run as a value and as text.
+//! The report of a run, as a value and as text.
 //!
-//! It may know: placed actions. Its tests: `bench_tests`. Its wrong bodies: `edits/`.
+//! It may know: words, host actions, placed actions, numbers and words of a text. Its tests: `bench_tests`. Its
+//! wrong bodies: `edits/`.
 #![tactic(auto)]
 
 mod channels;

@@ -1,8 +1,9 @@
 //! What the commands of `bench` make of a request: its files, its jobs, its settings, and why it is refused with
 //! which exit status.
 //!
-//! It may know: the faults of all commands. It has no tests: what it says is tried by `.ci/commands` and
-//! `.ci/faults`. Its wrong bodies: `edits/`.
+//! It may know: jobs, the reader, the packets of a stream, reports, the bench one step at a time, runs, rules,
+//! files, words of a text, and the faults of `bench_one`, `bench_assemble`, `bench_dump` and `bench_step`. It has
+//! no tests: what it says is tried by `.ci/commands` and `.ci/faults`. Its wrong bodies: `edits/`.
 #![tactic(auto)]
 
 mod apart;

@@ -1,7 +1,9 @@
-//! Jobs on threads of their own, one for each bus, and one recording of them all.
+//! Jobs on threads of their own, one for each bus, and one recording of them all; also runs that take posts from
+//! mailboxes.
 //!
-//! It may know: the bench one step at a time (`bench_core`), the trunk, mailboxes. Its tests: `run_tests`. Its
-//! wrong bodies: `edits/`.
+//! It may know: words, host actions, gaps and planned faults, terminals, the bus, the monitor, the assembler, the
+//! loader, the controller, jobs, bodies, the builder, the reader, the writer, recordings, the trunk, reports, the
+//! bench one step at a time, mailboxes. Its tests: `run_tests`. Its wrong bodies: `edits/`.
 #![tactic(auto)]
 
 mod channel;

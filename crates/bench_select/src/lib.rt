@@ -1,7 +1,8 @@
-//! One way to choose messages of a recording, for all commands that look at one: by channel, line, form, errors,
-//! number and time; and a mark for each channel.
+//! One way to choose messages of a recording, for all commands that look at one: by channel, line, the selector of
+//! a rule, errors, number and time; and a mark for each channel.
 //!
-//! It may know: rules, layouts, bodies, words. Its tests: `command_tests`. Its wrong bodies: `edits/`.
+//! It may know: words, bodies, layouts, rules, numbers and words of a text. Its tests: `command_tests`. Its wrong
+//! bodies: `edits/`.
 #![tactic(auto)]
 
 mod bounds;

@@ -1,7 +1,9 @@
-//! The command `bench stat`: figures of each channel and each terminal of a recording.
+//! The command `bench stat`: figures of each channel and each terminal of a recording, as a value and as text, also
+//! as its packets come.
 //!
-//! It may know: selections, layouts, the reader, the packets of a stream, times. Its tests: `command_tests`, and of
-//! packets as they come `ch11_stream_tests`. Its wrong bodies: `edits/`.
+//! It may know: words, headers, bodies, layouts, the reader, the packets of a stream, selections, the dump, times,
+//! words of a text. Its tests: `command_tests`, and of packets as they come `ch11_stream_tests`. Its wrong bodies:
+//! `edits/`.
 #![tactic(auto)]
 
 mod calls;

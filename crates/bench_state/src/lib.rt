@@ -1,6 +1,8 @@
 //! What the terminals of a bus hold, as lines: their registers, what their hosts set, and their data words.
 //!
-//! It may know: terminals, the bus, placed actions. Its tests: `command_tests`. Its wrong bodies: `edits/`.
+//! It may know: words, host actions, terminals, the bus, placed actions, words of a text. It has no tests of its
+//! own: `command_tests` tries it by the lines of state and of data in sessions of `bench_step`. Its wrong bodies:
+//! `edits/`.
 #![tactic(auto)]
 
 mod data;

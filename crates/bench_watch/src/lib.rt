@@ -1,7 +1,8 @@
-//! Recordings that are read more than once: opened anew for each pass, and watched while they are read; and how
-//! long a command has been at work.
+//! Recordings that are read more than once: files that are opened anew for each pass and pass bytes by a seek, and
+//! the line at a terminal that tells how far a pass has come, with when it is due.
 //!
-//! It may know: the packets of a stream. Its tests: `ch11_stream_tests`. Its wrong bodies: `edits/`.
+//! It may know: the packets of a stream. Its tests: `ch11_stream_tests`, of what is opened anew; the line that
+//! tells how far a pass has come is not tested. Its wrong bodies: `edits/`.
 #![tactic(auto)]
 
 mod elapsed;

@@ -1,7 +1,7 @@
-//! The header of a packet: its fields, its 24 bytes, and which bytes are a header (IRIG 106-17 Chapter 11, packet
-//! header). All numbers are little-endian.
+//! The header of a packet (IRIG 106-17 Chapter 11, packet header): its fields, its 24 bytes, and which bytes are a
+//! header. All numbers are little-endian.
 //!
-//! It may know: nothing of the house. Its tests: `ch11_tests`. Its wrong bodies: `edits/`.
+//! It may know: no other crate. Its tests: `ch11_tests`. Its wrong bodies: `edits/`.
 #![tactic(auto)]
 
 mod error;

@@ -1,6 +1,7 @@
 //! Which words of a recorded message are commands, status words and data words.
 //!
-//! It may know: bodies and words. Its tests: `command_tests`. Its wrong bodies: `edits/`.
+//! It may know: words, bodies. It has no tests of its own: `command_tests` tries it by the figures, rows, pictures
+//! and verdicts that rest on it. Its wrong bodies: `edits/`.
 #![tactic(auto)]
 
 mod layouts;

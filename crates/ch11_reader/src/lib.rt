@@ -1,6 +1,6 @@
 //! Recordings as they are read (IRIG 106-17 Chapter 11): which bytes are one, and what it holds.
 //!
-//! It may know: headers and bodies. Its tests: `ch11_tests`. Its wrong bodies: `edits/`.
+//! It may know: headers, bodies. Its tests: `ch11_tests`. Its wrong bodies: `edits/`.
 #![tactic(auto)]
 
 mod build;

@@ -1,9 +1,10 @@
-//! The packets of a recording read one after the other from a reader (IRIG 106-17 Chapter 11), in memory for the
-//! largest packet of messages or of time; and the stretches of one that may be damaged, in memory for the largest
-//! packet of any type. Which bytes are a recording, and what it holds, is said by `ch11_reader`.
+//! The packets of a recording one after the other as its bytes come (IRIG 106-17 Chapter 11), in memory for the
+//! largest packet of messages or of time, and long ones of other types passed unread where that can be; and the
+//! stretches of one that may be damaged, in memory for the largest packet of any type. Which bytes are a recording,
+//! and what it holds, is said by `ch11_reader`.
 //!
-//! It may know: headers, bodies, and what `ch11_reader` calls a recording. Its tests: `ch11_stream_tests`. Its
-//! wrong bodies: `edits/`.
+//! It may know: headers, bodies, what `ch11_reader` calls a recording, histories. Its tests: `ch11_stream_tests`.
+//! Its wrong bodies: `edits/`.
 #![tactic(auto)]
 
 mod advance;

@@ -1,6 +1,6 @@
 //! Bytes of a recording into a sink that may fail.
 //!
-//! It may know: nothing of the house. Its tests: `ch11_tests`. Its wrong bodies: `edits/`.
+//! It may know: no other crate. Its tests: `ch11_tests`. Its wrong bodies: `edits/`.
 #![tactic(auto)]
 
 mod device;

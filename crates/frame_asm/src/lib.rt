@@ -1,6 +1,6 @@
 //! The assembler (own choice): the image of a frame, whose code does in any world what the frame means.
 //!
-//! It may know: trees and code. Its tests: `frame_tests`. Its wrong bodies: `edits/`.
+//! It may know: words, messages, trees, code. Its tests: `frame_tests`. Its wrong bodies: `edits/`.
 #![tactic(auto)]
 
 ghost use Rattle.frame_asm.specs.Behaves.{Behaves};

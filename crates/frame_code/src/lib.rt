@@ -1,6 +1,7 @@
-//! The code of the bus controller (own choice): fourteen operations, images of them, and the bytes of an image.
+//! The code of the bus controller (own choice): fourteen operations, images of them, the bytes of an image, and
+//! which images may be loaded.
 //!
-//! It may know: messages, mode codes. Its tests: `frame_tests`. Its wrong bodies: `edits/`.
+//! It may know: words, messages, mode codes, status bits. Its tests: `frame_tests`. Its wrong bodies: `edits/`.
 #![tactic(auto)]
 
 ghost use Rattle.frame_code.specs.Ranges.{IsImage};

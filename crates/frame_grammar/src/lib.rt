@@ -1,6 +1,7 @@
 //! The grammar of scripts as rules, and the laws that what is read of a text is what they derive (own choice).
 //!
-//! It may know: trees and their text. It has no tests: it is laws alone. It has no wrong bodies.
+//! It may know: words, messages, status bits, trees, the text of scripts, numbers of a text. It has no tests: it is
+//! laws alone. It has no wrong bodies.
 #![tactic(auto)]
 
 mod laws;

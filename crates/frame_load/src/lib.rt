@@ -1,7 +1,7 @@
-//! The loader (own choice): which images the controller may run, how many steps a run takes, and how many messages
-//! it sends.
+//! The loader (own choice): which images the controller may run without ever being stuck, how many steps a run
+//! takes at most, and how many messages it sends.
 //!
-//! It may know: code. Its tests: `frame_tests`. Its wrong bodies: `edits/`.
+//! It may know: words, messages, code. Its tests: `frame_tests`. Its wrong bodies: `edits/`.
 #![tactic(auto)]
 
 ghost use Rattle.frame_code.specs.Loadable.{IsLoadable};

@@ -1,7 +1,9 @@
-//! Tests of scripts, their trees, their images, the controllers that run them, and the jobs that hold them. The
-//! crates have no tests of their own, so that each is proved once.
+//! Tests of the crates whose names begin with `frame_`, of `bc_machine` and of `job_file`. They try scripts, their
+//! trees, their images, the controllers that run them, and the jobs that hold them. The laws of `frame_grammar`
+//! need none.
 //!
-//! It may know: the public surface.
+//! It may know: the public calls of the crates that it tests and of those below them. It is tests alone, and has no
+//! wrong bodies.
 #![tactic(auto)]
 
 #[cfg(test)]

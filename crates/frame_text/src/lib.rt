@@ -1,7 +1,8 @@
-//! Scripts: frames as text (own choice). A text has at most one tree, and every other text is refused by its first
-//! fault from left to right.
+//! Scripts: frames as text (own choice), read and printed. A text has at most one tree, and every other text is
+//! refused by its first fault from left to right.
 //!
-//! It may know: trees, messages, numerals. Its tests: `frame_tests`. Its wrong bodies: `edits/`.
+//! It may know: words, messages, status bits, trees, numbers and words of a text. Its tests: `frame_tests`. Its
+//! wrong bodies: `edits/`.
 #![tactic(auto)]
 
 ghost use Rattle.frame_text.specs.Chains.{IsScript};

@@ -1,7 +1,7 @@
 //! Frames, the programs of a bus controller, as trees under any allocator (own choice): what a script says, before
-//! it is assembled.
+//! it is assembled, and what it means in any world.
 //!
-//! It may know: messages. Its tests: `frame_tests`. Its wrong bodies: `edits/`.
+//! It may know: words, messages. Its tests: `frame_tests`. Its wrong bodies: `edits/`.
 #![tactic(auto)]
 
 mod bounds;

@@ -1,8 +1,9 @@
-//! What has happened so far, as a list that proofs alone know: no byte of it is kept at run time. A value holds one
-//! in place of the list, so that its contracts can speak of all that it met.
+//! What has happened so far, as a list that contracts see and that has no byte at run time. A value holds a
+//! `History` in place of the list, so that its contracts can speak of all that it met: terminals, plans and buses
+//! do.
 //!
-//! It may know: nothing of the house. It has no tests: a history has nothing that a program could look at. Its
-//! wrong bodies: `edits/`.
+//! It may know: no other crate. It has no tests: a history has nothing that a program could look at. Its wrong
+//! bodies: `edits/`.
 #![tactic(auto)]
 
 ghost use Rattle.std.specs.Prelude.{◌≡◌, ◌∷◌, ◌++◌, []};

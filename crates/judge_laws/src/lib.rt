@@ -1,7 +1,8 @@
-//! Laws of what the bench records: what the standard says of a message, and what bus and monitor make of it.
+//! Laws over all layers: what the bench records of a message without a planned fault is what the standard says is
+//! due, and is clean.
 //!
-//! It may know: terminals, bus and monitor, layouts, the judge. It has no tests: it is laws alone. It has no wrong
-//! bodies.
+//! It may know: words, mode codes, host actions, messages, terminals, the bus, the monitor, bodies, layouts, the
+//! judge. It has no tests: it is laws alone. It has no wrong bodies.
 #![tactic(auto)]
 
 mod laws;

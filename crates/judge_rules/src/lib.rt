@@ -1,7 +1,6 @@
-//! Rules by which a recording is judged: what they are, and the rules that a text spells.
+//! Rules by which a recording is judged: what they are, and the texts that spell them.
 //!
-//! It may know: the numbers and lines of texts, and what a host sets. Its tests: `command_tests`. Its wrong bodies:
-//! `edits/`.
+//! It may know: words, numbers and words of a text. Its tests: `command_tests`. Its wrong bodies: `edits/`.
 #![tactic(auto)]
 
 mod channels;

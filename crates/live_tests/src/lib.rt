@@ -1,7 +1,8 @@
 //! Tests of `bench_live` against worked values: lines that are read and posted, what is told of the others, gates
 //! that wait, and messages that are shown.
 //!
-//! It may know: the public surface.
+//! It may know: the public calls of the crates that it tests and of those below them. It is tests alone, and has no
+//! wrong bodies.
 #![tactic(auto)]
 
 #[cfg(test)]

@@ -2,7 +2,8 @@
 //! another refused while this program makes such a call. With a name on the command line it makes that call and
 //! prints what it came to; with none it prints the names, a line each.
 //!
-//! It may know: the public surface.
+//! It may know: the crates of these calls, and `test_values`. It has no tests: `.ci/memory` runs it. It has no
+//! wrong bodies.
 #![tactic(auto)]
 
 mod benches;

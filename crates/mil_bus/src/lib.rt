@@ -1,6 +1,7 @@
 //! A bus: terminals that hear and answer what a controller sends, and the talks that come of it.
 //!
-//! It may know: messages, lines, host actions, terminals. Its tests: `mil_tests`. Its wrong bodies: `edits/`.
+//! It may know: words, messages, status bits, host actions, gaps and planned faults, terminals, histories. Its
+//! tests: `mil_tests`. Its wrong bodies: `edits/`.
 #![tactic(auto)]
 
 mod addresses;

@@ -1,6 +1,6 @@
-//! What the host of a remote terminal sets: its actions, and the texts that spell them.
+//! What the host of a remote terminal sets: its actions, as values and as text.
 //!
-//! It may know: words, and the numbers and lines of texts. Its tests: `mil_tests`. Its wrong bodies: `edits/`.
+//! It may know: words, numbers and words of a text. Its tests: `mil_tests`. Its wrong bodies: `edits/`.
 #![tactic(auto)]
 
 mod actions;

@@ -1,6 +1,7 @@
-//! What stands between the words of a line, the faults that are planned for messages, and what they make of a run.
+//! What stands between the words of a line, the faults that are planned for messages, and what they make of the
+//! words that one sender sends in a row.
 //!
-//! It may know: words. Its tests: `mil_tests`. Its wrong bodies: `edits/`.
+//! It may know: words, histories. Its tests: `mil_tests`. Its wrong bodies: `edits/`.
 #![tactic(auto)]
 
 mod error;

@@ -1,5 +1,6 @@
 //! The messages of a MIL-STD-1553B data bus: the ten message forms, what the controller sends for each, and which
-//! replies are due (MIL-STD-1553B 4.3.3.6, with Notice 2).
+//! replies are due (MIL-STD-1553B 4.3.3.6, with Notice 2); the abstract world that frames run on, and what a test
+//! asks of an outcome.
 //!
 //! It may know: words, mode codes, status bits. Its tests: `mil_tests`. Its wrong bodies: `edits/`.
 #![tactic(auto)]

@@ -4,7 +4,7 @@
 //! A mode command has subaddress 0 or 31; its code stands in the field of the word count, its direction in the T/R
 //! bit (MIL-STD-1553B 4.3.3.5.1.7). In each function here `transmit` is the T/R bit, and `code` is at most 31.
 //!
-//! It may know: nothing of the house. Its tests: `mil_tests`. Its wrong bodies: `edits/`.
+//! It may know: no other crate. Its tests: `mil_tests`. Its wrong bodies: `edits/`.
 #![tactic(auto)]
 
 pub mod codes;

@@ -1,6 +1,6 @@
 //! What a bus monitor keeps of a message: one record for each message on the bus.
 //!
-//! It may know: the talks of a bus. Its tests: `mil_tests`. Its wrong bodies: `edits/`.
+//! It may know: words, the talks of a bus. Its tests: `mil_tests`. Its wrong bodies: `edits/`.
 #![tactic(auto)]
 
 mod observations;

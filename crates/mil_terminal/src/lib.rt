@@ -1,7 +1,7 @@
-//! A remote terminal of MIL-STD-1553B with Notice 2.
+//! A remote terminal of MIL-STD-1553B with Notice 2; its definitions are queries on its history.
 //!
-//! It may know: words, mode codes, status bits, host actions, lines. Its tests: `mil_tests`. Its wrong bodies:
-//! `edits/`.
+//! It may know: words, mode codes, status bits, host actions, gaps and planned faults, histories. Its tests:
+//! `mil_tests`. Its wrong bodies: `edits/`.
 #![tactic(auto)]
 
 mod addresses;

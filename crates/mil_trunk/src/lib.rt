@@ -1,8 +1,7 @@
 //! One bounded queue that several buses share with one writer: what was sent is what is received, once and in
 //! order.
 //!
-//! It may know: nothing of the house but the kit's `crossbeam_queue`. Its tests: `mil_tests`. Its wrong bodies:
-//! `edits/`.
+//! It may know: no other crate; the kit's `crossbeam_queue`. Its tests: `mil_tests`. Its wrong bodies: `edits/`.
 #![tactic(auto)]
 
 mod error;

@@ -1,7 +1,7 @@
 //! The words of a MIL-STD-1553B data bus: a word and its wave of forty half bits, the fields of command and status
 //! words, and lists of data words.
 //!
-//! It may know: nothing of the house. Its tests: `mil_tests`. Its wrong bodies: `edits/`.
+//! It may know: no other crate. Its tests: `mil_tests`. Its wrong bodies: `edits/`.
 #![tactic(auto)]
 
 mod code;

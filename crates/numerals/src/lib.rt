@@ -1,7 +1,7 @@
-//! Numbers in texts: the value of a digit, the digit of a value, and the number that the digits of a word spell.
-//! Letters are digits of either case.
+//! Numbers in texts, for each reader of one: the value of a digit, the digit of a value, and the number that the
+//! digits of a word spell. Letters are digits of either case.
 //!
-//! It may know: nothing of the house. Its tests: `mil_tests`. Its wrong bodies: `edits/`.
+//! It may know: no other crate. Its tests: `mil_tests`. Its wrong bodies: `edits/`.
 #![tactic(auto)]
 
 ghost use Rattle.numerals.specs.Numerals.{are_digits, digit_of, spelled};

@@ -1,6 +1,7 @@
-//! What the debugger of recordings answers, by worked values.
+//! Tests of `replay`, the debugger of recordings, against worked values.
 //!
-//! It may know: the public surface.
+//! It may know: the public calls of the crates that it tests and of those below them. It is tests alone, and has no
+//! wrong bodies.
 #![tactic(auto)]
 
 #[cfg(test)]

@@ -1,9 +1,10 @@
-//! What `benches/` times, a page for each: the first word of the command line says which, and the others what the
-//! head of its page says. It prints one line of figures, or `no figures` where the words ask for none that can be
-//! had. With the word `small` alone it measures a little of each by a clock that does not go, so that what is
-//! printed is the same each time: all times are 0, and all else is not.
+//! The program that `benches/` times, a page for each. The first word of the command line says which page, and the
+//! others what the head of that page says. It prints one line of figures, or `no figures` where the words ask for
+//! none that can be had. With the word `small` alone it measures a little of each by a clock that does not go, so
+//! that what is printed is the same each time: all times are 0, and all else is not.
 //!
-//! It may know: what it times.
+//! It may know: what it times, and `test_values`. It has no tests: what it prints with `small` is compared with its
+//! file `stdout`. It has no wrong bodies.
 #![tactic(auto)]
 
 mod dump;

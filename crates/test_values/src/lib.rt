@@ -1,8 +1,8 @@
-//! What tests of several crates share: recordings, packets and dumps that are worked out by hand, the item that
-//! they send through a trunk, as `speed` does, and a screen that keeps what is written to it. (Comparisons stand in
-//! each crate of tests, since a function that ends a failed test may stand in no library.)
+//! What tests of several crates share: recordings, texts and small types. Recordings, packets and dumps are worked
+//! out by hand; an item is sent through a trunk, by `speed` too, and a screen keeps what is written to it.
+//! (Comparisons stand in each crate of tests, since a function that ends a failed test may stand in no library.)
 //!
-//! It may know: the trunk.
+//! It may know: the trunk. It has no tests: tests use it. It has no wrong bodies.
 #![tactic(auto)]
 
 mod changes;

@@ -2,7 +2,7 @@
 //! and the lines of a session; and why a text was not written. LF ends a line, and spaces alone part words (own
 //! choice).
 //!
-//! It may know: nothing of the house. Its tests: `mil_tests`. Its wrong bodies: `edits/`.
+//! It may know: no other crate. Its tests: `mil_tests`. Its wrong bodies: `edits/`.
 #![tactic(auto)]
 
 mod fault;
