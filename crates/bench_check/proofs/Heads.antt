@@ -5,13 +5,13 @@ use Rattle.std.specs.Result.{result_ok}
 use Rattle.std.specs.Str.{bytes_eq}
 use Rattle.std.specs.List.{before_first, after_first}
 use Rattle.std.proofs.lemmas.Slice.Eq.{bytes_eq-Decides}
-use Rattle.text_lines.specs.Words.{Text, words}
+use Rattle.text_lines.specs.Words.{Text, words, is_comment}
 use Rattle.frame_tree.specs.Tree.{Tree}
 use Rattle.frame_text.specs.Frames.{tree_of_text}
 use Rattle.frame_text.specs.declared.faults.Cause.{Cause}
 use Rattle.job_file.specs.Options.{◌>>=◌}
 use Rattle.job_file.specs.Numbers.{number_of, number_within, start_of}
-use Rattle.job_file.specs.Lines.{Said, blank, script, channel, start, terminal, action, fault, faults, series, said, said_in, is_comment, keyword_of, of_keyword, fault_word_of, fault_of, first, one, four, front, span_of, series_of, channel_in, start_in, terminal_in, action_in, fault_in, faults_in, series_in}
+use Rattle.job_file.specs.Lines.{Said, blank, script, channel, start, terminal, action, fault, faults, series, said, said_in, keyword_of, of_keyword, fault_word_of, fault_of, first, one, four, front, span_of, series_of, channel_in, start_in, terminal_in, action_in, fault_in, faults_in, series_in}
 use Rattle.job_file.specs.HeadLines.{Head, head_of}
 use Rattle.job_file.specs.Spelled.{ChannelJob, joined_lines, is_script, parted, all_said, lawful, first_of, job_with, job_of, spelled}
 use Rattle.text_lines.specs.Lines.{is_line_end, lines_of}

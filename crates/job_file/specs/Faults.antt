@@ -3,7 +3,7 @@
 use Rattle.std.specs.Prelude.{◌≡◌, ℕ, ◌+◌, nat_lt, Bool, true, false, ◌&&◌, if◌then◌else◌, List, [], ◌∷◌, ◌++◌, length}
 use Rattle.std.specs.Prelude.{map, Option, Some, None, Result, Ok, Err}
 use Rattle.std.specs.Option.{is_some}
-use Rattle.text_lines.specs.Words.{Text, words, has_bytes}
+use Rattle.text_lines.specs.Words.{Text, words, has_bytes, is_comment}
 use Rattle.mil_host.specs.Reading.{in_words}
 use Rattle.mil_host.specs.declared.actions.Action.{Action}
 use Rattle.mil_host.specs.declared.reading.BadAction.{BadAction}
@@ -18,7 +18,7 @@ use Rattle.frame_code.specs.Table.{Code}
 use Rattle.frame_asm.specs.Shapes.{code_of_tree}
 use Rattle.job_file.specs.Lines.{Said, blank, script, channel, start, terminal, action, fault, faults, series}
 use Rattle.job_file.specs.Lines.{keyword_of, fault_word_of, sync_of, first, ended, one, two, three, four, front}
-use Rattle.job_file.specs.Lines.{is_comment, said}
+use Rattle.job_file.specs.Lines.{said}
 use Rattle.job_file.specs.Spans.{span_count, numbers_of}
 use Rattle.job_file.specs.HeadLines.{Head, head_of, has, has_room, is_none_yet, are_lawful}
 use Rattle.job_file.specs.Spelled.{joined_lines, is_script, all_said}

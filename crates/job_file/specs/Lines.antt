@@ -1,7 +1,7 @@
 -- What a line of a job says (own choice): its words, separated by spaces alone.
-use Rattle.std.specs.Prelude.{ℕ, Bool, false, ◌==◌, if◌then◌else◌, List, [], ◌∷◌, Option, Some, None, codes}
+use Rattle.std.specs.Prelude.{ℕ, if◌then◌else◌, List, [], ◌∷◌, Option, Some, None, codes}
 use Rattle.std.specs.Str.{bytes_eq}
-use Rattle.text_lines.specs.Words.{Text, words}
+use Rattle.text_lines.specs.Words.{Text, words, is_comment}
 use Rattle.mil_word.specs.Fields.{highest_address}
 use Rattle.mil_word.specs.declared.Sync.{Sync}
 use Rattle.mil_word.specs.declared.Sync.TheVariants.{CommandSync, DataSync}
@@ -163,11 +163,6 @@ of_keyword keyword.Fault ws = fault_in ws
 of_keyword keyword.Faults ws = faults_in ws
 of_keyword keyword.Series ws = series_in ws
 of_keyword keyword.Script ws = ended ws script
-
--- a word that begins with #
-abbrev pub is_comment : Text → Bool
-is_comment [] = false
-is_comment (b ∷ bs) = b == 35
 
 unfoldable pub said_in : List Text → Option Said
 said_in [] = Some blank

@@ -19,7 +19,7 @@ use crate::spans::{Series, Span};
 use mil_line::Fault;
 use mil_word::Word;
 use mil_word::fields::HIGHEST_ADDRESS;
-use text_lines::next_word;
+use text_lines::{is_comment, next_word};
 
 /// What a line says.
 #[derive(Drop)]
@@ -322,15 +322,6 @@ fn after_keyword(keyword: Keyword, text: &[u8]) -> Result<Entry<'_>, LineFault>
             end(text)?;
             Ok(Entry::Script)
         }
-    }
-}
-
-fn is_comment(word: &[u8]) -> bool
-    ensures { result ≡ lines.is_comment word.now }
-{
-    match word.split_first() {
-        Some((first, _)) => *first == b'#',
-        None => false,
     }
 }
 

@@ -1,8 +1,7 @@
 -- The rule of a line (own choice): `expect`, perhaps a channel, perhaps a line of the bus, a selector and a check.
-use Rattle.std.specs.Prelude.{ℕ, ◌==◌, Bool, true, false, List, [], ◌∷◌, drop, Ok, Err, Option, Some, None, codes}
+use Rattle.std.specs.Prelude.{ℕ, Bool, true, List, [], ◌∷◌, drop, Ok, Err, Option, Some, None, codes}
 use Rattle.std.specs.Prelude.{if◌then◌else◌}
 use Rattle.std.specs.Str.{bytes_eq}
-use Rattle.text_lines.specs.Words.{Text, words}
 use Rattle.judge_rules.specs.declared.fault.RuleFault.TheVariants.{Word}
 use Rattle.judge_rules.specs.declared.rules.Bus.{Bus}
 use Rattle.judge_rules.specs.declared.rules.Bus.TheVariants as bus
@@ -11,7 +10,7 @@ use Rattle.judge_rules.specs.declared.rules.Check.{Check}
 use Rattle.judge_rules.specs.declared.rules.Rule.{Rule}
 use Rattle.judge_rules.specs.Faults.{Read, both, made}
 use Rattle.judge_rules.specs.Values.{number_in}
-use Rattle.text_lines.specs.Words.{begins_with}
+use Rattle.text_lines.specs.Words.{Text, words, begins_with, is_comment}
 use Rattle.judge_rules.specs.Selectors.{selector_in, behind_selector}
 use Rattle.judge_rules.specs.Checks.{check_in}
 
@@ -55,10 +54,6 @@ unfoldable pub rule_in : ℕ → List Text → Read Rule
 rule_in line rest = if begins_with (codes "expect") rest then rule_behind line (drop 1 rest) else Err Word
 
 -- a line without words, or one whose first begins with `#`
-abbrev pub is_comment : Text → Bool
-is_comment [] = false
-is_comment (b ∷ bs) = b == 35
-
 abbrev pub has_no_rule : List Text → Bool
 has_no_rule [] = true
 has_no_rule (word ∷ rest) = is_comment word

@@ -7,14 +7,14 @@ use crate::checks::read_check;
 use crate::fault::{RuleFault, both};
 use crate::rules::Rule;
 use crate::selectors::read_selector;
-use text_lines::{Words, next_word};
+use text_lines::{Words, is_comment, next_word};
 
 /// Whether a line is passed over: it has no words, or its first begins with `#`.
 fn is_passed_over(text: &[u8]) -> bool
     ensures { result ≡ spec.is_passed_over text.now }
 {
     match next_word(text) {
-        Some((word, _)) => word.first() == Some(&b'#'),
+        Some((word, _)) => is_comment(word),
         None => true,
     }
 }

@@ -29,6 +29,11 @@ first_word line = before_first is_space (from_word line)
 abbrev pub behind_word : Text → Text
 behind_word line = after_first is_space (from_word line)
 
+-- a word that begins with `#`
+abbrev pub is_comment : Text → Bool
+is_comment [] = false
+is_comment (b ∷ bs) = b == 35
+
 -- whether the first of some words is this one
 abbrev pub begins_with : Text → List Text → Bool
 begins_with keyword [] = false

@@ -12,4 +12,4 @@ mod words;
 
 pub use fault::WriteFault;
 pub use lines::{next_line, split_line, without_end};
-pub use words::{Words, from_word, meaning, next_word, split_word};
+pub use words::{Words, from_word, is_comment, meaning, next_word, split_word};

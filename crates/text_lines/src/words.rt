@@ -1,7 +1,7 @@
 //! The words of a text, one after the other.
 ghost use Rattle.std.specs.Option.{option_copied};
 ghost use Rattle.std.specs.Prelude.{◌≡◌, [], ◌∷◌, drop, slice_get, MatchOption, if◌then◌else◌, map};
-ghost use Rattle.text_lines.specs.Words.{begins_with, behind_word, first_word, from_word, meaning, words};
+ghost use Rattle.text_lines.specs.Words.{begins_with, behind_word, first_word, from_word, is_comment, meaning, words};
 
 use crate::parting::{len_before, split_before};
 use std::marker::Model;
@@ -71,6 +71,13 @@ pub fn next_word(text: &[u8]) -> Option<(&[u8], &[u8])>
         return None;
     }
     Some(text.split_at(len_before(text, b' ')))
+}
+
+/// Whether a word begins a comment: with `#`.
+pub fn is_comment(word: &[u8]) -> bool
+    ensures { result ≡ is_comment word.now }
+{
+    word.first() == Some(&b'#')
 }
 
 /// What stands beside the first of these words that is this one; none where none of them is.

@@ -1,7 +1,7 @@
 //! Lines of texts and words of lines, worked out by hand: LF ends a line, and spaces alone part words.
 use crate::tests::equal::same_in;
 use std::process::Abort;
-use text_lines::{Words, next_line, next_word, split_line, split_word, without_end};
+use text_lines::{Words, is_comment, next_line, next_word, split_line, split_word, without_end};
 
 /// What is found at the front of a text, and what stands behind that.
 type Parted = (&'static [u8], &'static [u8]);
@@ -32,6 +32,9 @@ const SPLITS: &[(&str, Parted)] = &[
     ("", (b"", b"")),
 ];
 
+/// A word, and whether it begins a comment.
+const COMMENTS: &[(&str, bool)] = &[("#", true), ("#one", true), ("one#", false), ("", false)];
+
 #[test]
 fn lines_end_with_line_feeds(rt: HostRuntime) {
     for (text, wanted) in LINES {
@@ -55,6 +58,13 @@ fn spaces_part_words(rt: HostRuntime) {
         same_in(&rt, line, &split_word(line.as_bytes()), wanted);
     }
     are_taken_one_by_one(&rt);
+}
+
+#[test]
+fn comments_begin_with_a_hash(rt: HostRuntime) {
+    for (word, wanted) in COMMENTS {
+        same_in(&rt, word, &is_comment(word.as_bytes()), wanted);
+    }
 }
 
 /// Words of a line are taken one by one.
