@@ -65,11 +65,6 @@ abbrev pub is_word : List ℕ → Bool
 is_word [] = false
 is_word (b ∷ bs) = in_word b
 
--- what stands beside the first of these words that is this one; else what is given for none
-abbrev pub beside : {X : Type 0} → X → List (List ℕ × X) → List ℕ → X
-beside none [] w = none
-beside none ((v, x) ∷ rows) w = if same_bytes w v then x else beside none rows w
-
 -- the brackets { } ( ) [ ]
 abbrev pub is_bracket : List ℕ → Bool
 is_bracket w =

@@ -5,7 +5,7 @@ ghost use Rattle.frame_text.specs.Frames as frames;
 ghost use Rattle.frame_text.specs.Messages as messages;
 ghost use Rattle.frame_text.specs.Reading as reading;
 ghost use Rattle.frame_text.specs.Tokens as tokens_of;
-ghost use Rattle.std.specs.Prelude.{◌≡◌, map};
+ghost use Rattle.std.specs.Prelude.{◌≡◌};
 
 use crate::faults::Cause;
 use ConditionWord::{All, Any, Bit, Fail, NoCondition, Not, Silent};
@@ -14,6 +14,7 @@ use MessageWord::{
     Mode, ModeAll, ModeZero, ModeZeroAll, NoMessage, Receive, ReceiveAll, Transfer, TransferAll,
     Transmit,
 };
+use text_lines::meaning;
 
 /// The word that a message begins with.
 #[derive(Clone, Copy)]
@@ -102,22 +103,6 @@ fn is_bracket(word: &[u8]) -> bool
         || is(word, b"]")
 }
 
-// What stands beside the first of these words that is this one; else what is given for none.
-fn beside<T: Copy>(none: T, rows: &[(&[u8], T)], word: &[u8]) -> T
-    ensures { result ≡ reading.beside none (map (λ row. (row.0.now, row.1)) rows.now) word.now }
-{
-    match rows.split_first() {
-        None => none,
-        Some((first, rest)) => {
-            if is(word, first.0) {
-                first.1
-            } else {
-                beside(none, rest, word)
-            }
-        }
-    }
-}
-
 // What each of these words is at the beginning of a message.
 const MESSAGE_WORDS: [(&[u8], MessageWord); 9] = [
     (b"rx", Receive),
@@ -158,7 +143,7 @@ const FRAME_WORDS: [(&[u8], FrameWord); 8] = [
 pub fn message_word(word: &[u8]) -> MessageWord
     ensures { result ≡ messages.message_word word.now }
 {
-    beside(NoMessage, &MESSAGE_WORDS, word)
+    meaning(&MESSAGE_WORDS, word).unwrap_or(NoMessage)
 }
 
 /// What a condition may begin with.
@@ -166,7 +151,7 @@ pub fn message_word(word: &[u8]) -> MessageWord
 pub fn condition_word(word: &[u8]) -> ConditionWord
     ensures { result ≡ conditions.condition_word word.now }
 {
-    beside(NoCondition, &CONDITION_WORDS, word)
+    meaning(&CONDITION_WORDS, word).unwrap_or(NoCondition)
 }
 
 /// What a frame may begin with.
@@ -174,5 +159,5 @@ pub fn condition_word(word: &[u8]) -> ConditionWord
 pub fn frame_word(word: &[u8]) -> FrameWord
     ensures { result ≡ frames.frame_word word.now }
 {
-    beside(NoFrame, &FRAME_WORDS, word)
+    meaning(&FRAME_WORDS, word).unwrap_or(NoFrame)
 }
