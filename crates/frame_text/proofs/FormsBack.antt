@@ -16,7 +16,8 @@ use Rattle.mil_message.proofs.Checked.{head_met, middle_met, checked-request_for
 use Rattle.frame_text.specs.Reading.{Tokens, ◌>>=◌, same_bytes, past}
 use Rattle.frame_text.specs.Words.{number_at, words_at, counted, bracketed_at, optional_at, spelled}
 use Rattle.frame_text.specs.Messages.{line_at, message_at, message_of, message_word, made, judged_request, send_at, receive_at, transmit_at, transfer_at, mode_at, receive_all_at, transfer_all_at, mode_all_at}
-use Rattle.frame_text.specs.PrintedMessages.{data_word_text, line_text}
+use Rattle.mil_word.specs.Printing.{line_text}
+use Rattle.frame_text.specs.PrintedMessages.{data_word_text}
 use Rattle.frame_text.proofs.Tables.{pick}
 use Rattle.frame_text.proofs.Digits.{number_back, data_word_back}
 use Rattle.frame_text.specs.Chains.{AreWords, IsReadable}

@@ -14,7 +14,8 @@ use Rattle.mil_message.specs.Rules.{IsLawful, first_fault, is_address, is_subadd
 use Rattle.mil_message.proofs.Checked.{head_met, second_met, middle_met, third_met, four_met}
 use Rattle.frame_text.specs.Reading.{Tokens, same_bytes}
 use Rattle.frame_text.specs.Chains.{IsReadable}
-use Rattle.frame_text.specs.PrintedMessages.{line_text, mode_text, mode_all_text, message_text, send_text}
+use Rattle.mil_word.specs.Printing.{line_text}
+use Rattle.frame_text.specs.PrintedMessages.{mode_text, mode_all_text, message_text, send_text}
 use Rattle.frame_text.proofs.Spelling.{Spells, brackets_then, brackets_spell, number_spells, word_spells, spaced_spells}
 
 abbrev pub Small : ℕ → Type 0

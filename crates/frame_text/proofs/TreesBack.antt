@@ -11,7 +11,7 @@ use Rattle.mil_message.specs.declared.forms.Form.TheVariants.{ToTerminal, FromTe
 use Rattle.frame_tree.specs.Tree.{Condition, Tree, send, retry, gap, repeat, choose, until, timed, nothing, chained, call, define}
 use Rattle.frame_tree.specs.Bounds.{IsInRange}
 use Rattle.frame_text.specs.Reading.{Tokens, same_bytes}
-use Rattle.frame_text.specs.PrintedMessages.{line_text}
+use Rattle.mil_word.specs.Printing.{line_text}
 use Rattle.frame_text.specs.Printing.{lines, is_empty, block_text, else_text}
 use Rattle.frame_text.proofs.Spelling.{Spells, SpellsLines, word_spells, number_spells, spaced_lines, line_spells, indent_spells, lines_spell, no_lines, block_spells, words_then}
 use Rattle.frame_text.specs.Chains.{IsRead, IsScript}

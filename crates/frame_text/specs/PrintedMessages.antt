@@ -1,8 +1,8 @@
 -- The text that a message is printed as: words with one space between them (own choice).
 use Rattle.std.specs.Prelude.{ℕ, ◌/◌, ◌%◌, List, [], ◌∷◌, ◌++◌, map, Bool, true, false, codes, decimal}
-use Rattle.std.specs.Fmt.{digit_glyph}
+use Rattle.numerals.specs.Numerals.{byte_text}
 use Rattle.mil_word.specs.declared.Line.{Line}
-use Rattle.mil_word.specs.declared.Line.TheVariants.{A, B}
+use Rattle.mil_word.specs.Printing.{line_text}
 use Rattle.mil_message.specs.declared.drafts.ModeSubaddress.{ModeSubaddress}
 use Rattle.mil_message.specs.declared.drafts.ModeSubaddress.TheVariants.{Zero, ThirtyOne}
 use Rattle.mil_message.specs.declared.forms.Form.{Form}
@@ -15,10 +15,6 @@ spaced [] = []
 spaced (w ∷ []) = w
 spaced (w ∷ v ∷ ws) = w ++ (codes " " ++ spaced (v ∷ ws))
 
--- a byte as two hexadecimal digits, in upper case
-abbrev byte_text : ℕ → List ℕ
-byte_text b = digit_glyph true (b / 16) ∷ digit_glyph true (b % 16) ∷ []
-
 -- a data word as four hexadecimal digits
 abbrev pub data_word_text : ℕ → List ℕ
 data_word_text w = byte_text (w / 256) ++ byte_text (w % 256)
@@ -26,10 +22,6 @@ data_word_text w = byte_text (w / 256) ++ byte_text (w % 256)
 -- data words in their brackets
 abbrev pub bracketed_text : List ℕ → List ℕ
 bracketed_text ws = codes "[" ++ (spaced (map data_word_text ws) ++ codes "]")
-
-abbrev pub line_text : Line → List ℕ
-line_text A = codes "A"
-line_text B = codes "B"
 
 -- the word of a mode command to one terminal, and to all
 abbrev pub mode_text : ModeSubaddress → List ℕ

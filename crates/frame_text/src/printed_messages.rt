@@ -1,6 +1,7 @@
 //! Messages as text.
 
 ghost use Rattle.frame_text.specs.PrintedMessages as texts;
+ghost use Rattle.mil_word.specs.Printing.{line_text};
 ghost use Rattle.std.specs.Prelude.{◌≡◌, ◌++◌, ◌∷◌, [], OnOk, string_bytes, true};
 
 use mil_message::{Form, Message, ModeSubaddress};
@@ -9,7 +10,7 @@ use std::alloc::AllocError;
 use std::fmt::Write;
 
 fn line_word(line: Line) -> &'static str
-    ensures { result.now ≡ texts.line_text line }
+    ensures { result.now ≡ line_text line }
 {
     match line {
         Line::A => "A",

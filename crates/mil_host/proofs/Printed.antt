@@ -6,7 +6,8 @@ use Rattle.std.specs.List.{flat_map}
 use Rattle.std.proofs.lemmas.Fmt.{hex_byte}
 use Rattle.std.proofs.lemmas.List.Folds.{flat_map-map}
 use Rattle.mil_host.specs.Values.{PutUp}
-use Rattle.mil_host.specs.Printing.{byte_text, data_text, spaced_word, spaced_data, action_text}
+use Rattle.numerals.specs.Numerals.{byte_text}
+use Rattle.mil_host.specs.Printing.{data_text, spaced_word, spaced_data, action_text}
 use Rattle.mil_host.specs.declared.actions.Action.TheVariants.{Transmit}
 
 -- a byte in two hexadecimal digits

@@ -14,7 +14,8 @@ use Rattle.mil_word.specs.declared.Line.TheVariants.{A, B}
 use Rattle.mil_host.specs.Values.{PutUp, Marked}
 use Rattle.text_lines.specs.Words.{Text, has_bytes}
 use Rattle.mil_host.specs.Reading.{action_in, in_words, of_word, name_of, number_of, data_of, value_or_fault, all_data, only_switch, only_line_switch, only_mark}
-use Rattle.mil_host.specs.Printing.{action_text, action_words, data_text, switch_text, line_text, direction_text, mark_words}
+use Rattle.mil_word.specs.Printing.{line_text}
+use Rattle.mil_host.specs.Printing.{action_text, action_words, data_text, switch_text, direction_text, mark_words}
 use Rattle.mil_host.specs.Ranges.{IsInRange, IsPutUp, IsMark}
 use Rattle.mil_host.specs.declared.actions.Action.{Action}
 use Rattle.mil_host.specs.declared.actions.Action.TheVariants.{Transmit, Busy, Service, Subsystem, Fault, Control, Vector, SelfTest, Illegal, Legal, Response, Deaf, Mute}

@@ -1,10 +1,9 @@
 -- The text of an action: its words with single spaces between them, numbers without leading zeros, data words as four
 -- upper-case hexadecimal digits (own choice).
 use Rattle.std.specs.Prelude.{ℕ, Bool, true, false, ◌/◌, ◌%◌, List, [], ◌∷◌, ◌++◌, map, codes, decimal}
-use Rattle.std.specs.Fmt.{digit_glyph}
 use Rattle.std.specs.List.{flat_map}
-use Rattle.mil_word.specs.declared.Line.{Line}
-use Rattle.mil_word.specs.declared.Line.TheVariants.{A, B}
+use Rattle.numerals.specs.Numerals.{byte_text}
+use Rattle.mil_word.specs.Printing.{line_text}
 use Rattle.mil_host.specs.Values.{Marked}
 use Rattle.text_lines.specs.Words.{Text}
 use Rattle.mil_host.specs.declared.reading.BadAction.{BadAction}
@@ -13,10 +12,6 @@ use Rattle.mil_host.specs.declared.actions.Action.{Action}
 use Rattle.mil_host.specs.declared.actions.Action.TheVariants.{Transmit, Busy, Service, Subsystem, Fault, Control}
 use Rattle.mil_host.specs.declared.actions.Action.TheVariants.{Vector, SelfTest, Illegal, Legal, Response, Deaf, Mute}
 
--- two hexadecimal digits
-abbrev pub byte_text : ℕ → Text
-byte_text byte = digit_glyph true (byte / 16) ∷ digit_glyph true (byte % 16) ∷ []
-
 -- a data word
 abbrev pub data_text : ℕ → Text
 data_text value = byte_text (value / 256) ++ byte_text (value % 256)
@@ -24,10 +19,6 @@ data_text value = byte_text (value / 256) ++ byte_text (value % 256)
 abbrev pub switch_text : Bool → Text
 switch_text true = codes "on"
 switch_text false = codes "off"
-
-abbrev pub line_text : Line → Text
-line_text A = codes "A"
-line_text B = codes "B"
 
 abbrev pub direction_text : Bool → Text
 direction_text true = codes "transmit"

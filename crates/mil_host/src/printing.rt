@@ -1,6 +1,7 @@
 //! The text of an action, and the code of a fault in such a text.
-ghost use Rattle.mil_host.specs.Printing.{action_text, switch_text, direction_text, line_text, fault_code, mark_words};
+ghost use Rattle.mil_host.specs.Printing.{action_text, switch_text, direction_text, fault_code, mark_words};
 ghost use Rattle.mil_host.specs.Printing.{spaced};
+ghost use Rattle.mil_word.specs.Printing.{line_text};
 ghost use Rattle.std.specs.Prelude.{◌≡◌, Some};
 
 use crate::actions::Action;

@@ -3,3 +3,4 @@ pub mod Words
 pub mod Fields
 pub mod Timing
 pub mod Kept
+pub mod Printing

@@ -1,5 +1,7 @@
 -- The numbers that words spell. A letter of either case is a digit: `a` and `A` are ten (own choice).
-use Rattle.std.specs.Prelude.{ℕ, ◌+◌, Bool, ◌&&◌, nat_lt, nat_le, if◌then◌else◌, List, length, Option, Some, None}
+use Rattle.std.specs.Prelude.{ℕ, ◌+◌, ◌/◌, ◌%◌, Bool, true, ◌&&◌, nat_lt, nat_le, if◌then◌else◌, List, [], ◌∷◌, length}
+use Rattle.std.specs.Prelude.{Option, Some, None}
+use Rattle.std.specs.Fmt.{digit_glyph}
 use Rattle.std.specs.List.{list_all}
 use Rattle.std.specs.Char.{digit_value}
 use Rattle.std.specs.Str.Parse.{digits_value}
@@ -17,3 +19,7 @@ spelled base least most word =
 -- the upper-case hexadecimal digit of a value
 abbrev pub digit_of : ℕ → ℕ
 digit_of value = if nat_lt value 10 then 48 + value else 55 + value
+
+-- a byte as two hexadecimal digits, in upper case
+abbrev pub byte_text : ℕ → List ℕ
+byte_text byte = digit_glyph true (byte / 16) ∷ digit_glyph true (byte % 16) ∷ []
