@@ -1,6 +1,7 @@
 -- Placed actions as rows: what a row stands for, beside the list of data words that do not fit into one.
 use Rattle.std.specs.Prelude.{◌≡◌, ℕ, ◌<◌, ◌≤◌, ◌==◌, List, [], ◌∷◌, ◌++◌, map, length, slice_index_or}
 use Rattle.std.specs.List.{filter}
+use Rattle.mil_word.specs.Fields.{highest_put_up}
 use Rattle.mil_host.specs.Values.{PutUp}
 use Rattle.mil_host.specs.declared.actions.Action.{Action}
 use Rattle.mil_host.specs.declared.actions.Action.TheVariants as host
@@ -32,7 +33,7 @@ action_of words (kept.Mute line on) = host.Mute line on
 
 -- a subaddress of 1 to 29, or a place below this one
 abbrev pub IsKeptAction : ℕ → Kept → Type 0
-IsKeptAction count (kept.Word sub word) = (1 ≤ sub) × (sub ≤ 29)
+IsKeptAction count (kept.Word sub word) = (1 ≤ sub) × (sub ≤ highest_put_up)
 IsKeptAction count (kept.Words place) = place < count
 IsKeptAction count _ = Unit {0}
 

@@ -1,7 +1,7 @@
 -- What an entry says.
 use Rattle.std.specs.Prelude.{◌≤◌}
 use Rattle.text_lines.specs.Words.{words}
-use Rattle.mil_word.specs.Fields.{highest_address}
+use Rattle.mil_word.specs.Fields.{highest_address, highest_put_up}
 use Rattle.job_file.specs.Lines.{Said, blank, script, channel, start, terminal, action, fault, faults, series}
 use Rattle.job_file.specs.Spans.{IsSpan}
 use Rattle.job_file.specs.declared.lines.Entry.{Entry}
@@ -28,4 +28,4 @@ IsInRange (terminal n) = n ≤ highest_address
 IsInRange (action number address text) = (1 ≤ number) × (number ≤ 1000000) × (address ≤ highest_address)
 IsInRange (fault number f) = Unit {0}
 IsInRange (faults span f) = IsSpan span
-IsInRange (series s) = IsSpan s.span × (s.address ≤ highest_address) × (1 ≤ s.sub) × (s.sub ≤ 29)
+IsInRange (series s) = IsSpan s.span × (s.address ≤ highest_address) × (1 ≤ s.sub) × (s.sub ≤ highest_put_up)

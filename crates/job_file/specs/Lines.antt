@@ -2,7 +2,7 @@
 use Rattle.std.specs.Prelude.{ℕ, if◌then◌else◌, List, [], ◌∷◌, Option, Some, None, codes}
 use Rattle.std.specs.Str.{bytes_eq}
 use Rattle.text_lines.specs.Words.{Text, words, is_comment}
-use Rattle.mil_word.specs.Fields.{highest_address}
+use Rattle.mil_word.specs.Fields.{highest_address, highest_put_up}
 use Rattle.mil_word.specs.declared.Sync.{Sync}
 use Rattle.mil_word.specs.declared.Sync.TheVariants.{CommandSync, DataSync}
 use Rattle.mil_line.specs.declared.faults.Fault.{Fault}
@@ -146,7 +146,7 @@ faults_in ws =
 -- `ADDRESS SUB START ADD` of these messages
 unfoldable pub series_of : Span → Text × Text × Text × Text → Option Series
 series_of span w =
-    number_within 0 highest_address w.0 >>= (λ address. number_within 1 29 w.1 >>=
+    number_within 0 highest_address w.0 >>= (λ address. number_within 1 highest_put_up w.1 >>=
     (λ sub. data_word_of w.2 >>= (λ begin. data_word_of w.3 >>= (λ add.
     Some (record { span = span; address = address; sub = sub; start = begin; add = add })))))
 

@@ -18,7 +18,7 @@ use crate::numbers::{data_word, half_bits, number, number_within, start_tick};
 use crate::spans::{Series, Span};
 use mil_line::Fault;
 use mil_word::Word;
-use mil_word::fields::HIGHEST_ADDRESS;
+use mil_word::fields::{HIGHEST_ADDRESS, HIGHEST_PUT_UP};
 use text_lines::{is_comment, next_word};
 
 /// What a line says.
@@ -292,7 +292,7 @@ fn series(text: &[u8]) -> Result<Series, LineFault>
     Ok(Series {
         span,
         address: number_within(address, 0, u32::from(HIGHEST_ADDRESS))? as u8,
-        sub: number_within(sub, 1, 29)? as u8,
+        sub: number_within(sub, 1, u32::from(HIGHEST_PUT_UP))? as u8,
         start: data_word(start)?,
         add: data_word(add)?,
     })

@@ -1,5 +1,6 @@
 //! Lines that speak of many messages, and what a series places at them.
 ghost use Rattle.job_file.specs.Spans.{IsSpan, span_count, span_number, word_at, placed_at};
+ghost use Rattle.mil_word.specs.Fields.{highest_put_up};
 ghost use Rattle.std.specs.Prelude.{◌≡◌, ◌<◌, ◌≤◌};
 
 use arrayvec::ArrayVec;
@@ -63,7 +64,7 @@ impl Series {
         requires span { IsSpan self.now.span }
         requires before { before < span_count self.now.span }
         requires low { 1 ≤ self.now.sub }
-        requires high { self.now.sub ≤ 29 }
+        requires high { self.now.sub ≤ highest_put_up }
         ensures { result ≡ placed_at self.now before }
     {
         let mut words = ArrayVec::new();

@@ -1,7 +1,7 @@
 -- The ranges of an action's values.
 use Rattle.std.specs.Prelude.{◌≤◌, ◌<◌, length, All}
 use Rattle.mil_word.specs.Timing.{least_response, latest_response}
-use Rattle.mil_word.specs.Fields.{highest_subaddress, most_words}
+use Rattle.mil_word.specs.Fields.{highest_put_up, highest_subaddress, most_words}
 use Rattle.mil_host.specs.Values.{PutUp, Marked}
 use Rattle.mil_host.specs.declared.actions.Action.{Action}
 use Rattle.mil_host.specs.declared.actions.Action.TheVariants.{Transmit, Busy, Service, Subsystem, Fault, Control}
@@ -10,7 +10,7 @@ use Rattle.mil_host.specs.declared.actions.Action.TheVariants.{Vector, SelfTest,
 -- a subaddress of 1 to 29, and 1 to 32 data words of 16 bits
 pub record IsPutUp (put : PutUp) : Type 0 where
   pub sub_low : 1 ≤ put.sub
-  pub sub_high : put.sub ≤ 29
+  pub sub_high : put.sub ≤ highest_put_up
   pub some : 1 ≤ length put.words
   pub few : length put.words ≤ most_words
   pub of_16_bits : All (λ w. w < 65536) put.words

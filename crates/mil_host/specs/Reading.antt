@@ -7,7 +7,7 @@ use Rattle.numerals.specs.Numerals.{spelled}
 use Rattle.mil_word.specs.declared.Line.{Line}
 use Rattle.mil_word.specs.declared.Line.TheVariants.{A, B}
 use Rattle.mil_word.specs.Timing.{least_response, latest_response}
-use Rattle.mil_word.specs.Fields.{highest_subaddress, most_words}
+use Rattle.mil_word.specs.Fields.{highest_put_up, highest_subaddress, most_words}
 use Rattle.mil_host.specs.Values.{PutUp, Marked}
 use Rattle.text_lines.specs.Words.{Text, words}
 use Rattle.mil_host.specs.declared.reading.BadAction.{BadAction}
@@ -110,7 +110,7 @@ only_ticks rest = and_then (number_in least_response latest_response rest) (λ t
 -- a subaddress of 1 to 29, and 1 to 32 data words
 abbrev pub only_words : List Text → Read PutUp
 only_words rest =
-    and_then (number_in 1 29 rest) (λ sub.
+    and_then (number_in 1 highest_put_up rest) (λ sub.
     and_then (some_data (drop 1 rest)) (λ values.
     Ok (record { sub = sub; words = values })))
 

@@ -9,7 +9,7 @@ use crate::names::{Name, name_in};
 use crate::values::{Mark, ResponseGap, TransmitWords};
 use arrayvec::ArrayVec;
 use mil_word::Line;
-use mil_word::fields::{HIGHEST_SUBADDRESS, MOST_WORDS};
+use mil_word::fields::{HIGHEST_PUT_UP, HIGHEST_SUBADDRESS, MOST_WORDS};
 use mil_word::timing::{LATEST_RESPONSE, LEAST_RESPONSE};
 use numerals::spelled;
 use text_lines::Words;
@@ -196,7 +196,7 @@ fn read_all_data(words: &mut Words<'_>) -> Result<ArrayVec<u16, 32>, BadAction>
 fn read_only_words(words: &mut Words<'_>) -> Result<TransmitWords, BadAction>
     ensures { result ≡ only_words words.old }
 {
-    let sub = read_number(words, 1, 29)?;
+    let sub = read_number(words, 1, HIGHEST_PUT_UP)?;
     let values = read_all_data(words)?;
     Ok(TransmitWords::make(sub, values))
 }

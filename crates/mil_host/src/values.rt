@@ -1,6 +1,6 @@
 //! The values of an action that keep their ranges.
 ghost use Rattle.mil_host.specs.Ranges.{IsPutUp, IsMark};
-ghost use Rattle.mil_word.specs.Fields.{highest_subaddress, most_words};
+ghost use Rattle.mil_word.specs.Fields.{highest_put_up, highest_subaddress, most_words};
 ghost use Rattle.mil_word.specs.Timing.{least_response, latest_response};
 ghost use Rattle.std.specs.Prelude.{◌≡◌, ◌≤◌, ◌<◌, length, All};
 
@@ -18,14 +18,14 @@ pub struct TransmitWords {
 
 impl Model for TransmitWords {
     ghost use Rattle.mil_host.specs.Values.{PutUp};
-    ghost use Rattle.mil_word.specs.Fields.{most_words};
+    ghost use Rattle.mil_word.specs.Fields.{highest_put_up, most_words};
     ghost use Rattle.std.specs.Prelude.{◌≤◌, length};
 
     ghost Value = { PutUp };
 
     ghost view = { λ w. record { sub = w.place; words = w.words.items } };
 
-    ghost invariant = { λ w. (1 ≤ w.place) × (w.place ≤ 29) × (1 ≤ length w.words.items)
+    ghost invariant = { λ w. (1 ≤ w.place) × (w.place ≤ highest_put_up) × (1 ≤ length w.words.items)
         × (length w.words.items ≤ most_words) };
 }
 
@@ -33,7 +33,7 @@ impl TransmitWords {
     /// The words for a subaddress.
     pub fn make(sub: u8, words: ArrayVec<u16, 32>) -> TransmitWords
         requires low { 1 ≤ sub }
-        requires high { sub ≤ 29 }
+        requires high { sub ≤ highest_put_up }
         requires some { 1 ≤ length words.items }
         ensures { result ≡ record { sub = sub; words = words.items } }
     {
@@ -45,7 +45,7 @@ impl TransmitWords {
     pub fn sub(&self) -> u8
         ensures value { result ≡ self.now.sub }
         ensures low { 1 ≤ result }
-        ensures high { result ≤ 29 }
+        ensures high { result ≤ highest_put_up }
     {
         self.place
     }

@@ -62,6 +62,10 @@ highest_subaddress = 30
 abbrev pub wrap_around : ℕ
 wrap_around = 30
 
+-- the highest subaddress that a host puts words up for: the one below that which wraps around (own choice)
+abbrev pub highest_put_up : ℕ
+highest_put_up = 29
+
 -- a command to receive data words at a subaddress
 abbrev pub is_receive : ℕ → Bool
 is_receive command = not (is_mode command) && not (is_transmit command)

@@ -17,5 +17,8 @@ pub const MODE_SUBADDRESS_OF_ONES: u8 = 31;
 /// The subaddress that wraps around: a transmit command there sends what was received there (Notice 2).
 pub const WRAP_AROUND: u8 = 30;
 
+/// The highest subaddress that a host puts words up for: the one below that which wraps around (own choice).
+pub const HIGHEST_PUT_UP: u8 = 29;
+
 /// The highest subaddress for data.
 pub const HIGHEST_SUBADDRESS: u8 = 30;
