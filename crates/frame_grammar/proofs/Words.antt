@@ -5,7 +5,8 @@ use Rattle.std.proofs.lemmas.Bool.{le-leb, eqb-true}
 use Rattle.std.proofs.lemmas.List.{take_all}
 use Rattle.numerals.specs.Numerals as numerals
 use Rattle.frame_text.specs.Reading.{Tokens, ◌>>=◌, same_bytes, past}
-use Rattle.frame_text.specs.Words.{number_at, number_of, number_within, period_at, words_at, counted, bracketed_at, optional_at, spelled, data_word_of}
+use Rattle.numerals.specs.Numerals.{number_of, data_word_of}
+use Rattle.frame_text.specs.Words.{number_at, number_within, period_at, words_at, counted, bracketed_at, optional_at, spelled}
 use Rattle.frame_text.specs.declared.faults.Cause.{Cause}
 use Rattle.frame_text.specs.declared.faults.Cause.TheVariants as cause
 use Rattle.frame_text.proofs.Soundness.{bind_ok, ok_is, both_true}

@@ -1,7 +1,7 @@
 -- Braces, numbers and data words of the grammar of scripts (own choice).
 use Rattle.std.specs.Prelude.{◌≡◌, ℕ, ◌≤◌, List, [], ◌∷◌, ◌++◌, Option, Some, None, codes}
 use Rattle.frame_text.specs.Reading.{Tokens}
-use Rattle.frame_text.specs.Words.{number_of, data_word_of}
+use Rattle.numerals.specs.Numerals.{number_of, data_word_of}
 
 -- tokens in braces
 abbrev pub braces : Tokens → Tokens

@@ -6,7 +6,7 @@ use Rattle.std.proofs.lemmas.Bool.Decides.{nat_tests}
 use Rattle.std.proofs.lemmas.Fmt.{decimal_by_steps}
 use Rattle.numerals.proofs.Back.{decimal_back, four_back}
 use Rattle.frame_text.specs.Tokens.{in_word}
-use Rattle.frame_text.specs.Words.{number_of, data_word_of}
+use Rattle.numerals.specs.Numerals.{number_of, data_word_of}
 use Rattle.frame_text.specs.PrintedMessages.{data_word_text}
 use Rattle.frame_text.proofs.Tables.{pick}
 

@@ -13,7 +13,8 @@ use Rattle.mil_message.specs.Rules.{checked, form_of, mode_word}
 use Rattle.mil_message.proofs.Checked.{lawful-checked}
 use Rattle.numerals.proofs.Back.{spelled_below}
 use Rattle.frame_text.specs.Reading.{Tokens, ◌>>=◌, same_bytes, past}
-use Rattle.frame_text.specs.Words.{data_word_of, spelled, number_at, words_at, counted, bracketed_at, optional_at}
+use Rattle.numerals.specs.Numerals.{data_word_of}
+use Rattle.frame_text.specs.Words.{spelled, number_at, words_at, counted, bracketed_at, optional_at}
 use Rattle.frame_text.specs.Messages.{line_at, message_at, message_of, message_word, made, judged_request, send_at, receive_at, transmit_at, transfer_at, mode_at, receive_all_at, transfer_all_at, mode_all_at}
 use Rattle.frame_text.specs.declared.keywords.MessageWord.{MessageWord}
 use Rattle.frame_text.specs.declared.keywords.MessageWord.TheVariants as key

@@ -5,7 +5,8 @@ use Rattle.std.specs.Prelude.{codes}
 use Rattle.frame_text.specs.Reading.{Tokens, TokenReading, ◌>>=◌, same_bytes, FailsReadingTokens, IsCause}
 use Rattle.frame_text.specs.declared.faults.Fault.{Fault}
 use Rattle.frame_text.specs.declared.faults.Fault.TheVariants as fault
-use Rattle.frame_text.specs.Words.{words_at, counted, data_word_of, spelled, unspelled}
+use Rattle.numerals.specs.Numerals.{data_word_of}
+use Rattle.frame_text.specs.Words.{words_at, counted, spelled, unspelled}
 use Rattle.frame_text.specs.declared.faults.Cause.{Cause}
 use Rattle.frame_text.specs.declared.faults.Cause.TheVariants as cause
 

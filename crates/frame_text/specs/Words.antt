@@ -1,18 +1,10 @@
 -- Numbers, periods and data words.
 use Rattle.std.specs.Prelude.{ℕ, ◌/◌, ◌%◌, nat_eq, nat_le, ◌&&◌, if◌then◌else◌, List, [], ◌∷◌, take, Option, Some, None}
 use Rattle.std.specs.Prelude.{Result, Ok, Err, codes}
-use Rattle.numerals.specs.Numerals as numerals
+use Rattle.numerals.specs.Numerals.{number_of, data_word_of}
 use Rattle.frame_text.specs.Reading.{Tokens, TokenReading, ◌>>=◌, same_bytes, is_word, misplaced, past}
 use Rattle.frame_text.specs.declared.faults.Cause.{Cause}
 use Rattle.frame_text.specs.declared.faults.Cause.TheVariants as cause
-
--- a number has one to seven digits
-abbrev pub number_of : List ℕ → Option ℕ
-number_of w = numerals.spelled 10 1 7 w
-
--- a data word has four hexadecimal digits, of either case
-abbrev pub data_word_of : List ℕ → Option ℕ
-data_word_of w = numerals.spelled 16 4 4 w
 
 -- the fault of a token that does not spell what it should: a word is a wrong number, and any other may not stand there
 abbrev pub unspelled : List ℕ → Cause

@@ -2,8 +2,9 @@
 
 ghost use Rattle.frame_text.specs.Reading.{ReadsTokens, IsAtToken, IsCause, IsOfText};
 ghost use Rattle.frame_text.specs.Tokens.{tokens};
-ghost use Rattle.frame_text.specs.Words.{number_of, data_word_of, unspelled, number_at, number_within, period_at};
+ghost use Rattle.frame_text.specs.Words.{unspelled, number_at, number_within, period_at};
 ghost use Rattle.frame_text.specs.Words.{words_at, counted, bracketed_at, optional_at};
+ghost use Rattle.numerals.specs.Numerals.{data_word_of, number_of};
 ghost use Rattle.std.specs.Prelude.{◌≡◌, ◌<◌, ◌≤◌, ◌++◌, ◌∷◌, [], length, take, IfOk, option_map, IfErr};
 
 use crate::faults::{Cause, Fault};

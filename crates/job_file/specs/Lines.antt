@@ -8,7 +8,8 @@ use Rattle.mil_word.specs.declared.Sync.TheVariants.{CommandSync, DataSync}
 use Rattle.mil_line.specs.declared.faults.Fault.{Fault}
 use Rattle.mil_line.specs.declared.faults.Fault.TheVariants.{Mask, Drop, Add, Late, Mute}
 use Rattle.job_file.specs.Options.{◌>>=◌}
-use Rattle.job_file.specs.Numbers.{number_of, number_within, start_of, data_word_of, half_bits_of}
+use Rattle.numerals.specs.Numerals.{data_word_of}
+use Rattle.job_file.specs.Numbers.{number_of, number_within, start_of, half_bits_of}
 use Rattle.job_file.specs.declared.keywords.Keyword.{Keyword}
 use Rattle.job_file.specs.declared.keywords.Keyword.TheVariants as keyword
 use Rattle.job_file.specs.declared.keywords.FaultWord.{FaultWord}

@@ -3,10 +3,7 @@ use Rattle.std.specs.Prelude.{ℕ, ◌&&◌, nat_le, if◌then◌else◌, Option
 use Rattle.numerals.specs.Numerals.{spelled}
 use Rattle.text_lines.specs.Words.{Text}
 use Rattle.job_file.specs.Options.{◌>>=◌}
-
--- one to seven decimal digits
-abbrev pub number_of : Text → Option ℕ
-number_of word = spelled 10 1 7 word
+pub use Rattle.numerals.specs.Numerals.{number_of}
 
 -- a number from low to high
 abbrev pub within : ℕ → ℕ → ℕ → Option ℕ
@@ -14,10 +11,6 @@ within low high n = if nat_le low n && nat_le n high then Some n else None
 
 abbrev pub number_within : ℕ → ℕ → Text → Option ℕ
 number_within low high word = number_of word >>= (λ n. within low high n)
-
--- four hexadecimal digits, of either case
-abbrev pub data_word_of : Text → Option ℕ
-data_word_of word = spelled 16 4 4 word
 
 -- ten hexadecimal digits: forty half bits
 abbrev pub half_bits_of : Text → Option ℕ

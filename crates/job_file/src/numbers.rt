@@ -1,8 +1,8 @@
 //! Numbers in the lines of a job.
-ghost use Rattle.job_file.specs.Numbers.{number_of, number_within, data_word_of, half_bits_of, start_of};
+ghost use Rattle.job_file.specs.Numbers.{number_within, half_bits_of, start_of};
 ghost use Rattle.job_file.specs.Options.{IsOkOption};
 ghost use Rattle.job_file.specs.declared.error.LineFault.TheVariants.{Number};
-ghost use Rattle.numerals.specs.Numerals.{spelled};
+ghost use Rattle.numerals.specs.Numerals.{data_word_of, number_of, spelled};
 ghost use Rattle.std.specs.Prelude.{◌≡◌, ◌≤◌, ◌<◌, ◌^◌, IfOk, IfErr};
 
 use crate::error::LineFault;

@@ -3,7 +3,7 @@ use Rattle.std.specs.Prelude.{ℕ, Bool, true, false, ◌&&◌, nat_le, ◌==◌
 use Rattle.std.specs.Prelude.{Ok, Err, Option, Some, None, codes, if◌then◌else◌}
 use Rattle.std.proofs.Common.{zero, suc}
 use Rattle.std.specs.Str.{bytes_eq}
-use Rattle.numerals.specs.Numerals.{spelled}
+use Rattle.numerals.specs.Numerals as numerals
 use Rattle.text_lines.specs.Words.{Text}
 use Rattle.mil_word.specs.Fields.{most_words}
 use Rattle.judge_rules.specs.declared.fault.RuleFault.{RuleFault}
@@ -17,9 +17,9 @@ abbrev pub within : ℕ → ℕ → Option ℕ → Read ℕ
 within low high None = Err Number
 within low high (Some n) = if nat_le low n && nat_le n high then Ok n else Err Range
 
--- one to seven decimal digits
+-- a number of this range
 abbrev pub number_of : ℕ → ℕ → Text → Read ℕ
-number_of low high word = within low high (spelled 10 1 7 word)
+number_of low high word = within low high (numerals.number_of word)
 
 abbrev pub number_in : ℕ → ℕ → List Text → Read ℕ
 number_in low high [] = Err Word
@@ -34,9 +34,8 @@ abbrev pub value_or_fault : Option ℕ → Read ℕ
 value_or_fault None = Err Number
 value_or_fault (Some n) = Ok n
 
--- four hexadecimal digits, of either case
 abbrev pub word_of : Text → Read ℕ
-word_of word = value_or_fault (spelled 16 4 4 word)
+word_of word = value_or_fault (numerals.data_word_of word)
 
 abbrev pub word_in : List Text → Read ℕ
 word_in [] = Err Word

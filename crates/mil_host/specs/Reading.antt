@@ -3,7 +3,7 @@ use Rattle.std.specs.Prelude.{ℕ, Bool, true, false, ◌&&◌, nat_le, List, []
 use Rattle.std.specs.Prelude.{None, codes, if◌then◌else◌}
 use Rattle.std.proofs.Common.{zero, suc}
 use Rattle.std.specs.Str.{bytes_eq}
-use Rattle.numerals.specs.Numerals.{spelled}
+use Rattle.numerals.specs.Numerals as numerals
 use Rattle.mil_word.specs.declared.Line.{Line}
 use Rattle.mil_word.specs.declared.Line.TheVariants.{A, B}
 use Rattle.mil_word.specs.Timing.{least_response, latest_response}
@@ -33,17 +33,16 @@ abbrev pub within : ℕ → ℕ → Option ℕ → Read ℕ
 within low high None = Err Number
 within low high (Some n) = if nat_le low n && nat_le n high then Ok n else Err Range
 
--- one to seven decimal digits
+-- a number of this range
 abbrev pub number_of : ℕ → ℕ → Text → Read ℕ
-number_of low high word = within low high (spelled 10 1 7 word)
+number_of low high word = within low high (numerals.number_of word)
 
 abbrev pub value_or_fault : Option ℕ → Read ℕ
 value_or_fault None = Err Number
 value_or_fault (Some n) = Ok n
 
--- four hexadecimal digits, of either case
 abbrev pub data_of : Text → Read ℕ
-data_of word = value_or_fault (spelled 16 4 4 word)
+data_of word = value_or_fault (numerals.data_word_of word)
 
 -- the first of the words is a number of this range, a data word, `on` or `off`, a line, or a direction
 

@@ -16,6 +16,14 @@ spelled base least most word =
     if nat_le least (length word) && nat_le (length word) most && are_digits base word
     then Some (digits_value base word) else None
 
+-- a number has one to seven decimal digits (own choice)
+abbrev pub number_of : List ℕ → Option ℕ
+number_of word = spelled 10 1 7 word
+
+-- a data word has four hexadecimal digits, of either case (own choice)
+abbrev pub data_word_of : List ℕ → Option ℕ
+data_word_of word = spelled 16 4 4 word
+
 -- the upper-case hexadecimal digit of a value
 abbrev pub digit_of : ℕ → ℕ
 digit_of value = if nat_lt value 10 then 48 + value else 55 + value
