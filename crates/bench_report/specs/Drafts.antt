@@ -156,8 +156,3 @@ IsRefusedLine d text fault.Memory = IsSome (with_line_said d (said text))
 abbrev pub TakesText : {U : Type 0} → Result U ReportFault → Text → Draft → Draft → Type 0
 TakesText (Ok u) text d new = with_line_said d (said text) ≡ Some new
 TakesText (Err fault) text d new = IsRefusedLine d text fault
-
--- what a call answers that reads
-abbrev pub IsOkOption : {X Y : Type 0} → (X → Y) → Result X ReportFault → Option Y → Type 0
-IsOkOption view (Ok x) read = read ≡ Some (view x)
-IsOkOption view (Err fault) read = read ≡ None

@@ -1,9 +1,10 @@
 //! A report as far as its lines have come.
-ghost use Rattle.bench_report.specs.Drafts.{TakesIntoDraft, TakesText, IsOkOption, no_lines, closed, with_line};
+ghost use Rattle.bench_report.specs.Drafts.{TakesIntoDraft, TakesText, no_lines, closed, with_line};
 ghost use Rattle.bench_report.specs.Drafts.{finished};
 ghost use Rattle.bench_report.specs.Lines.{IsLine};
 ghost use Rattle.bench_report.specs.declared.fault.ReportFault.TheVariants.{Order};
 ghost use Rattle.std.specs.Prelude.{◌≡◌, IfErr};
+ghost use Rattle.text_lines.specs.Readings.{IsOkOption};
 
 use crate::channels::ChannelReport;
 use crate::fault::ReportFault;

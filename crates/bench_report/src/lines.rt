@@ -1,9 +1,10 @@
 //! The lines of a report.
-ghost use Rattle.bench_report.specs.Drafts.{IsOkOption, IsBad};
+ghost use Rattle.bench_report.specs.Drafts.{IsBad};
 ghost use Rattle.bench_report.specs.Faults.{are_line_words, are_placed_words};
 ghost use Rattle.bench_report.specs.Lines.{placed_in, said, IsLine};
 ghost use Rattle.bench_report.specs.Reports.{IsPlaced};
 ghost use Rattle.std.specs.Prelude.{IfOk, IfErr};
+ghost use Rattle.text_lines.specs.Readings.{IsOkOption};
 ghost use Rattle.text_lines.specs.Words.{words};
 
 use crate::fault::ReportFault;

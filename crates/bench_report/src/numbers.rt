@@ -1,9 +1,10 @@
 //! Numbers in the lines of a report.
-ghost use Rattle.bench_report.specs.Drafts.{IsOkOption, IsBad};
+ghost use Rattle.bench_report.specs.Drafts.{IsBad};
 ghost use Rattle.bench_report.specs.Faults.{is_one_word};
 ghost use Rattle.bench_report.specs.Lines.{bounded_number, only_number};
 ghost use Rattle.bench_report.specs.declared.fault.ReportFault.TheVariants.{Number};
 ghost use Rattle.std.specs.Prelude.{◌≡◌, ◌≤◌, IfOk, IfErr};
+ghost use Rattle.text_lines.specs.Readings.{IsOkOption};
 ghost use Rattle.text_lines.specs.Words.{words};
 
 use crate::fault::ReportFault;

@@ -1,8 +1,8 @@
 //! The words that stand in the lines of a job.
 ghost use Rattle.job_file.specs.Lines.{keyword_of, fault_word_of, sync_of};
-ghost use Rattle.job_file.specs.Options.{IsOkOption};
 ghost use Rattle.job_file.specs.declared.error.LineFault.TheVariants.{Word};
 ghost use Rattle.std.specs.Prelude.{◌≡◌, IfErr};
+ghost use Rattle.text_lines.specs.Readings.{IsOkOption};
 
 use crate::error::LineFault;
 use FaultWord::{Add, Drop, Late, Mask, Mute};

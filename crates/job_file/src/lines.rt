@@ -2,7 +2,6 @@
 ghost use Rattle.job_file.specs.Entries.{said_by, IsInRange};
 ghost use Rattle.job_file.specs.Faults.{IsFaultOfWords, are_fault_words, are_words_behind, are_line_words};
 ghost use Rattle.job_file.specs.Lines as lines;
-ghost use Rattle.job_file.specs.Options.{IsOkOption};
 ghost use Rattle.job_file.specs.Spans.{IsSpan};
 ghost use Rattle.job_file.specs.declared.error.LineFault.TheVariants.{Word as BadWord, Number as BadNumber};
 ghost use Rattle.job_file.specs.declared.keywords.FaultWord.TheVariants as kinds;
@@ -10,6 +9,7 @@ ghost use Rattle.job_file.specs.declared.keywords.Keyword.TheVariants as keyword
 ghost use Rattle.mil_word.specs.Fields.{highest_address};
 ghost use Rattle.std.specs.Option.{is_some};
 ghost use Rattle.std.specs.Prelude.{◌≡◌, ◌≤◌, IfOk, IfErr};
+ghost use Rattle.text_lines.specs.Readings.{IsOkOption};
 ghost use Rattle.text_lines.specs.Words.{words};
 
 use crate::error::LineFault;

@@ -1,9 +1,9 @@
 //! Numbers in the lines of a job.
 ghost use Rattle.job_file.specs.Numbers.{number_within, half_bits_of, start_of};
-ghost use Rattle.job_file.specs.Options.{IsOkOption};
 ghost use Rattle.job_file.specs.declared.error.LineFault.TheVariants.{Number};
 ghost use Rattle.numerals.specs.Numerals.{data_word_of, number_of, spelled};
 ghost use Rattle.std.specs.Prelude.{◌≡◌, ◌≤◌, ◌<◌, ◌^◌, IfOk, IfErr};
+ghost use Rattle.text_lines.specs.Readings.{IsOkOption};
 
 use crate::error::LineFault;
 use mil_word::Wave;
