@@ -1,6 +1,6 @@
 -- Runs that are kept as a whole, by the values of their words.
 use Rattle.std.proofs.Common.{◌≡◌, ℕ, zero, suc, ◌+◌, ◌-◌, ◌*◌, ◌<◌, ◌≤◌, ◌==◌, ◌^◌, Bool, true, false, cond, List, [], ◌∷◌, ◌++◌, map, take, drop, length, get_or, refl, sym, ap, ◌∙◌, arith, append_assoc, append-nil, length-append, length-drop}
-use Rattle.std.proofs.lemmas.List.{take_all, take-append-drop, length-map, drop_more, drop_all, drop-drop}
+use Rattle.std.proofs.lemmas.List.{take_all, take-append-drop, length-map, drop_more, drop-drop}
 use Rattle.mil_word.specs.declared.Sync.TheVariants.{CommandSync, DataSync}
 use Rattle.mil_word.specs.Wave.{raw_of}
 use Rattle.mil_word.specs.Words.{command_wave, data_wave}
@@ -81,17 +81,6 @@ one_small v vs small rest (suc k) d lt = rest k d (omega (arith, lt))
 pub small-append : (xs ys : List ℕ) → AreSmall xs → AreSmall ys → AreSmall (xs ++ ys)
 small-append [] ys a b = b
 small-append (x ∷ xs) ys a b = one_small x (xs ++ ys) (first_small x xs a) (small-append xs ys (rest_small x xs a) b)
-
--- the words of a run whose values stand one behind the other
-pub whole_words-of : (r : Whole) (cs vs : List ℕ) → r.commands ≡ length cs → whole_words r (cs ++ vs) ≡ words_of_run r.number r.source r.gap (run_waves cs vs)
-whole_words-of r cs vs count =
-    let front : take r.commands (cs ++ vs) ≡ cs = ap (λ k. take k (cs ++ vs)) count ∙ cut-front (length cs) cs vs (omega arith) ∙ take_all (length cs) cs (omega arith) in
-    let back : drop r.commands (cs ++ vs) ≡ vs = ap (λ k. drop k (cs ++ vs)) count ∙ cut-all cs in
-    ap (λ xs. words_of_run r.number r.source r.gap (run_waves xs (drop r.commands (cs ++ vs)))) front ∙ ap (λ xs. words_of_run r.number r.source r.gap (run_waves cs xs)) back
-  where
-    cut-all : (xs : List ℕ) → drop (length xs) (xs ++ vs) ≡ vs
-    cut-all [] = refl
-    cut-all (x ∷ xs) = cut-all xs
 
 -- ---- the words of a run one by one
 
@@ -244,24 +233,6 @@ more-words old new rs vs i from r all lt is e whole =
     ap (λ xs. xs ++ all_words (drop (i + 1) rs) (drop (from + r.count) vs)) e
     ∙ append_assoc old (whole_words r (take r.count (drop from vs))) (all_words (drop (i + 1) rs) (drop (from + r.count) vs))
     ∙ ap (λ xs. old ++ xs) (sym (words-step rs vs i from r lt is)) ∙ whole
-
-pub none_left : (rs : List Whole) (vs : List ℕ) (i from : ℕ) → length rs ≤ i → from + words_in (drop i rs) ≡ length vs → (old all : List Sent) → old ++ all_words (drop i rs) (drop from vs) ≡ all → old ≡ all
-none_left rs vs i from le left old all e =
-    sym (append-nil old) ∙ ap (λ qs. old ++ all_words qs (drop from vs)) (sym (drop_all i rs le)) ∙ e
-
-pub end-step : (place tick : ℕ) (rs : List Whole) (vs : List ℕ) (i : ℕ) (r : Whole) (ticks next now : ℕ) → i < length rs → r ≡ get_or rs i r → place + words_in (drop i rs) ≡ length vs
-    → ((t : ℕ) (ws : List ℕ) (more : List Sent) → length ws ≡ r.count → end_from place t (whole_words r ws ++ more) ≡ end_from (place + r.count) (t + ticks) more)
-    → next ≡ place + r.count → now ≡ tick + ticks → (more all : List Sent) (start : ℕ)
-    → end_from place tick (all_words (drop i rs) (drop place vs) ++ more) ≡ end_from 0 start all
-    → end_from next now (all_words (drop (i + 1) rs) (drop next vs) ++ more) ≡ end_from 0 start all
-end-step place tick rs vs i r ticks next now lt is left lasts next_is now_is more all start ends =
-    let own = take r.count (drop place vs) in
-    let rest = all_words (drop (i + 1) rs) (drop (place + r.count) vs) in
-    let long : length own ≡ r.count = own-length vs place r.count (omega (arith, left, count-step rs i r lt is)) in
-    ap (λ n. end_from n now (all_words (drop (i + 1) rs) (drop n vs) ++ more)) next_is ∙ ap (λ t. end_from (place + r.count) t (rest ++ more)) now_is
-    ∙ sym (lasts tick own (rest ++ more) long)
-    ∙ ap (end_from place tick) (sym (append_assoc (whole_words r own) rest more))
-    ∙ ap (λ xs. end_from place tick (xs ++ more)) (sym (words-step rs vs i place r lt is)) ∙ ends
 
 pub last-step : (last next_last : Bool) (place next : ℕ) (rs : List Whole) (vs : List ℕ) (i : ℕ) (r : Whole) → i < length rs → r ≡ get_or rs i r → place + words_in (drop i rs) ≡ length vs
     → next ≡ place + r.count → 0 < r.count → next_last ≡ (r.number == 0) → (more all : List Sent)

@@ -6,6 +6,7 @@ use Rattle.mil_line.specs.Faults.{altered, gap_of}
 use Rattle.mil_bus.specs.declared.talks.Sent.{Sent}
 use Rattle.mil_terminal.specs.Station.{Station}
 use Rattle.mil_bus.specs.Exchange.{Offer, Standing, words_of_run, run_sent, quieted, first_reply, quiet_after, next_offer, all_hearing, runs}
+use Rattle.mil_bus.specs.Said.{IsSaid}
 
 pub run_sent-some : (room : ℕ) (faults : List Fault) (run : ℕ) (o : Offer) (gap : ℕ) (ws : List ℕ) → ws ≡ take room (altered faults run o.waves) → gap ≡ gap_of faults run o.gap → run_sent room faults run o ≡ words_of_run run o.source gap ws
 unfolding run_sent
@@ -43,27 +44,25 @@ some-next line (w ∷ words) stations some = refl
 
 -- a run that puts no word on the line is the last
 pub runs-unsaid : (left : ℕ) (line : Line) (faults : List Fault) (run : ℕ) (o : Offer) (sent sent_after : List Sent) (stations stations_after : List Station)
-    → sent_after ≡ sent ++ run_sent (40 - length sent) faults run o
-    → stations_after ≡ all_hearing line (run_sent (40 - length sent) faults run o) stations
+    → IsSaid line faults run o (record { sent = sent; stations = stations }) (record { sent = sent_after; stations = stations_after })
     → length sent_after ≡ length sent
     → runs left line faults (run + 1) None (record { sent = sent_after; stations = stations_after }) ≡ runs (left + 1) line faults run (Some o) (record { sent = sent; stations = stations })
-runs-unsaid left line faults run o sent sent_after stations stations_after e1 e2 same =
+runs-unsaid left line faults run o sent sent_after stations stations_after is same =
     let words = run_sent (40 - length sent) faults run o in
-    let none : length words ≡ 0 = omega (arith, ap length e1, length-append sent words, same) in
+    let none : length words ≡ 0 = omega (arith, ap length is.sent, length-append sent words, same) in
     let said = all_hearing line words stations in
-    runs-some left line faults run o sent sent_after stations stations_after None e1 (e2 ∙ sym (none-after line words said none)) (sym (none-next line words said none))
+    runs-some left line faults run o sent sent_after stations stations_after None is.sent (is.stations ∙ sym (none-after line words said none)) (sym (none-next line words said none))
 
 -- behind one that does, a quiet comes to all
 pub runs-said : (left : ℕ) (line : Line) (faults : List Fault) (run : ℕ) (o : Offer) (sent sent_after : List Sent) (stations said stations_after : List Station) (next : Option Offer)
-    → sent_after ≡ sent ++ run_sent (40 - length sent) faults run o
-    → said ≡ all_hearing line (run_sent (40 - length sent) faults run o) stations
+    → IsSaid line faults run o (record { sent = sent; stations = stations }) (record { sent = sent_after; stations = said })
     → length sent_after ≢ length sent
     → stations_after ≡ map (quieted line) said
     → next ≡ first_reply line said
     → runs left line faults (run + 1) next (record { sent = sent_after; stations = stations_after }) ≡ runs (left + 1) line faults run (Some o) (record { sent = sent; stations = stations })
-runs-said left line faults run o sent sent_after stations said stations_after next e1 e2 other e3 e4 =
+runs-said left line faults run o sent sent_after stations said stations_after next is other e3 e4 =
     let words = run_sent (40 - length sent) faults run o in
-    let some : length words ≢ 0 = λ none. other (omega (arith, ap length e1, length-append sent words, none)) in
+    let some : length words ≢ 0 = λ none. other (omega (arith, ap length is.sent, length-append sent words, none)) in
     let heard = all_hearing line words stations in
-    runs-some left line faults run o sent sent_after stations stations_after next e1
-    (e3 ∙ ap (map (quieted line)) e2 ∙ sym (some-after line words heard some)) (e4 ∙ ap (first_reply line) e2 ∙ sym (some-next line words heard some))
+    runs-some left line faults run o sent sent_after stations stations_after next is.sent
+    (e3 ∙ ap (map (quieted line)) is.stations ∙ sym (some-after line words heard some)) (e4 ∙ ap (first_reply line) is.stations ∙ sym (some-next line words heard some))

@@ -6,6 +6,7 @@ pub mod BlockStatus
 pub mod RunWords
 pub mod Exchange
 pub mod Offers
+pub mod Said
 pub mod Actions
 pub mod Addresses
 pub mod KeepsTimes

@@ -1,13 +1,14 @@
 //! The runs of an exchange: words and quiets, told to all terminals.
-ghost use Rattle.mil_bus.specs.Exchange.{all_hearing, words_of_run, run_sent, runs, most_runs};
+ghost use Rattle.mil_bus.specs.Exchange.{words_of_run, runs, most_runs};
 ghost use Rattle.mil_bus.specs.Offers.{offered, offer_in, given};
+ghost use Rattle.mil_bus.specs.Said.{IsSaid};
 ghost use Rattle.mil_bus.specs.Wholes.{value_waves};
 ghost use Rattle.mil_line.specs.Faults.{altered};
 ghost use Rattle.mil_line.specs.Ranges.{is_in_range, most_sent};
 ghost use Rattle.mil_word.specs.Timing.{contiguous_gap};
 ghost use Rattle.mil_word.specs.Words.{command_wave};
 ghost use Rattle.std.specs.List.{list_all};
-ghost use Rattle.std.specs.Prelude.{◌≡◌, ℕ, ◌+◌, ◌-◌, ◌≤◌, true, [], ◌∷◌, ◌++◌, length, take, Some};
+ghost use Rattle.std.specs.Prelude.{◌≡◌, ℕ, ◌+◌, ◌≤◌, true, [], ◌∷◌, ◌++◌, length, take, Some};
 
 use crate::offers::Offered;
 use crate::talk_runs::Run;
@@ -113,12 +114,9 @@ fn say_altered(
     values: &Values,
 )
     requires in_range { list_all is_in_range faults.now ≡ true }
-    ensures sent { sent.new.items ≡ sent.old.items
-        ++ run_sent (most_sent - length sent.old.items) faults.now run.now.number
-        (offer_in run.now values.now) }
-    ensures stations { terminals.new ≡ all_hearing line
-        (run_sent (most_sent - length sent.old.items) faults.now run.now.number
-        (offer_in run.now values.now)) terminals.old }
+    ensures { IsSaid line faults.now run.now.number (offer_in run.now values.now)
+        (record { sent = sent.old.items; stations = terminals.old })
+        (record { sent = sent.new.items; stations = terminals.new }) }
 {
     let room = MOST_SENT - sent.len();
     let late = Run {
@@ -141,12 +139,9 @@ fn say_run(
     values: &Values,
 )
     requires in_range { list_all is_in_range faults.now ≡ true }
-    ensures sent { sent.new.items ≡ sent.old.items
-        ++ run_sent (most_sent - length sent.old.items) faults.now run.now.number
-        (offer_in run.now values.now) }
-    ensures stations { terminals.new ≡ all_hearing line
-        (run_sent (most_sent - length sent.old.items) faults.now run.now.number
-        (offer_in run.now values.now)) terminals.old }
+    ensures { IsSaid line faults.now run.now.number (offer_in run.now values.now)
+        (record { sent = sent.old.items; stations = terminals.old })
+        (record { sent = sent.new.items; stations = terminals.new }) }
 {
     if faults.is_empty() && sent.put_whole(run, values) {
         terminals.hear_whole(line, run, values);

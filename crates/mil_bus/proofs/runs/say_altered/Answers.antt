@@ -6,21 +6,15 @@ use Rattle.mil_bus.specs.Wholes.{value_waves}
 use Rattle.mil_bus.proofs.OneRun.{run_sent-some}
 use Rattle.mil_bus.proofs.runs.say_altered.Goals as goal
 
-pub returns-clause-sent : goal.returns-clause-sent
-returns-clause-sent c =
+pub returns : goal.returns
+returns c =
     let r = c.args.run.now in
     let v = c.args.values.now in
     let waves = ap (λ (n : ℕ). take (40 - n) (altered c.args.faults.now r.number (value_waves v.commands v.words.items))) c.len-room.ensures.value in
     let said : run_sent (40 - length c.args.sent.now.items) c.args.faults.now r.number (offer_in r v) ≡ words_of_run r.number r.source c.late_gap.result c.altered_waves-waves.result.items =
     run_sent-some _ _ _ _ _ _ (c.altered_waves-waves.ensures ∙ waves) (c.late_gap.ensures ∙ ap (λ (n : ℕ). gap_of c.args.faults.now n r.gap) c.from.ensures) in
-    c.put_each.ensures ∙ ap (λ ws. c.args.sent.now.items ++ words_of_run r.number r.source c.late_gap.result ws) c.as_slice.ensures.value ∙ ap (λ ws. c.args.sent.now.items ++ ws) (sym said)
-
-pub returns-clause-stations : goal.returns-clause-stations
-returns-clause-stations c =
-    let r = c.args.run.now in
-    let v = c.args.values.now in
-    let waves = ap (λ (n : ℕ). take (40 - n) (altered c.args.faults.now r.number (value_waves v.commands v.words.items))) c.len-room.ensures.value in
-    let said : run_sent (40 - length c.args.sent.now.items) c.args.faults.now r.number (offer_in r v) ≡ words_of_run r.number r.source c.late_gap.result c.altered_waves-waves.result.items =
-    run_sent-some _ _ _ _ _ _ (c.altered_waves-waves.ensures ∙ waves) (c.late_gap.ensures ∙ ap (λ (n : ℕ). gap_of c.args.faults.now n r.gap) c.from.ensures) in
-    c.hear_each.ensures ∙ ap (λ ws. all_hearing c.args.line (words_of_run r.number r.source c.late_gap.result ws) c.args.terminals.now) c.as_slice-2.ensures.value
-    ∙ ap (λ ws. all_hearing c.args.line ws c.args.terminals.now) (sym said)
+    record {
+      sent = c.put_each.ensures ∙ ap (λ ws. c.args.sent.now.items ++ words_of_run r.number r.source c.late_gap.result ws) c.as_slice.ensures.value ∙ ap (λ ws. c.args.sent.now.items ++ ws) (sym said);
+      stations = c.hear_each.ensures ∙ ap (λ ws. all_hearing c.args.line (words_of_run r.number r.source c.late_gap.result ws) c.args.terminals.now) c.as_slice-2.ensures.value
+          ∙ ap (λ ws. all_hearing c.args.line ws c.args.terminals.now) (sym said);
+    }
