@@ -95,7 +95,7 @@ pub(crate) const CALLS: &[(&str, Call)] = &[
 ];
 
 /// Makes a call, and says what it came to.
-pub(crate) fn called<R: Threads + Wait + Sync>(rt: &R, alloc: Global, call: Call) -> Told {
+pub(crate) fn make_call<R: Threads + Wait + Sync>(rt: &R, alloc: Global, call: Call) -> Told {
     match call {
         Call::TerminalMake => buses::terminal_make(alloc),
         Call::TerminalCopy => buses::terminal_copy(alloc),

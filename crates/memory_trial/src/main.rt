@@ -18,7 +18,7 @@ mod scripts;
 mod told;
 mod worked;
 
-use calls::{CALLS, called};
+use calls::{CALLS, make_call};
 use std::sync::Wait;
 use std::thread::Threads;
 use std::{env, io};
@@ -27,7 +27,7 @@ use std::{env, io};
 fn word_of<R: Threads + Wait + Sync + AllocGlobal>(rt: &R, wanted: &str) -> &'static str {
     for (name, call) in CALLS {
         if *name == wanted {
-            return called(rt, rt.alloc(), *call).word();
+            return make_call(rt, rt.alloc(), *call).word();
         }
     }
     "unknown"

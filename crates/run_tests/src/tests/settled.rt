@@ -95,7 +95,7 @@ fn first_of(rt: &impl Abort, boxes: &[Mailbox], mailbox: &Mailbox, inboxes: Vec<
 }
 
 /// Whether a post is of host 0, for terminal 5, and sets this vector word; or there is none, where there is no word.
-fn is_word(post: &Option<Post>, word: Option<u16>) -> bool {
+fn sets_word(post: &Option<Post>, word: Option<u16>) -> bool {
     match (post, word) {
         (Some(post), Some(word)) => {
             post.host == 0
@@ -122,7 +122,7 @@ fn settled<R: Wait>(
     let mut right = 0u32;
     for word in words {
         let (poster, inbox, post) = mailbox.settle(rt, ends.0, ends.1);
-        if is_word(&post, *word) {
+        if sets_word(&post, *word) {
             right = right.saturating_add(1);
         }
         ends = (poster, inbox);
