@@ -1,8 +1,8 @@
 -- What a contract says of a mailbox, its posters and its inbox.
-use Rattle.std.specs.Prelude.{◌≡◌, ℕ, ◌+◌, ◌≤◌, ◌==◌, Bool, true, false, List, length}
+use Rattle.std.specs.Prelude.{◌≡◌, ℕ, ◌+◌, ◌^◌, ◌≤◌, ◌==◌, Bool, true, false, List, [], length}
 use Rattle.std.specs.List.{list_any}
 use Rattle.mil_host.specs.declared.actions.Action.{Action}
-use Rattle.mil_trunk.specs.Tags.{bounds_outside}
+use Rattle.mil_trunk.specs.Tags.{has, bound_of, bounds_outside}
 use Rattle.mil_trunk.specs.Ends.{IsTicketOf, IsTakerOf, capacity_of, tags_of, bounds_of, sent, received}
 use Rattle.job_file.specs.Jobs.{JobState}
 use Rattle.bench_mail.specs.declared.mailbox.Post.{Post}
@@ -35,6 +35,13 @@ received_by i = received i.taker
 -- the poster is one of this mailbox
 abbrev pub IsPosterOf : Mailbox → Poster → Type 0
 IsPosterOf box p = IsTicketOf box.trunk p.ticket
+
+-- with this poster, one of the mailbox, the host may post, and nothing was posted with it yet
+pub record MayPost (host : ℕ) (box : Mailbox) (p : Poster) : Type 0 where
+  pub poster : IsPosterOf box p
+  pub holds : has (hosts_of p) host ≡ true
+  pub limit : bound_of (limits_of p) host ≡ 2 ^ 55
+  pub fresh : posted p ≡ []
 
 -- the inbox is that of this mailbox
 abbrev pub IsInboxOf : Mailbox → Inbox → Type 0

@@ -1,5 +1,5 @@
 //! The hosts: each sets a vector word on its terminal, and then asks for service.
-ghost use Rattle.live_example.specs.Hosts.{MayPost};
+ghost use Rattle.bench_mail.specs.Mail.{MayPost};
 ghost use Rattle.std.specs.Prelude.{◌≡◌};
 
 use crate::gate::Posted;
@@ -43,7 +43,7 @@ impl<'a> Host<'a> {
 /// Posts the vector word and the service request, and tells the gate. The mailbox has room for both, so that neither
 /// comes back.
 fn post_both<R: Wait>(rt: &R, gate: &Posted, host: Host<'_>)
-    requires { MayPost host.mailbox.now host.poster }
+    requires { MayPost 0 host.mailbox.now host.poster }
 {
     let Host {
         mailbox,
@@ -61,15 +61,15 @@ fn post_both<R: Wait>(rt: &R, gate: &Posted, host: Host<'_>)
 
 /// The hosts post at the same time.
 pub fn post_all<R: Threads + Wait + Sync>(rt: &R, gate: &Posted, first: Host<'_>, second: Host<'_>)
-    requires { MayPost first.mailbox.now first.poster × MayPost second.mailbox.now second.poster }
+    requires { MayPost 0 first.mailbox.now first.poster × MayPost 0 second.mailbox.now second.poster }
 {
     let _ = join(
         rt,
         move ||
-            requires { MayPost first.mailbox.now first.poster }
+            requires { MayPost 0 first.mailbox.now first.poster }
         { post_both(rt, gate, first) },
         move ||
-            requires { MayPost second.mailbox.now second.poster }
+            requires { MayPost 0 second.mailbox.now second.poster }
         { post_both(rt, gate, second) },
     );
 }

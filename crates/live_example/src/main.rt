@@ -7,9 +7,8 @@
 //! It has no tests: what it prints is compared with its file `stdout`. It has no wrong bodies.
 #![tactic(auto)]
 
-ghost use Rattle.bench_mail.specs.Mail.{IsInboxOf};
+ghost use Rattle.bench_mail.specs.Mail.{IsInboxOf, MayPost};
 ghost use Rattle.bench_run.specs.Live.{AreInboxesOf};
-ghost use Rattle.live_example.specs.Hosts.{MayPost};
 ghost use Rattle.std.specs.Prelude.{◌≡◌, ◌∷◌, [], IfSome};
 
 mod gate;
@@ -42,7 +41,7 @@ struct Mail {
 
 /// The mail of a job; None where memory is refused.
 fn mail_for(alloc: Global, job: &Job) -> Option<Mail>
-    ensures { IfSome result (λ mail. MayPost mail.mailbox mail.poster × IsInboxOf mail.mailbox mail.inbox) }
+    ensures { IfSome result (λ mail. MayPost 0 mail.mailbox mail.poster × IsInboxOf mail.mailbox mail.inbox) }
 {
     match Mailbox::make(alloc, job, 4) {
         Ok((mailbox, poster, inbox)) => {
@@ -88,7 +87,7 @@ fn run_beside<R: Threads + Wait + Sync>(
     first: Host<'_>,
     second: Host<'_>,
 ) -> Option<Report>
-    requires hosts { MayPost first.mailbox.now first.poster × MayPost second.mailbox.now second.poster }
+    requires hosts { MayPost 0 first.mailbox.now first.poster × MayPost 0 second.mailbox.now second.poster }
     requires inboxes { AreInboxesOf boxes.now inboxes.items }
 {
     let gate = Posted::none();
@@ -96,7 +95,7 @@ fn run_beside<R: Threads + Wait + Sync>(
     let (_, answer) = join(
         rt,
         move ||
-            requires { MayPost first.mailbox.now first.poster × MayPost second.mailbox.now second.poster }
+            requires { MayPost 0 first.mailbox.now first.poster × MayPost 0 second.mailbox.now second.poster }
         { post_all(rt, posted, first, second) },
         move || -> Option<Report>
             requires { AreInboxesOf boxes.now inboxes.items }
@@ -132,8 +131,8 @@ fn report_with<R: Threads + Wait + Sync>(
     first: Mail,
     second: Mail,
 ) -> Option<Report>
-    requires first { MayPost first.mailbox first.poster × IsInboxOf first.mailbox first.inbox }
-    requires second { MayPost second.mailbox second.poster × IsInboxOf second.mailbox second.inbox }
+    requires first { MayPost 0 first.mailbox first.poster × IsInboxOf first.mailbox first.inbox }
+    requires second { MayPost 0 second.mailbox second.poster × IsInboxOf second.mailbox second.inbox }
 {
     let inboxes = both(alloc, first.inbox, second.inbox)?;
     let boxes = [first.mailbox, second.mailbox];

@@ -3,8 +3,8 @@ use Rattle.std.proofs.Common.{◌≡◌, ℕ, zero, suc, List, [], ◌∷◌, �
 use Rattle.bench_mail.specs.declared.mailbox.Mailbox.{Mailbox}
 use Rattle.bench_mail.specs.declared.mailbox.Poster.{Poster}
 use Rattle.bench_mail.specs.declared.mailbox.Inbox.{Inbox}
-use Rattle.bench_mail.specs.Mail.{IsInboxOf}
-use Rattle.run_tests.specs.Hosts.{AreAlong, MayPost, MayPostToAll, IsMail}
+use Rattle.bench_mail.specs.Mail.{IsInboxOf, MayPost}
+use Rattle.run_tests.specs.Hosts.{AreAlong, MayPostToAll, IsMail}
 
 module _ {X Y : Type 0} (P : X → Y → Type 0) where
   along_more : (xs : List X) (ys : List Y) (x : X) (y : Y) → length ys ≡ length xs → AreAlong P xs ys → P x y → AreAlong P (xs ++ x ∷ []) (ys ++ y ∷ [])

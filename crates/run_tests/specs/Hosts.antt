@@ -1,17 +1,10 @@
 -- What hosts that post beside a run need.
-use Rattle.std.specs.Prelude.{◌≡◌, ℕ, ◌^◌, ◌<◌, ◌≤◌, true, List, [], length, Some, slice_get}
+use Rattle.std.specs.Prelude.{◌≡◌, ℕ, ◌^◌, ◌<◌, ◌≤◌, true, List, length, Some, slice_get}
 use Rattle.mil_trunk.specs.Tags.{has, bound_of}
 use Rattle.bench_mail.specs.declared.mailbox.Mailbox.{Mailbox}
 use Rattle.bench_mail.specs.declared.mailbox.Poster.{Poster}
 use Rattle.bench_mail.specs.declared.mailbox.Inbox.{Inbox}
-use Rattle.bench_mail.specs.Mail.{IsPosterOf, IsInboxOf, hosts_of, limits_of, posted}
-
--- with the poster of a mailbox a host may post, which it has not done yet
-pub record MayPost (host : ℕ) (box : Mailbox) (p : Poster) : Type 0 where
-  pub poster : IsPosterOf box p
-  pub holds : has (hosts_of p) host ≡ true
-  pub limit : bound_of (limits_of p) host ≡ 2 ^ 55
-  pub fresh : posted p ≡ []
+use Rattle.bench_mail.specs.Mail.{IsPosterOf, IsInboxOf, MayPost, hosts_of, limits_of, posted}
 
 -- each value of a list and the one at its place in another
 abbrev pub AreAlong : {X Y : Type 0} → (X → Y → Type 0) → List X → List Y → Type 0

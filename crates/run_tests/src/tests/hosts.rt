@@ -1,7 +1,6 @@
 //! What live runs need beside the jobs: mailboxes and the posters of their hosts, and a run beside which hosts post.
-ghost use Rattle.bench_mail.specs.Mail.{IsInboxOf};
+ghost use Rattle.bench_mail.specs.Mail.{IsInboxOf, MayPost};
 ghost use Rattle.bench_run.specs.Live.{AreInboxesOf};
-ghost use Rattle.run_tests.specs.Hosts.{MayPost};
 ghost use Rattle.std.specs.Prelude.{◌≡◌, [], ◌∷◌, IfOk};
 
 use crate::tests::fixtures::Bench;

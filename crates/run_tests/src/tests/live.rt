@@ -1,5 +1,5 @@
 //! Live runs in which a host posts while message 2 is held: what is recorded, and what the report says.
-ghost use Rattle.run_tests.specs.Hosts.{MayPost};
+ghost use Rattle.bench_mail.specs.Mail.{MayPost};
 
 use crate::tests::equal::same_in;
 use crate::tests::fixtures::{Bench, are_stamps, bench_of, index_of, is_printed};

@@ -1,7 +1,8 @@
 //! Live runs beside which two hosts post vector words to each channel: host 0 for terminal 5, and host 1 for terminal 6
 //! at the same time.
+ghost use Rattle.bench_mail.specs.Mail.{MayPost};
 ghost use Rattle.bench_run.specs.Live.{AreInboxesOf};
-ghost use Rattle.run_tests.specs.Hosts.{MayPost, MayPostToAll, IsMail};
+ghost use Rattle.run_tests.specs.Hosts.{MayPostToAll, IsMail};
 ghost use Rattle.std.specs.Prelude.{◌≡◌, ◌++◌, [], ◌∷◌};
 
 use crate::tests::fixtures::Bench;

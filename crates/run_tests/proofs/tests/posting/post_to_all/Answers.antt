@@ -3,7 +3,7 @@ use Rattle.std.specs.Prelude.{Some, slice_get}
 use Rattle.std.proofs.lemmas.Option.{slice_get_read}
 use Rattle.bench_mail.specs.declared.mailbox.Mailbox.{Mailbox}
 use Rattle.bench_run.proofs.Rows.{row_first, row_rest}
-use Rattle.run_tests.specs.Hosts.{MayPost}
+use Rattle.bench_mail.specs.Mail.{MayPost}
 use Rattle.run_tests.proofs.tests.posting.post_to_all.Goals as goal
 
 pub loop-poster-init : goal.loop-poster-init

@@ -1,7 +1,7 @@
 use Rattle.std.proofs.Common.{◌≡◌, ◌+◌, ℕ, length}
 use Rattle.std.specs.Prelude.{Some, slice_get}
 use Rattle.std.specs.Vec.Iter.{into_iter_items, into_iter_len}
-use Rattle.run_tests.specs.Hosts.{MayPost}
+use Rattle.bench_mail.specs.Mail.{MayPost}
 use Rattle.run_tests.proofs.tests.posting.post_to_all.Given as goal
 
 -- the posters that are left are those of the mailboxes from the place on
