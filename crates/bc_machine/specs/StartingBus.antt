@@ -1,4 +1,4 @@
--- The bus that a controller began with, and how many logs its log followed.
+-- The bus that a controller began with, and how many links of the chain that keeps it the last one follows.
 use Rattle.std.specs.Prelude.{ℕ, ◌+◌}
 use Rattle.mil_bus.specs.Exchange.{BusState}
 use Rattle.bc_machine.specs.declared.begun.Link.{Link}

@@ -27,14 +27,14 @@ outer_of kind os [] = 0
 outer_of kind os (q ∷ qs) = open_of kind os q + outer_of kind os qs
 
 -- what is kept of the open brackets of a kind
-abbrev pub kept : Kind → Registers → List ℕ
-kept Loops r = r.counters
-kept Frames r = r.frames
+abbrev pub open_entries : Kind → Registers → List ℕ
+open_entries Loops r = r.counters
+open_entries Frames r = r.frames
 
 -- what stands at each step of a run
 pub record Fits (code : Code) (r : Registers) : Type 0 where
   pub inside : r.place < length code.operations
-  pub stands : (kind : Kind) → length (kept kind r) ≡ open_of kind code.operations r.place + outer_of kind code.operations r.returns
+  pub stands : (kind : Kind) → length (open_entries kind r) ≡ open_of kind code.operations r.place + outer_of kind code.operations r.returns
   pub chain : Chain code.operations (owner_at code.operations r.place) r.returns
 
 abbrev pub FitsAfter : {State Outcome : Type 0} → Code → Turn (Running State Outcome) → Type 0
@@ -70,11 +70,11 @@ module _ {State Outcome : Type 0} (w : World State Outcome) (code : Code) (ok : 
 
   -- what is kept behind an operation, as it does no more than this to what is open
   abbrev Kept : Registers → Registers → Op → Type 0
-  Kept r r' o = (kind : Kind) → length (kept kind r') ≡ depth_after (effect_of o kind) (length (kept kind r))
+  Kept r r' o = (kind : Kind) → length (open_entries kind r') ≡ depth_after (effect_of o kind) (length (open_entries kind r))
 
   -- what stands behind an operation at some place that stands in the same brackets
   kept_behind : (r r' : Registers) (q : ℕ) (o : Op) → slice_get code.operations q ≡ Some o → open_at code.operations q ≡ open_at code.operations r.place → Fits code r → Kept r r' o
-      → (kind : Kind) → length (kept kind r') ≡ open_of kind code.operations (suc q) + outer kind r
+      → (kind : Kind) → length (open_entries kind r') ≡ open_of kind code.operations (suc q) + outer kind r
   kept_behind r r' q o e same f long kind =
       let os = code.operations in
       let st = open_at os q in
@@ -85,7 +85,7 @@ module _ {State Outcome : Type 0} (w : World State Outcome) (code : Code) (ok : 
 
   -- another place in the same routine
   goes_fit : (r r' : Registers) (i : ℕ) → Fits code r → i < length code.operations → owner_at code.operations i ≡ owner_at code.operations r.place → r'.place ≡ i → r'.returns ≡ r.returns
-      → ((kind : Kind) → length (kept kind r') ≡ open_of kind code.operations i + outer kind r) → Fits code r'
+      → ((kind : Kind) → length (open_entries kind r') ≡ open_of kind code.operations i + outer kind r) → Fits code r'
   goes_fit r r' i f lt home here back long = record {
     inside = omega (arith, here, lt);
     stands = λ kind. long kind ∙ ap (λ q. open_of kind code.operations q + outer kind r) (sym here) ∙ ap (λ qs. open_of kind code.operations r'.place + outer_of kind code.operations qs) (sym back);
@@ -102,17 +102,17 @@ module _ {State Outcome : Type 0} (w : World State Outcome) (code : Code) (ok : 
   sends_fit r p o m on e going keeps h f =
       let x = there code.messages m h in
       let r' = record r { place = r.place + 1; line = on x.0.0 } in
-      let same : Kept r r' o = by_kind (λ kind. length (kept kind r') ≡ depth_after (effect_of o kind) (length (kept kind r))) (ap (λ v. depth_after v (length r.counters)) (sym (keeps Loops))) (ap (λ v. depth_after v (length r.frames)) (sym (keeps Frames))) in
+      let same : Kept r r' o = by_kind (λ kind. length (open_entries kind r') ≡ depth_after (effect_of o kind) (length (open_entries kind r))) (ap (λ v. depth_after v (length r.counters)) (sym (keeps Loops))) (ap (λ v. depth_after v (length r.frames)) (sym (keeps Frames))) in
       subst (λ v. FitsAfter code (sends w v on r p)) (sym x.1) (falls r r' o e going f refl refl same)
 
   -- a place in the same brackets
   jumps_fit : (r r' : Registers) (i : ℕ) → Fits code r → i < length code.operations → open_at code.operations i ≡ open_at code.operations r.place → owner_at code.operations i ≡ owner_at code.operations r.place
-      → r'.place ≡ i → r'.returns ≡ r.returns → ((kind : Kind) → length (kept kind r') ≡ length (kept kind r)) → Fits code r'
+      → r'.place ≡ i → r'.returns ≡ r.returns → ((kind : Kind) → length (open_entries kind r') ≡ length (open_entries kind r)) → Fits code r'
   jumps_fit r r' i f lt same home here back long =
       goes_fit r r' i f lt home here back (λ kind. long kind ∙ f.stands kind ∙ ap (λ st. count_in kind code.operations st + outer kind r) (sym same))
 
   -- none is open where nothing is kept
-  none_kept : (kind : Kind) (r : Registers) (o : Op) → slice_get code.operations r.place ≡ Some o → effect_of o kind ≡ Closes → Fits code r → length (kept kind r) ≡ 0 → ⊥
+  none_kept : (kind : Kind) (r : Registers) (o : Op) → slice_get code.operations r.place ≡ Some o → effect_of o kind ≡ Closes → Fits code r → length (open_entries kind r) ≡ 0 → ⊥
   none_kept kind r o e closes f none = omega (arith, none, f.stands kind, some_to_close code.operations kind o (open_at code.operations r.place) (ok.nested.paired r.place o e) closes)
 
   turns_fit : (r : Registers) (p : Point State Outcome) (i : ℕ) (cs : List ℕ) → r.counters ≡ cs → slice_get code.operations r.place ≡ Some (Again i) → Fits code r → FitsAfter code (turns w cs i r p)
@@ -120,7 +120,7 @@ module _ {State Outcome : Type 0} (w : World State Outcome) (code : Code) (ok : 
   turns_fit r p i (n ∷ ns) c e f = by_count (n - 1)
     where
       by_count : (k : ℕ) → FitsAfter code (counted w k ns i r p)
-      by_count zero = let r' = record r { place = r.place + 1; counters = ns } in falls r r' (Again i) e (λ x. x) f refl refl (by_kind (λ kind. length (kept kind r') ≡ depth_after (effect_of (Again i) kind) (length (kept kind r))) (omega (arith, ap length c)) refl)
+      by_count zero = let r' = record r { place = r.place + 1; counters = ns } in falls r r' (Again i) e (λ x. x) f refl refl (by_kind (λ kind. length (open_entries kind r') ≡ depth_after (effect_of (Again i) kind) (length (open_entries kind r))) (omega (arith, ap length c)) refl)
       by_count (suc k) =
           let os = code.operations in
           let g = ok.jumps r.place (Again i) e in
@@ -128,7 +128,7 @@ module _ {State Outcome : Type 0} (w : World State Outcome) (code : Code) (ok : 
           let r' = record r { place = i; counters = suc k ∷ ns } in
           jumps_fit r r' i f (omega (arith, g.3, a.2, f.inside)) (ap (open_at os) g.3 ∙ open_behind os r.place g.0 g.1 a ∙ sym g.2)
           (ap (owner_at os) g.3 ∙ home_behind os r.place g.0 g.1 a ∙ home os closed r.place r.place g.0 g.1 (omega arith) g.2) refl refl
-          (by_kind (λ kind. length (kept kind r') ≡ length (kept kind r)) (omega (arith, ap length c)) refl)
+          (by_kind (λ kind. length (open_entries kind r') ≡ length (open_entries kind r)) (omega (arith, ap length c)) refl)
 
   leaves_fit : (r : Registers) (p : Point State Outcome) (i : ℕ) (cs : List ℕ) → r.counters ≡ cs → slice_get code.operations r.place ≡ Some (Leave i) → Fits code r → FitsAfter code (leaves w cs i r p)
   leaves_fit r p i [] c e f = absurd (omega (arith, ap length c, f.stands Loops, ok.nested.paired r.place (Leave i) e))
@@ -141,17 +141,17 @@ module _ {State Outcome : Type 0} (w : World State Outcome) (code : Code) (ok : 
       let in_q : 0 < length (open_at os r.place) = filled Loops os (open_at os r.place) (ok.nested.paired r.place (Leave i) e) in
       let there : owner_at os (suc q) ≡ owner_at os r.place = same_routine os q (Again g.1) at (λ x. x) ∙ same_home os closed q r.place g.4 in_q in
       goes_fit r r' (suc q) f (omega (arith, next_within os q (Again g.1) ok.ends at (λ x. x))) there g.2 refl
-      (kept_behind r r' q (Again g.1) at g.4 f (by_kind (λ kind. length (kept kind r') ≡ depth_after (effect_of (Again g.1) kind) (length (kept kind r))) (omega (arith, ap length c)) refl))
+      (kept_behind r r' q (Again g.1) at g.4 f (by_kind (λ kind. length (open_entries kind r') ≡ depth_after (effect_of (Again g.1) kind) (length (open_entries kind r))) (omega (arith, ap length c)) refl))
 
   paces_fit : (r : Registers) (p : Point State Outcome) (t : ℕ) (bs : List ℕ) → r.frames ≡ bs → slice_get code.operations r.place ≡ Some (Pace t) → Fits code r → FitsAfter code (keeps_pace w bs t r p)
   paces_fit r p t [] c e f = absurd (none_kept Frames r (Pace t) e refl f (ap length c))
   paces_fit r p t (b ∷ bs) c e f =
       let r' = record r { place = r.place + 1; frames = bs } in
-      falls r r' (Pace t) e (λ x. x) f refl refl (by_kind (λ kind. length (kept kind r') ≡ depth_after (effect_of (Pace t) kind) (length (kept kind r))) refl (omega (arith, ap length c)))
+      falls r r' (Pace t) e (λ x. x) f refl refl (by_kind (λ kind. length (open_entries kind r') ≡ depth_after (effect_of (Pace t) kind) (length (open_entries kind r))) refl (omega (arith, ap length c)))
 
   branch_fits : (r : Registers) (p : Point State Outcome) (i : ℕ) (b : Bool) → slice_get code.operations r.place ≡ Some (JumpFalse i) → Fits code r → Fits code (at_place r (cond b (r.place + 1) i))
-  branch_fits r p i true e f = falls r (at_place r (r.place + 1)) (JumpFalse i) e (λ x. x) f refl refl (by_kind (λ kind. length (kept kind (at_place r (r.place + 1))) ≡ length (kept kind r)) refl refl)
-  branch_fits r p i false e f = let g = ok.jumps r.place (JumpFalse i) e in jumps_fit r (at_place r i) i f g.1 g.2 g.3 refl refl (by_kind (λ kind. length (kept kind (at_place r i)) ≡ length (kept kind r)) refl refl)
+  branch_fits r p i true e f = falls r (at_place r (r.place + 1)) (JumpFalse i) e (λ x. x) f refl refl (by_kind (λ kind. length (open_entries kind (at_place r (r.place + 1))) ≡ length (open_entries kind r)) refl refl)
+  branch_fits r p i false e f = let g = ok.jumps r.place (JumpFalse i) e in jumps_fit r (at_place r i) i f g.1 g.2 g.3 refl refl (by_kind (λ kind. length (open_entries kind (at_place r i)) ≡ length (open_entries kind r)) refl refl)
 
   -- a Call goes to where its routine begins
   calls_fit : (r : Registers) (p : Point State Outcome) (k : ℕ) → slice_get code.operations r.place ≡ Some (Call k) → Fits code r → FitsAfter code (calls w (routine_at code.operations k) r p)
@@ -165,7 +165,7 @@ module _ {State Outcome : Type 0} (w : World State Outcome) (code : Code) (ok : 
       let s : r.place + 1 ≡ suc r.place = omega arith in
       let next : open_at os (r.place + 1) ≡ open_at os r.place = ap (open_at os) s ∙ ap (λ v. after v r.place (open_at os r.place)) e in
       let r' = record r { place = b; returns = (r.place + 1) ∷ r.returns } in
-      let same : (kind : Kind) → length (kept kind r') ≡ length (kept kind r) = by_kind (λ kind. length (kept kind r') ≡ length (kept kind r)) refl refl in
+      let same : (kind : Kind) → length (open_entries kind r') ≡ length (open_entries kind r) = by_kind (λ kind. length (open_entries kind r') ≡ length (open_entries kind r)) refl refl in
       let fits : Fits code r' = record {
         inside = begun_inside os k b ok.ends g;
         stands = λ kind. omega (arith, same kind, f.stands kind, ap (count_in kind os) g.none_open, ap (count_in kind os) next);
@@ -185,7 +185,7 @@ module _ {State Outcome : Type 0} (w : World State Outcome) (code : Code) (ok : 
       let k = owner_at os r.place in
       let home : owner_at os q ≡ owner_at os g.0 = ap (owner_at os) g.1 ∙ same_routine os g.0 (Call k) g.2 (λ x. x) in
       let r' = record r { place = q; returns = qs } in
-      let same : (kind : Kind) → length (kept kind r') ≡ length (kept kind r) = by_kind (λ kind. length (kept kind r') ≡ length (kept kind r)) refl refl in
+      let same : (kind : Kind) → length (open_entries kind r') ≡ length (open_entries kind r) = by_kind (λ kind. length (open_entries kind r') ≡ length (open_entries kind r)) refl refl in
       record {
         inside = omega (arith, g.1, next_within os g.0 (Call k) ok.ends g.2 (λ x. x));
         stands = λ kind. omega (arith, same kind, f.stands kind, ap (count_in kind os) (ok.nested.paired r.place Return e), ap (outer_of kind os) c);
@@ -196,15 +196,15 @@ module _ {State Outcome : Type 0} (w : World State Outcome) (code : Code) (ok : 
   step_fits r p f = let x = there code.operations r.place f.inside in subst (λ v. FitsAfter code (act w v code r p)) (sym x.1) (by_op x.0 x.1)
     where
       -- nothing that is kept changes
-      same : (r' : Registers) → r'.counters ≡ r.counters → r'.frames ≡ r.frames → (kind : Kind) → length (kept kind r') ≡ length (kept kind r)
-      same r' a b = by_kind (λ kind. length (kept kind r') ≡ length (kept kind r)) (ap length a) (ap length b)
+      same : (r' : Registers) → r'.counters ≡ r.counters → r'.frames ≡ r.frames → (kind : Kind) → length (open_entries kind r') ≡ length (open_entries kind r)
+      same r' a b = by_kind (λ kind. length (open_entries kind r') ≡ length (open_entries kind r)) (ap length a) (ap length b)
 
       by_op : (o : Op) → slice_get code.operations r.place ≡ Some o → FitsAfter code (act w (Some o) code r p)
       by_op Halt e = tt
       by_op (Send m) e = sends_fit r p (Send m) m (λ l. l) e (λ x. x) (λ kind. refl) (ok.messages r.place (Send m) e) f
       by_op (Alt m) e = sends_fit r p (Alt m) m (λ l. other_line r.line) e (λ x. x) (λ kind. refl) (ok.messages r.place (Alt m) e) f
       by_op (SetGap t) e = let r' = at_place r (r.place + 1) in falls r r' (SetGap t) e (λ x. x) f refl refl (same r' refl refl)
-      by_op (Loop n) e = let r' = record r { place = r.place + 1; counters = n ∷ r.counters } in falls r r' (Loop n) e (λ x. x) f refl refl (by_kind (λ kind. length (kept kind r') ≡ depth_after (effect_of (Loop n) kind) (length (kept kind r))) (omega arith) refl)
+      by_op (Loop n) e = let r' = record r { place = r.place + 1; counters = n ∷ r.counters } in falls r r' (Loop n) e (λ x. x) f refl refl (by_kind (λ kind. length (open_entries kind r') ≡ depth_after (effect_of (Loop n) kind) (length (open_entries kind r))) (omega arith) refl)
       by_op (Again i) e = turns_fit r p i r.counters refl e f
       by_op (Leave i) e = leaves_fit r p i r.counters refl e f
       by_op (Jump i) e = let g = ok.jumps r.place (Jump i) e in let r' = at_place r i in jumps_fit r r' i f g.1 g.2 g.3 refl refl (same r' refl refl)
@@ -212,7 +212,7 @@ module _ {State Outcome : Type 0} (w : World State Outcome) (code : Code) (ok : 
       by_op (JumpFalse i) e = branch_fits r p i r.flag e f
       by_op (Call k) e = calls_fit r p k e f
       by_op Return e = backs_fit r p r.returns refl e f
-      by_op Begin e = let r' = record r { place = r.place + 1; frames = now_at w p ∷ r.frames } in falls r r' Begin e (λ x. x) f refl refl (by_kind (λ kind. length (kept kind r') ≡ depth_after (effect_of Begin kind) (length (kept kind r))) refl (omega arith))
+      by_op Begin e = let r' = record r { place = r.place + 1; frames = now_at w p ∷ r.frames } in falls r r' Begin e (λ x. x) f refl refl (by_kind (λ kind. length (open_entries kind r') ≡ depth_after (effect_of Begin kind) (length (open_entries kind r))) refl (omega arith))
       by_op (Pace t) e = paces_fit r p t r.frames refl e f
 
   then_fits : (n : ℕ) (r : Registers) (p : Point State Outcome) → Fits code r → (t : Turn (Running State Outcome)) → FitsAfter code t → ((x : Running State Outcome) → Fits code x.at → FitsAfter code (run w n code x.at x.point)) → FitsAfter code (then_run w t (record { at = r; point = p }) (run w n code))
@@ -229,7 +229,7 @@ module _ {State Outcome : Type 0} (w : World State Outcome) (code : Code) (ok : 
       let g = main_begun code.operations closed in
       record {
         inside = begun_inside code.operations (routines code.operations) (main_of code.operations) ok.ends g;
-        stands = by_kind (λ kind. length (kept kind (start code)) ≡ open_of kind code.operations (main_of code.operations) + 0) (omega (arith, ap (count_in Loops code.operations) g.none_open)) (omega (arith, ap (count_in Frames code.operations) g.none_open));
+        stands = by_kind (λ kind. length (open_entries kind (start code)) ≡ open_of kind code.operations (main_of code.operations) + 0) (omega (arith, ap (count_in Loops code.operations) g.none_open)) (omega (arith, ap (count_in Frames code.operations) g.none_open));
         chain = g.routine ∙ routines_are code.operations;
       }
 
