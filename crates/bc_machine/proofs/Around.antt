@@ -6,7 +6,7 @@ use Rattle.std.proofs.lemmas.List.{take_all, length-drop}
 use Rattle.std.proofs.lemmas.Bool.Decides.{nat_tests}
 use Rattle.mil_host.specs.Values.{PutUp}
 use Rattle.bc_machine.specs.declared.placed.Placed.{Placed}
-use Rattle.bc_machine.specs.declared.kept.Row.{Row}
+use Rattle.bc_machine.specs.declared.action_rows.Row.{Row}
 use Rattle.bc_machine.specs.Controller.{placed_at}
 use Rattle.bc_machine.specs.Rows.{placed_of, all_placed, rows_at}
 

@@ -13,9 +13,9 @@ use Rattle.mil_host.specs.Values.{PutUp}
 use Rattle.mil_host.specs.declared.actions.Action.{Action}
 use Rattle.mil_host.specs.declared.actions.Action.TheVariants as host
 use Rattle.bc_machine.specs.declared.placed.Placed.{Placed}
-use Rattle.bc_machine.specs.declared.kept.Kept.{Kept}
-use Rattle.bc_machine.specs.declared.kept.Kept.TheVariants as kept
-use Rattle.bc_machine.specs.declared.kept.Row.{Row}
+use Rattle.bc_machine.specs.declared.action_rows.KeptAction.{KeptAction}
+use Rattle.bc_machine.specs.declared.action_rows.KeptAction.TheVariants as kept
+use Rattle.bc_machine.specs.declared.action_rows.Row.{Row}
 use Rattle.bc_machine.specs.Controller.{placed_at}
 use Rattle.bc_machine.specs.Rising.{IsRising, IsParted, IsPutIn}
 use Rattle.bc_machine.specs.Rows.{action_of, placed_of, all_placed, put_up_beside, rows_at, IsKeptAction, IsRow, IsMore}
@@ -24,7 +24,7 @@ use Rattle.bc_machine.proofs.Around.{same_placed}
 
 -- ---- more data words in the list change no row
 
-action_more : (words rest : List PutUp) (k : Kept) → IsKeptAction (length words) k → action_of (words ++ rest) k ≡ action_of words k
+action_more : (words rest : List PutUp) (k : KeptAction) → IsKeptAction (length words) k → action_of (words ++ rest) k ≡ action_of words k
 action_more words rest (kept.Word sub word) is = refl
 action_more words rest (kept.Words place) is = ap host.Transmit (get_or_append_left words rest _ place is)
 action_more words rest (kept.Busy on) is = refl
@@ -40,7 +40,7 @@ action_more words rest (kept.Response gap) is = refl
 action_more words rest (kept.Deaf line on) is = refl
 action_more words rest (kept.Mute line on) is = refl
 
-kept_more : (m n : ℕ) (k : Kept) → m ≤ n → IsKeptAction m k → IsKeptAction n k
+kept_more : (m n : ℕ) (k : KeptAction) → m ≤ n → IsKeptAction m k → IsKeptAction n k
 kept_more m n (kept.Word sub word) le is = is
 kept_more m n (kept.Words place) le is = omega (arith, le, is)
 kept_more m n (kept.Busy on) le is = is

@@ -1,15 +1,13 @@
 -- What a controller keeps over a step.
 use Rattle.std.proofs.Common.{◌≡◌, ◌≢◌, ℕ, suc, ◌+◌, ◌-◌, ◌*◌, ◌≤◌, ◌<◌, ◌^◌, Some, length, sym, ap, subst, refl, arith}
 use Rattle.std.specs.Prelude.{slice_get}
-use Rattle.mil_message.specs.World.{World, Point}
 use Rattle.mil_bus.specs.Exchange.{BusState}
 use Rattle.mil_bus.specs.declared.outcomes.Outcome.{Outcome}
 use Rattle.frame_code.specs.declared.Op.{Op}
 use Rattle.frame_code.specs.declared.Op.TheVariants as op
-use Rattle.frame_code.specs.Table.{Code, Running, Turn, goes_on, halted, stuck, step, run, start}
-use Rattle.frame_code.specs.Loadable.{IsLoadable}
+use Rattle.frame_code.specs.Table.{Running, Turn, goes_on, halted, stuck, step, run, start}
 use Rattle.frame_load.specs.Budget.{budget, worst_messages, total, cost_of, one_period, one_sent}
-use Rattle.frame_load.specs.Runs.{Reaches, HaltsWithin, paid}
+use Rattle.frame_load.specs.Runs.{HaltsWithin, EachLoadable, EachReached, paid}
 use Rattle.bc_machine.specs.declared.Stepped.{Stepped}
 use Rattle.bc_machine.specs.declared.Stepped.TheVariants.{Ran, Sent, Halted}
 use Rattle.bc_machine.specs.Running.{MachineState, world_in, beginning, turn_of, moved_by, stepped, answered, clock_in}
@@ -23,19 +21,19 @@ use Rattle.bc_machine.proofs.Told.{told}
 
 -- the laws of loadable codes on a bus
 pub record Laws : Type 0 where
-  pub never_stuck : (w : World BusState Outcome) (code : Code) (from : Point BusState Outcome) (x : Running BusState Outcome) → IsLoadable code → Reaches w code from x → step w code x.at x.point ≢ stuck
-  pub inside : (w : World BusState Outcome) (code : Code) (from : Point BusState Outcome) (x : Running BusState Outcome) → IsLoadable code → Reaches w code from x → x.at.place < length code.operations
-  pub room : (w : World BusState Outcome) (code : Code) (from : Point BusState Outcome) (x : Running BusState Outcome) (n : ℕ) → IsLoadable code → Reaches w code from x → slice_get code.operations x.at.place ≡ Some (op.Loop n) → length x.at.counters < 17
-  pub room_to_call : (w : World BusState Outcome) (code : Code) (from : Point BusState Outcome) (x : Running BusState Outcome) (k : ℕ) → IsLoadable code → Reaches w code from x → slice_get code.operations x.at.place ≡ Some (op.Call k) → length x.at.returns < 32
-  pub room_to_begin : (w : World BusState Outcome) (code : Code) (from : Point BusState Outcome) (x : Running BusState Outcome) → IsLoadable code → Reaches w code from x → slice_get code.operations x.at.place ≡ Some op.Begin → length x.at.frames < 16
-  pub messages : (w : World BusState Outcome) (code : Code) (from : Point BusState Outcome) (x : Running BusState Outcome) → IsLoadable code → Reaches w code from x → x.point.number ≤ from.number + worst_messages code.operations
-  pub halts : (w : World BusState Outcome) (code : Code) (from : Point BusState Outcome) → IsLoadable code → HaltsWithin w code (budget code.operations - 1) (start code) from
-  pub costs : (w : World BusState Outcome) (code : Code) (from : Point BusState Outcome) (cost : Op → ℕ) (n : ℕ) → IsLoadable code → paid w cost n code (start code) from ≤ total cost code.operations
+  pub never_stuck : EachReached BusState Outcome (λ w code from x. step w code x.at x.point ≢ stuck)
+  pub inside : EachReached BusState Outcome (λ w code from x. x.at.place < length code.operations)
+  pub room : EachReached BusState Outcome (λ w code from x. (n : ℕ) → slice_get code.operations x.at.place ≡ Some (op.Loop n) → length x.at.counters < 17)
+  pub room_to_call : EachReached BusState Outcome (λ w code from x. (k : ℕ) → slice_get code.operations x.at.place ≡ Some (op.Call k) → length x.at.returns < 32)
+  pub room_to_begin : EachReached BusState Outcome (λ w code from x. slice_get code.operations x.at.place ≡ Some op.Begin → length x.at.frames < 16)
+  pub messages : EachReached BusState Outcome (λ w code from x. x.point.number ≤ from.number + worst_messages code.operations)
+  pub halts : EachLoadable BusState Outcome (λ w code from. HaltsWithin w code (budget code.operations - 1) (start code) from)
+  pub costs : EachLoadable BusState Outcome (λ w code from. (cost : Op → ℕ) (n : ℕ) → paid w cost n code (start code) from ≤ total cost code.operations)
 
 -- now is small
 low : Laws → (m : MachineState) → IsUnderWay m → clock_in m ≤ 2 ^ 47 + 2 ^ 46 + 1000000 * 2 ^ 24
 low laws m u =
-    let short = laws.costs (world_in m) m.code (beginning m.begun) one_period m.taken u.loadable in
+    let short = laws.costs (world_in m) m.code (beginning m.begun) u.loadable one_period m.taken in
     omega (arith, u.clock, short, u.short, u.messages, u.within.1)
 
 module _ (laws : Laws) (m : MachineState) (u : IsUnderWay m) where
@@ -49,8 +47,8 @@ module _ (laws : Laws) (m : MachineState) (u : IsUnderWay m) where
         image = u.loadable.image;
         going = going;
         inside = laws.inside (world_in m) m.code (beginning m.begun) here u.loadable (m.taken, u.reached);
-        room = λ n e. laws.room (world_in m) m.code (beginning m.begun) here n u.loadable (m.taken, u.reached) e;
-        room_to_call = λ k e. laws.room_to_call (world_in m) m.code (beginning m.begun) here k u.loadable (m.taken, u.reached) e;
+        room = λ n e. laws.room (world_in m) m.code (beginning m.begun) here u.loadable (m.taken, u.reached) n e;
+        room_to_call = λ k e. laws.room_to_call (world_in m) m.code (beginning m.begun) here u.loadable (m.taken, u.reached) k e;
         room_to_begin = λ e. laws.room_to_begin (world_in m) m.code (beginning m.begun) here u.loadable (m.taken, u.reached) e;
         number = omega (arith, u.messages, u.within.1);
         taken = omega (arith, u.steps, u.within.0);
@@ -80,7 +78,7 @@ module _ (laws : Laws) (m : MachineState) (u : IsUnderWay m) where
       let sent : x.point.number ≤ 0 + worst_messages m.code.operations = laws.messages w m.code first x u.loadable (m.taken + 1, more) in
       let adds : x.point.number ≡ m.point.number + cost_of one_sent (slice_get m.code.operations m.at.place) = act_adds w (slice_get m.code.operations m.at.place) m.code m.at m.point x e in
       let clock : clock_in (moved_by (goes_on x) m) ≤ 2 ^ 47 + paid w one_period (m.taken + 1) m.code (start m.code) first + x.point.number * 2 ^ 24 = omega (arith, u.clock, soon, pays, adds) in
-      let short = laws.costs w m.code first one_period (m.taken + 1) u.loadable in
+      let short = laws.costs w m.code first u.loadable one_period (m.taken + 1) in
       record {
         loadable = u.loadable;
         within = u.within;

@@ -1,11 +1,11 @@
 -- Steps of a controller, and its run.
 use Rattle.std.proofs.Common.{◌≡◌, ℕ, zero, suc, ap, ◌∙◌, refl}
-use Rattle.mil_message.specs.World.{World, Point}
+use Rattle.mil_message.specs.World.{Point}
 use Rattle.mil_bus.specs.Exchange.{BusState}
 use Rattle.mil_bus.specs.declared.outcomes.Outcome.{Outcome}
 use Rattle.frame_code.specs.Table.{Code, Running, Turn, goes_on, halted, stuck, step, then_run, run}
 use Rattle.frame_code.specs.Loadable.{IsLoadable}
-use Rattle.frame_load.specs.Runs.{Reaches}
+use Rattle.frame_load.specs.Runs.{Reaches, EachReached}
 use Rattle.bc_machine.specs.Running.{MachineState, world_in, turn_of, moved_by, stepped, after_steps}
 
 abbrev pub running_in : MachineState → Running BusState Outcome
@@ -17,11 +17,11 @@ pub record Stands (from : Point BusState Outcome) (m : MachineState) : Type 0 wh
   pub reached : Reaches (world_in m) m.code from (running_in m)
 
 abbrev pub GoesOn : Type 0
-GoesOn = (w : World BusState Outcome) (code : Code) (from : Point BusState Outcome) (x y : Running BusState Outcome) → IsLoadable code → Reaches w code from x → step w code x.at x.point ≡ goes_on y → Reaches w code from y
+GoesOn = EachReached BusState Outcome (λ w code from x. (y : Running BusState Outcome) → step w code x.at x.point ≡ goes_on y → Reaches w code from y)
 
 module _ (more : GoesOn) (from : Point BusState Outcome) where
   moved_stands : (m : MachineState) (t : Turn (Running BusState Outcome)) → turn_of m ≡ t → Stands from m → Stands from (moved_by t m)
-  moved_stands m (goes_on x) e s = record { loadable = s.loadable; reached = more (world_in m) m.code from (running_in m) x s.loadable s.reached e }
+  moved_stands m (goes_on x) e s = record { loadable = s.loadable; reached = more (world_in m) m.code from (running_in m) s.loadable s.reached x e }
   moved_stands m halted e s = s
   moved_stands m stuck e s = s
 

@@ -6,16 +6,16 @@ use Rattle.mil_host.specs.Values.{PutUp}
 use Rattle.mil_host.specs.declared.actions.Action.{Action}
 use Rattle.mil_host.specs.declared.actions.Action.TheVariants as host
 use Rattle.bc_machine.specs.declared.placed.Placed.{Placed}
-use Rattle.bc_machine.specs.declared.kept.Kept.{Kept}
-use Rattle.bc_machine.specs.declared.kept.Kept.TheVariants as kept
-use Rattle.bc_machine.specs.declared.kept.Row.{Row}
+use Rattle.bc_machine.specs.declared.action_rows.KeptAction.{KeptAction}
+use Rattle.bc_machine.specs.declared.action_rows.KeptAction.TheVariants as kept
+use Rattle.bc_machine.specs.declared.action_rows.Row.{Row}
 
 -- the data words at a place of the list beside the rows
 abbrev pub put_up_beside : List PutUp → ℕ → PutUp
 put_up_beside words place = slice_index_or words place (record { sub = 0; words = [] })
 
 -- the action that is kept
-abbrev pub action_of : List PutUp → Kept → Action
+abbrev pub action_of : List PutUp → KeptAction → Action
 action_of words (kept.Word sub word) = host.Transmit (record { sub = sub; words = word ∷ [] })
 action_of words (kept.Words place) = host.Transmit (put_up_beside words place)
 action_of words (kept.Busy on) = host.Busy on
@@ -31,8 +31,8 @@ action_of words (kept.Response gap) = host.Response gap
 action_of words (kept.Deaf line on) = host.Deaf line on
 action_of words (kept.Mute line on) = host.Mute line on
 
--- a subaddress of 1 to 29, or a place below this one
-abbrev pub IsKeptAction : ℕ → Kept → Type 0
+-- a subaddress that a host puts words up for, or a place below this one
+abbrev pub IsKeptAction : ℕ → KeptAction → Type 0
 IsKeptAction count (kept.Word sub word) = (1 ≤ sub) × (sub ≤ highest_put_up)
 IsKeptAction count (kept.Words place) = place < count
 IsKeptAction count _ = Unit {0}

@@ -10,6 +10,7 @@ use Rattle.mil_monitor.specs.Observed.{observed}
 use Rattle.frame_code.specs.declared.Op.{Op}
 use Rattle.frame_code.specs.declared.Op.TheVariants as op
 use Rattle.frame_code.specs.Table.{Code, Registers, Running, Turn, goes_on, halted, stuck, step, start}
+use Rattle.frame_code.specs.Loadable.{IsLoadable}
 use Rattle.bc_machine.specs.declared.placed.Placed.{Placed}
 use Rattle.bc_machine.specs.declared.Stepped.{Stepped}
 use Rattle.bc_machine.specs.declared.Stepped.TheVariants.{Ran, Sent, Halted}
@@ -66,6 +67,12 @@ stepped m = moved_by (turn_of m) m
 abbrev pub after_steps : ℕ → MachineState → MachineState
 after_steps zero m = m
 after_steps (suc n) m = after_steps n (stepped m)
+
+-- a fact of each controller of a code that keeps the loader's rules, as it starts
+abbrev pub EachController : (MachineState → Type 0) → Type 0
+EachController P =
+    (code : Code) (b : BusState) (plan : List Planned) (placed : List Placed) → IsLoadable code
+    → P (started code b plan placed)
 
 -- the record of the latest talk
 abbrev pub latest : List Talk → Stepped

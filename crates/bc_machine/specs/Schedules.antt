@@ -2,7 +2,7 @@
 use Rattle.std.specs.Prelude.{◌≡◌, ℕ, ◌+◌, ◌≤◌, List, length, All, vec_len, vec_capacity}
 use Rattle.std.specs.List.Sorted.{IsNonDecreasingBy}
 use Rattle.bc_machine.specs.declared.placed.Placed.{Placed}
-use Rattle.bc_machine.specs.declared.kept.Row.{Row}
+use Rattle.bc_machine.specs.declared.action_rows.Row.{Row}
 use Rattle.bc_machine.specs.declared.schedule.Schedule.TheInside.{Inside}
 use Rattle.bc_machine.specs.declared.lookup.Lookup.{Lookup}
 use Rattle.bc_machine.specs.declared.lookup.Lookup.TheVariants as lookup

@@ -1,13 +1,10 @@
 //! What holds of every run of a controller.
 ghost use Rattle.bc_machine.specs.Posting.{ActionsToComeAreFree, HaltsAlike};
-ghost use Rattle.bc_machine.specs.Running.{started, after_steps, turn_of};
-ghost use Rattle.bc_machine.specs.declared.placed.Placed.{Placed};
-ghost use Rattle.frame_code.specs.Loadable.{IsLoadable};
-ghost use Rattle.frame_code.specs.Table.{Code, halted, stuck};
+ghost use Rattle.bc_machine.specs.Running.{EachController, after_steps, turn_of};
+ghost use Rattle.frame_code.specs.Table.{halted, stuck};
 ghost use Rattle.frame_load.specs.Budget.{budget, worst_messages};
 ghost use Rattle.mil_bus.specs.Exchange.{BusState};
-ghost use Rattle.mil_line.specs.Plans.{Planned};
-ghost use Rattle.std.specs.Prelude.{◌≡◌, ◌≢◌, ◌≤◌, ◌-◌, ℕ, List};
+ghost use Rattle.std.specs.Prelude.{◌≡◌, ◌≢◌, ◌≤◌, ◌-◌, ℕ};
 
 use frame_code::Setting;
 use frame_load::loadable_runs;
@@ -29,12 +26,10 @@ impl Setting for BusSetting {
 /// that is not there. It sends at most as many messages as the code's sum says, and stands at a Halt after one step
 /// less than its budget, which counts the Halt too.
 pub fn controller_runs()
-    ensures never_stuck { (code : Code) (b : BusState) (plan : List Planned) (placed : List Placed) (n : ℕ) →
-        IsLoadable code → turn_of (after_steps n (started code b plan placed)) ≢ stuck }
-    ensures messages { (code : Code) (b : BusState) (plan : List Planned) (placed : List Placed) (n : ℕ) →
-        IsLoadable code → (after_steps n (started code b plan placed)).point.number ≤ worst_messages code.operations }
-    ensures halts { (code : Code) (b : BusState) (plan : List Planned) (placed : List Placed) →
-        IsLoadable code → turn_of (after_steps (budget code.operations - 1) (started code b plan placed)) ≡ halted }
+    ensures never_stuck { EachController (λ m. (n : ℕ) → turn_of (after_steps n m) ≢ stuck) }
+    ensures messages { EachController (λ m. (n : ℕ) →
+        (after_steps n m).point.number ≤ worst_messages m.code.operations) }
+    ensures halts { EachController (λ m. turn_of (after_steps (budget m.code.operations - 1) m) ≡ halted) }
 {
     loadable_runs::<BusSetting>();
 }

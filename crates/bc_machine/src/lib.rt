@@ -5,10 +5,10 @@
 //! the loader. Its tests: `frame_tests`. Its wrong bodies: `edits/`.
 #![tactic(auto)]
 
+mod action_rows;
 mod actions;
 mod begun;
 mod frames;
-mod kept;
 mod laws;
 mod lookup;
 mod machine;

@@ -3,7 +3,7 @@ ghost use Rattle.bc_machine.specs.Rows.{rows_at, IsRow};
 ghost use Rattle.bc_machine.specs.Schedules.{AreRising, AreSorted, FindsRows};
 ghost use Rattle.std.specs.Prelude.{◌≡◌, ℕ, List, IsTrue, All, IfOk, length};
 
-use crate::kept::Row;
+use crate::action_rows::Row;
 use mil_host::TransmitWords;
 use std::alloc::{AllocError, Global};
 

@@ -8,8 +8,8 @@ ghost use Rattle.std.specs.Prelude.{IsTrue, IfOk, IfErr, OnOk, OnErr};
 ghost use Rattle.std.specs.Prelude.{◌≡◌, ℕ, ◌+◌, ◌<◌, ◌≤◌, ◌++◌, ◌∷◌, [], min, max, length, take, slice_index_or};
 
 use crate::Placed;
+use crate::action_rows::{Row, act_at, copies_of, insert_row};
 use crate::actions::Actions;
-use crate::kept::{Row, act_at, copies_of, insert_row};
 use crate::lookup::Lookup;
 use mil_bus::Bus;
 use mil_host::TransmitWords;

@@ -14,7 +14,7 @@ use Rattle.mil_terminal.specs.contracts.terminals.Terminal as terminal
 use Rattle.mil_bus.specs.contracts.terminals.Terminals as terminals
 use Rattle.mil_bus.specs.contracts.buses.Bus as bus
 use Rattle.bc_machine.specs.contracts.actions.Actions as actions
-use Rattle.bc_machine.specs.contracts.kept.Row as row
+use Rattle.bc_machine.specs.contracts.action_rows.Row as row
 use Rattle.bc_machine.specs.contracts.schedule.Schedule as schedule
 use Rattle.bc_machine.specs.contracts.stack.Stack as stack
 use Rattle.bc_machine.specs.contracts.stack.Stack.TheInside as inside

@@ -11,9 +11,9 @@ open_at c place before ns = record { channel = c; place = place; before = before
 abbrev run_of : Held → List Numbered → List (List ℕ)
 run_of s ns = closed_by_pushes s ns ++ last_packet (after s ns)
 
-kept : (s : Held) (n : Numbered) → fits s n ≡ true → pushed s n ≡ with_record s n
+pushed_fits : (s : Held) (n : Numbered) → fits s n ≡ true → pushed s n ≡ with_record s n
 unfolding pushed
-kept s n e = rw e refl
+pushed_fits s n e = rw e refl
 
 opened : (s : Held) (n : Numbered) → fits s n ≡ false → pushed s n ≡ with_record (closed s) n
 unfolding pushed
@@ -37,7 +37,7 @@ run c place before m ms (n ∷ ns) =
         → run_of (open_at c (place + 1) (last_number before (m ∷ ms)) (n ∷ [])) ns ≡ packets_from c (place + 1) (last_number before (m ∷ ms)) (cut_behind c.limit (n ∷ []) ns)
         → cond (fits (open_at c place before (m ∷ ms)) n) [] (packet_of (open_at c place before (m ∷ ms)) ∷ []) ++ run_of (pushed (open_at c place before (m ∷ ms)) n) ns
         ≡ packets_from c place before (cut_behind c.limit (m ∷ ms) (n ∷ ns))
-    go true e f one other = rw (kept (open_at c place before (m ∷ ms)) n (f ∙ e), f ∙ e, e) one
+    go true e f one other = rw (pushed_fits (open_at c place before (m ∷ ms)) n (f ∙ e), f ∙ e, e) one
     go false e f one other = rw (opened (open_at c place before (m ∷ ms)) n (f ∙ e), f ∙ e, e) (ap (λ (ps : List (List ℕ)). packet c place before (m ∷ ms) ∷ ps) other)
 
 pub run_gives_the_packets : (c : Channel) (ns : List Numbered) → closed_by_pushes (fresh c) ns ++ last_packet (after (fresh c) ns) ≡ packets c ns

@@ -93,13 +93,13 @@ kept_more h x later true e same met_same =
     ∙ append_assoc h.records (record_in x) (rest h.channel.channel) in
     carried (Keeping h x later) true (concerns h x) (met h x) (after_item h x) (sym e) (sym (mine h x e)) keeping
 
-kept : (h : Held) (items : List Item) → Keeps h items
-kept h [] = sym (append-nil h.records)
-kept h (x ∷ later) = kept_more h x later (concerns h x) refl (kept h later) (kept (met h x) later)
+keeps_all : (h : Held) (items : List Item) → Keeps h items
+keeps_all h [] = sym (append-nil h.records)
+keeps_all h (x ∷ later) = kept_more h x later (concerns h x) refl (keeps_all h later) (keeps_all (met h x) later)
 
 pub records_are_kept : (f : Format) (channel : ℕ) (items : List Item)
     → closed_behind (fresh (channel_in f channel)) items ++ (held_in f channel items).records ≡ records_in channel items
-records_are_kept f channel items = kept (fresh (channel_in f channel)) items
+records_are_kept f channel items = keeps_all (fresh (channel_in f channel)) items
 
 -- ---- a channel that has ended
 

@@ -29,6 +29,10 @@ module _ {State Outcome : Type 0} (w : World State Outcome) where
   paid cost (suc n) code r p =
       pays (step w code r p) (cost_of cost (slice_get code.operations r.place)) (paid cost n code)
 
+-- a fact of each run of a code that keeps the loader's rules
+abbrev pub EachLoadable : (S O : Type 0) → (World S O → Code → Point S O → Type 0) → Type 0
+EachLoadable S O P = (w : World S O) (code : Code) (from : Point S O) → IsLoadable code → P w code from
+
 -- a fact of each place that a run of a code comes to that keeps the loader's rules
 abbrev pub EachReached : (S O : Type 0) → (World S O → Code → Point S O → Running S O → Type 0) → Type 0
 EachReached S O P =

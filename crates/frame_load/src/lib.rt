@@ -12,9 +12,8 @@ ghost use Rattle.frame_code.specs.declared.Op.{Op};
 ghost use Rattle.frame_load.specs.Budget as sums;
 ghost use Rattle.frame_load.specs.Judging.{Judges, Refuses, IsWithin, HasShortPeriods};
 ghost use Rattle.frame_load.specs.Marks.{AreBrackets};
-ghost use Rattle.frame_load.specs.Runs.{Reaches, HaltsWithin, EachReached, paid};
+ghost use Rattle.frame_load.specs.Runs.{Reaches, HaltsWithin, EachLoadable, EachReached, paid};
 ghost use Rattle.frame_load.specs.declared.error.LoadError.{LoadError};
-ghost use Rattle.mil_message.specs.World.{World, Point};
 ghost use Rattle.std.specs.Prelude.{IfErr};
 ghost use Rattle.std.specs.Prelude.{◌+◌, ◌-◌, ◌≡◌, ◌≢◌, ◌≤◌, ◌<◌, ◌↔◌, ℕ, length, slice_get, Some, None, Err, IfOk};
 
@@ -122,30 +121,26 @@ impl Program {
 /// counts the Halt too.
 pub fn loadable_runs<W: Setting>()
     ensures never_stuck { EachReached W.State W.Outcome (λ w code from x. step w code x.at x.point ≢ stuck) }
-    ensures begins { (w : World W.State W.Outcome) (code : Code) (from : Point W.State W.Outcome) →
-        IsLoadable code → Reaches w code from (record { at = start code; point = from }) }
-    ensures goes_on { (w : World W.State W.Outcome) (code : Code) (from : Point W.State W.Outcome)
-        (x y : Running W.State W.Outcome) → IsLoadable code → Reaches w code from x →
-        step w code x.at x.point ≡ goes_on y → Reaches w code from y }
+    ensures begins { EachLoadable W.State W.Outcome (λ w code from.
+        Reaches w code from (record { at = start code; point = from })) }
+    ensures goes_on { EachReached W.State W.Outcome (λ w code from x. (y : Running W.State W.Outcome) →
+        step w code x.at x.point ≡ goes_on y → Reaches w code from y) }
     ensures inside { EachReached W.State W.Outcome (λ w code from x. x.at.place < length code.operations) }
     ensures counters { EachReached W.State W.Outcome (λ w code from x. length x.at.counters ≤ 17) }
-    ensures room { (w : World W.State W.Outcome) (code : Code) (from : Point W.State W.Outcome)
-        (x : Running W.State W.Outcome) (n : ℕ) → IsLoadable code → Reaches w code from x →
-        slice_get code.operations x.at.place ≡ Some (op.Loop n) → length x.at.counters < 17 }
+    ensures room { EachReached W.State W.Outcome (λ w code from x. (n : ℕ) →
+        slice_get code.operations x.at.place ≡ Some (op.Loop n) → length x.at.counters < 17) }
     ensures opened { EachReached W.State W.Outcome (λ w code from x. length x.at.frames ≤ 16) }
     ensures room_to_begin { EachReached W.State W.Outcome (λ w code from x.
         slice_get code.operations x.at.place ≡ Some op.Begin → length x.at.frames < 16) }
     ensures returns { EachReached W.State W.Outcome (λ w code from x. length x.at.returns ≤ 32) }
-    ensures room_to_call { (w : World W.State W.Outcome) (code : Code) (from : Point W.State W.Outcome)
-        (x : Running W.State W.Outcome) (k : ℕ) → IsLoadable code → Reaches w code from x →
-        slice_get code.operations x.at.place ≡ Some (op.Call k) → length x.at.returns < 32 }
-    ensures costs { (w : World W.State W.Outcome) (cost : Op → ℕ) (n : ℕ) (code : Code)
-        (from : Point W.State W.Outcome) → IsLoadable code →
-        paid w cost n code (start code) from ≤ sums.total cost code.operations }
+    ensures room_to_call { EachReached W.State W.Outcome (λ w code from x. (k : ℕ) →
+        slice_get code.operations x.at.place ≡ Some (op.Call k) → length x.at.returns < 32) }
+    ensures costs { EachLoadable W.State W.Outcome (λ w code from. (cost : Op → ℕ) (n : ℕ) →
+        paid w cost n code (start code) from ≤ sums.total cost code.operations) }
     ensures messages { EachReached W.State W.Outcome (λ w code from x.
         x.point.number ≤ from.number + sums.worst_messages code.operations) }
-    ensures halts { (w : World W.State W.Outcome) (code : Code) (from : Point W.State W.Outcome) →
-        IsLoadable code → HaltsWithin w code (sums.budget code.operations - 1) (start code) from }
+    ensures halts { EachLoadable W.State W.Outcome (λ w code from.
+        HaltsWithin w code (sums.budget code.operations - 1) (start code) from) }
 {}
 
 // The most steps that a run may take.

@@ -5,7 +5,7 @@ use Rattle.bc_machine.proofs.Steps.{running_in, after_stands, turn_after, same_a
 use Rattle.bc_machine.proofs.laws.controller_runs.Goals as goal
 
 pub returns-clause-never_stuck : goal.returns-clause-never_stuck
-returns-clause-never_stuck c code b plan placed n ok =
+returns-clause-never_stuck c code b plan placed ok n =
     let m = started code b plan placed in
     let first : Stands (beginning b) m = record { loadable = ok; reached = c.loadable_runs.ensures.begins (world_in m) code (beginning b) ok } in
     let s = after_stands c.loadable_runs.ensures.goes_on (beginning b) n m first in
@@ -13,7 +13,7 @@ returns-clause-never_stuck c code b plan placed n ok =
     c.loadable_runs.ensures.never_stuck (world_in z) z.code (beginning b) (running_in z) s.loadable s.reached
 
 pub returns-clause-messages : goal.returns-clause-messages
-returns-clause-messages c code b plan placed n ok =
+returns-clause-messages c code b plan placed ok n =
     let m = started code b plan placed in
     let first : Stands (beginning b) m = record { loadable = ok; reached = c.loadable_runs.ensures.begins (world_in m) code (beginning b) ok } in
     let s = after_stands c.loadable_runs.ensures.goes_on (beginning b) n m first in

@@ -1,7 +1,7 @@
 use Rattle.std.proofs.Common.{◌-◌, ltb, leb, length, take, drop, rules}
 use Rattle.std.proofs.lemmas.List.Elements.{All-take, All-drop}
 use Rattle.std.proofs.lemmas.List.Sorted.{IsPartitionPoint-from_clause, IsPartitionedBy-ltb, IsPartitionedBy-leb, IsNonDecreasingBy-take, IsNonDecreasingBy-drop}
-use Rattle.bc_machine.specs.declared.kept.Row.{Row}
+use Rattle.bc_machine.specs.declared.action_rows.Row.{Row}
 use Rattle.bc_machine.specs.Rows.{IsRow}
 use Rattle.bc_machine.specs.Schedules.{AreRising}
 use Rattle.bc_machine.proofs.Around.{around}

@@ -1,7 +1,7 @@
 use Rattle.std.proofs.Common.{◌≡◌, sym, ap, subst, ◌∙◌, rules}
 use Rattle.std.specs.Prelude.{All}
 use Rattle.std.proofs.lemmas.List.Sorted.{answers_always, IsNonDecreasingBy-from_sort_by_key, All-permutation}
-use Rattle.bc_machine.specs.declared.kept.Row.{Row}
+use Rattle.bc_machine.specs.declared.action_rows.Row.{Row}
 use Rattle.bc_machine.specs.Rows.{rows_at, IsRow}
 use Rattle.bc_machine.proofs.Listed.{sorted_rows}
 use Rattle.bc_machine.proofs.lookup.sorted.Goals as goal

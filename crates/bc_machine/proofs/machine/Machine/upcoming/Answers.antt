@@ -4,5 +4,5 @@ use Rattle.bc_machine.proofs.machine.Machine.upcoming.Goals as goal
 pub upcoming-requires : goal.upcoming-requires
 upcoming-requires c =
     let e = c.loadable_runs.ensures in
-    let laws : Laws = record { never_stuck = e.never_stuck; inside = e.inside; room = e.room; room_to_call = e.room_to_call; room_to_begin = e.room_to_begin; messages = e.messages; halts = e.halts; costs = λ w code from cost n ok. e.costs w cost n code from ok } in
+    let laws : Laws = record { never_stuck = e.never_stuck; inside = e.inside; room = e.room; room_to_call = e.room_to_call; room_to_begin = e.room_to_begin; messages = e.messages; halts = e.halts; costs = e.costs } in
     able laws c.self.inside.parts c.self.invariant

@@ -1,7 +1,7 @@
 use Rattle.std.proofs.Common.{◌≡◌, List, ◌++◌, ◌∷◌, [], length, vec_len, sym, ap, subst, ◌∙◌, arith, rules}
 use Rattle.std.specs.Prelude.{All}
 use Rattle.bc_machine.specs.declared.placed.Placed.{Placed}
-use Rattle.bc_machine.specs.declared.kept.Row.{Row}
+use Rattle.bc_machine.specs.declared.action_rows.Row.{Row}
 use Rattle.bc_machine.specs.Rows.{all_placed, IsRow}
 use Rattle.bc_machine.specs.Schedules.{ScheduleState, AreRising}
 use Rattle.bc_machine.proofs.Listed.{added_rows, added_placed, at_most_one}

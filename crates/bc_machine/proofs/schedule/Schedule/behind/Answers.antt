@@ -1,6 +1,6 @@
 use Rattle.std.proofs.Common.{List, leb, sym, subst, rules}
 use Rattle.std.proofs.lemmas.List.Sorted.{IsPartitionPoint-from_clause, IsPartitionedBy-leb}
-use Rattle.bc_machine.specs.declared.kept.Row.{Row}
+use Rattle.bc_machine.specs.declared.action_rows.Row.{Row}
 use Rattle.bc_machine.specs.Rows.{all_placed}
 use Rattle.bc_machine.specs.Rising.{IsRising, IsParted}
 use Rattle.bc_machine.specs.Schedules.{ScheduleState, AreRising}

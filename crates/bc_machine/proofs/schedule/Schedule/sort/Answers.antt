@@ -2,7 +2,7 @@ use Rattle.std.proofs.Common.{length, ap, subst, ◌∙◌, arith, rules}
 use Rattle.std.specs.List.Sorted.{IsPermutation}
 use Rattle.std.proofs.lemmas.List.Sorted.{answers_always, IsNonDecreasingBy-from_sort_by_key, IsPermutation-map, All-permutation}
 use Rattle.bc_machine.specs.declared.placed.Placed.{Placed}
-use Rattle.bc_machine.specs.declared.kept.Row.{Row}
+use Rattle.bc_machine.specs.declared.action_rows.Row.{Row}
 use Rattle.bc_machine.specs.Controller.{placed_at}
 use Rattle.bc_machine.specs.Rising.{IsRising}
 use Rattle.bc_machine.specs.Rows.{placed_of, all_placed, IsRow}

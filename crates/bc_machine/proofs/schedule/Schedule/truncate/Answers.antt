@@ -3,7 +3,7 @@ use Rattle.std.specs.Prelude.{All}
 use Rattle.std.proofs.lemmas.List.{take-map}
 use Rattle.std.proofs.lemmas.List.Elements.{All-take}
 use Rattle.std.proofs.lemmas.List.Sorted.{IsNonDecreasingBy-take}
-use Rattle.bc_machine.specs.declared.kept.Row.{Row}
+use Rattle.bc_machine.specs.declared.action_rows.Row.{Row}
 use Rattle.bc_machine.specs.Rows.{placed_of, all_placed, IsRow}
 use Rattle.bc_machine.specs.Schedules.{ScheduleState, AreRising}
 use Rattle.bc_machine.proofs.schedule.Schedule.truncate.Goals as goal

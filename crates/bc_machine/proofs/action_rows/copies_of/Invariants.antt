@@ -1,5 +1,5 @@
 use Rattle.std.proofs.Common.{◌≡◌, ◌≤◌, length, take, vec_capacity}
-use Rattle.bc_machine.proofs.kept.copies_of.Given as goal
+use Rattle.bc_machine.proofs.action_rows.copies_of.Given as goal
 
 -- the copies so far, and room for all
 abbrev pub invariant-loop-one : goal.invariant-loop-one

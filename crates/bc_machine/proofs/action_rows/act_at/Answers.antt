@@ -2,7 +2,7 @@ use Rattle.std.proofs.Common.{◌∙◌, sym, ap}
 use Rattle.std.proofs.lemmas.List.{drop_all}
 use Rattle.bc_machine.specs.Controller.{ready, all_acted, placed_at}
 use Rattle.bc_machine.specs.Rows.{all_placed}
-use Rattle.bc_machine.proofs.kept.act_at.Goals as goal
+use Rattle.bc_machine.proofs.action_rows.act_at.Goals as goal
 
 pub returns-clause-bus : goal.returns-clause-bus
 unfolding ready

@@ -15,7 +15,7 @@ use std::alloc::{AllocError, Global};
 
 /// An action in a few bytes. Where it puts up more than one data word, these stand in a list beside the rows.
 #[derive(Clone, Copy, Debug)]
-pub enum Kept {
+pub enum KeptAction {
     /// One data word, for a subaddress of 1 to 29.
     Word { sub: u8, word: u16 },
     /// The data words at this place of that list.
@@ -39,11 +39,11 @@ pub enum Kept {
 pub struct Row {
     pub number: u32,
     pub address: u8,
-    pub kept: Kept,
+    pub kept: KeptAction,
 }
 
 /// Data words as they are kept: one in the row, more behind the others in the list, which has room for them.
-fn kept_words(put: TransmitWords, words: &mut Vec<TransmitWords>) -> Kept
+fn kept_words(put: TransmitWords, words: &mut Vec<TransmitWords>) -> KeptAction
     requires room { vec_len words.old < vec_capacity words.old }
     requires few { vec_len words.old < 4294967295 }
     ensures action { action_of words.new.items result ≡ Transmit put }
@@ -52,18 +52,18 @@ fn kept_words(put: TransmitWords, words: &mut Vec<TransmitWords>) -> Kept
     ensures capacity { vec_capacity words.new ≡ vec_capacity words.old }
 {
     if put.words().len() == 1 {
-        return Kept::Word {
+        return KeptAction::Word {
             sub: put.sub(),
             word: put.words()[0],
         };
     }
     let place = words.len() as u32;
     words.push_reserved(put);
-    Kept::Words(place)
+    KeptAction::Words(place)
 }
 
 /// An action as it is kept; its data words stand in the row, or behind the others in the list, which has room for them.
-fn kept_action(action: Action, words: &mut Vec<TransmitWords>) -> Kept
+fn kept_action(action: Action, words: &mut Vec<TransmitWords>) -> KeptAction
     requires room { vec_len words.old < vec_capacity words.old }
     requires few { vec_len words.old < 4294967295 }
     ensures action { action_of words.new.items result ≡ action }
@@ -73,49 +73,49 @@ fn kept_action(action: Action, words: &mut Vec<TransmitWords>) -> Kept
 {
     match action {
         Action::Transmit(put) => kept_words(put, words),
-        Action::Busy(on) => Kept::Busy(on),
-        Action::Service(on) => Kept::Service(on),
-        Action::Subsystem(on) => Kept::Subsystem(on),
-        Action::Fault(on) => Kept::Fault(on),
-        Action::Control(on) => Kept::Control(on),
-        Action::Vector(word) => Kept::Vector(word),
-        Action::SelfTest(word) => Kept::SelfTest(word),
-        Action::Illegal(mark) => Kept::Illegal(mark),
-        Action::Legal(mark) => Kept::Legal(mark),
-        Action::Response(gap) => Kept::Response(gap),
-        Action::Deaf { line, on } => Kept::Deaf { line, on },
-        Action::Mute { line, on } => Kept::Mute { line, on },
+        Action::Busy(on) => KeptAction::Busy(on),
+        Action::Service(on) => KeptAction::Service(on),
+        Action::Subsystem(on) => KeptAction::Subsystem(on),
+        Action::Fault(on) => KeptAction::Fault(on),
+        Action::Control(on) => KeptAction::Control(on),
+        Action::Vector(word) => KeptAction::Vector(word),
+        Action::SelfTest(word) => KeptAction::SelfTest(word),
+        Action::Illegal(mark) => KeptAction::Illegal(mark),
+        Action::Legal(mark) => KeptAction::Legal(mark),
+        Action::Response(gap) => KeptAction::Response(gap),
+        Action::Deaf { line, on } => KeptAction::Deaf { line, on },
+        Action::Mute { line, on } => KeptAction::Mute { line, on },
     }
 }
 
-impl Kept {
+impl KeptAction {
     /// The action that is kept, with its data words from the list.
     fn action(&self, words: &[TransmitWords]) -> Action
         requires { IsKeptAction (length words.now) self.now }
         ensures { result ≡ action_of words.now self.now }
     {
         match self {
-            Kept::Word { sub, word } => {
+            KeptAction::Word { sub, word } => {
                 let mut one = ArrayVec::new();
                 one.push(*word);
                 Action::Transmit(TransmitWords::make(*sub, one))
             }
-            Kept::Words(place) => Action::Transmit(words[*place as usize].copy()),
-            Kept::Busy(on) => Action::Busy(*on),
-            Kept::Service(on) => Action::Service(*on),
-            Kept::Subsystem(on) => Action::Subsystem(*on),
-            Kept::Fault(on) => Action::Fault(*on),
-            Kept::Control(on) => Action::Control(*on),
-            Kept::Vector(word) => Action::Vector(*word),
-            Kept::SelfTest(word) => Action::SelfTest(*word),
-            Kept::Illegal(mark) => Action::Illegal(*mark),
-            Kept::Legal(mark) => Action::Legal(*mark),
-            Kept::Response(gap) => Action::Response(*gap),
-            Kept::Deaf { line, on } => Action::Deaf {
+            KeptAction::Words(place) => Action::Transmit(words[*place as usize].copy()),
+            KeptAction::Busy(on) => Action::Busy(*on),
+            KeptAction::Service(on) => Action::Service(*on),
+            KeptAction::Subsystem(on) => Action::Subsystem(*on),
+            KeptAction::Fault(on) => Action::Fault(*on),
+            KeptAction::Control(on) => Action::Control(*on),
+            KeptAction::Vector(word) => Action::Vector(*word),
+            KeptAction::SelfTest(word) => Action::SelfTest(*word),
+            KeptAction::Illegal(mark) => Action::Illegal(*mark),
+            KeptAction::Legal(mark) => Action::Legal(*mark),
+            KeptAction::Response(gap) => Action::Response(*gap),
+            KeptAction::Deaf { line, on } => Action::Deaf {
                 line: *line,
                 on: *on,
             },
-            Kept::Mute { line, on } => Action::Mute {
+            KeptAction::Mute { line, on } => Action::Mute {
                 line: *line,
                 on: *on,
             },
