@@ -1,4 +1,4 @@
--- A recording under the debugger goes to the first message that is met.
+-- A recording under the debugger goes to the first message past its place that is met, or to the latest before it.
 use Rattle.std.proofs.Common.{◌≡◌, ℕ, suc, ◌≤◌, List, [], ◌∷◌, length, Option, Some, None, refl, sym, ap, ◌∙◌, subst}
 use Rattle.std.specs.List.{AllByRecursion, slice_get}
 use Rattle.std.specs.Prelude.{Result, Ok, Err, OnOk, IfErr}
@@ -7,12 +7,13 @@ use Rattle.ch11_reader.specs.Recording.{Found}
 use Rattle.bench_core.proofs.Offers.{map_at}
 use Rattle.replay.specs.Accord.{kept_in, Agrees}
 use Rattle.replay.specs.Places.{heard_channels}
-use Rattle.replay.specs.Moves.{ReplayState, at_place, IsNextMet, IsNowhere, PastWhere, IsMemory}
+use Rattle.replay.specs.Moves.{ReplayState, at_place, IsNextMet, IsNowhere, IsLatestMet, IsNowhereBefore, PastWhere, IsMemory}
 use Rattle.replay.specs.declared.error.ReplayError.{ReplayError}
 use Rattle.replay.specs.Tracks.{Pair, jobs_in, parts_in}
-use Rattle.replay.specs.Finding.{count_to, IsMetIn, Finds}
+use Rattle.replay.specs.Finding.{count_to, IsMetIn, Finds, FindsBack}
 use Rattle.replay.proofs.Counting.{room}
 use Rattle.replay.proofs.FirstMet.{next_met, nowhere}
+use Rattle.replay.proofs.LatestMet.{latest_met, nowhere_before}
 
 all_from : {X : Type 0} (P : X → Type 0) (xs : List X) → ((i : ℕ) (x : X) → slice_get xs i ≡ Some x → P x) → AllByRecursion P xs
 all_from P [] each = tt
@@ -41,13 +42,23 @@ module _ (pairs tracks : List Pair) (found : List Found) (place : ℕ) (channels
   pub stays : Finds place (IsMetIn cs test tracks) None → IsNowhere (record { jobs = jobs_in pairs; parts = parts_in pairs; found = found; place = place }) test
   stays f = nowhere pairs found place channels is test (found_as None f)
 
+  found_back_as : (r : Option ℕ) → FindsBack place (IsMetIn cs test tracks) r → FindsBack place (IsMetIn channels test pairs) r
+  found_back_as r f =
+      subst (λ (xs : List ℕ). FindsBack place (IsMetIn xs test pairs) r) same_channels
+      (subst (λ (ps : List Pair). FindsBack place (IsMetIn cs test ps) r) same f)
+
+  pub goes_back_there : (n : ℕ) → FindsBack place (IsMetIn cs test tracks) (Some n) → IsLatestMet (record { jobs = jobs_in pairs; parts = parts_in pairs; found = found; place = place }) test n
+  goes_back_there n f = latest_met pairs found place channels is test n (found_back_as (Some n) f)
+
+  pub stays_behind : FindsBack place (IsMetIn cs test tracks) None → IsNowhereBefore (record { jobs = jobs_in pairs; parts = parts_in pairs; found = found; place = place }) test
+  stays_behind f = nowhere_before pairs found place channels is test (found_back_as None f)
+
 -- a move to it stops there
-pub stops_there : {T E : Type 0} (r : Result T E) (old new : ReplayState) (test : Condition) (n : ℕ) → OnOk r (new ≡ at_place n old) → IsNextMet old test n → OnOk r (IsNextMet old test new.place)
-stops_there (Ok x) old new test n moved met = subst (IsNextMet old test) (sym (ap (λ (s : ReplayState). s.place) moved)) met
-stops_there (Err e) old new test n moved met = tt
+pub stops_there : {T E : Type 0} (r : Result T E) (old new : ReplayState) (P : ℕ → Type 0) (n : ℕ) → OnOk r (new ≡ at_place n old) → P n → OnOk r (P new.place)
+stops_there (Ok x) old new P n moved met = subst P (sym (ap (λ (s : ReplayState). s.place) moved)) met
+stops_there (Err e) old new P n moved met = tt
 
 -- want of memory for a move to it, where there is one
-pub somewhere : {T : Type 0} (r : Result T ReplayError) (s : ReplayState) (test : Condition) (n : ℕ) → IfErr r (λ e. IsMemory e) → IsNextMet s test n
-    → IfErr r (λ e. PastWhere (IsNowhere s test) e)
-somewhere (Ok x) s test n memory met = tt
-somewhere (Err e) s test n memory met = subst (PastWhere (IsNowhere s test)) (sym memory) (λ none. none n met.past met.met)
+pub somewhere : {T : Type 0} (r : Result T ReplayError) (nowhere : Type 0) → IfErr r (λ e. IsMemory e) → ¬ nowhere → IfErr r (λ e. PastWhere nowhere e)
+somewhere (Ok x) nowhere memory there = tt
+somewhere (Err e) nowhere memory there = subst (PastWhere nowhere) (sym memory) there

@@ -124,7 +124,7 @@ module _ (place : ℕ) (P Q R : ℕ → Type 0) (first : (n : ℕ) → P n → R
       (cases_lt a b)
 
 module _ (channels : List ℕ) (test : Condition) (pairs : List Pair) (p : Pair) where
-  in_first : (n : ℕ) → IsMetIn channels test pairs n → IsMetIn channels test (pairs ++ p ∷ []) n
+  pub in_first : (n : ℕ) → IsMetIn channels test pairs n → IsMetIn channels test (pairs ++ p ∷ []) n
   in_first n met = record {
     index = met.index;
     pair = met.pair;
@@ -132,10 +132,10 @@ module _ (channels : List ℕ) (test : Condition) (pairs : List Pair) (p : Pair)
     met = met.met;
   }
 
-  in_last : (n : ℕ) → IsMetBy channels test p n → IsMetIn channels test (pairs ++ p ∷ []) n
+  pub in_last : (n : ℕ) → IsMetBy channels test p n → IsMetIn channels test (pairs ++ p ∷ []) n
   in_last n met = record { index = length pairs; pair = p; there = at_seam pairs (p ∷ []); met = met }
 
-  in_one : (n : ℕ) → IsMetIn channels test (pairs ++ p ∷ []) n → IsMetIn channels test pairs n ⊎ IsMetBy channels test p n
+  pub in_one : (n : ℕ) → IsMetIn channels test (pairs ++ p ∷ []) n → IsMetIn channels test pairs n ⊎ IsMetBy channels test p n
   in_one n met =
       ⊎_elim
       (λ low. inl (record { index = met.index; pair = met.pair; there = sym (in_front pairs (p ∷ []) met.index low) ∙ met.there; met = met.met }))
@@ -163,7 +163,7 @@ module _ (pairs : List Pair) (found : List Found) (place : ℕ) (channels : List
   abbrev state : ReplayState
   state = record { jobs = jobs_in pairs; parts = parts_in pairs; found = found; place = place }
 
-  met_of : (n : ℕ) → IsMetIn channels test pairs n → IsMet state test n
+  pub met_of : (n : ℕ) → IsMetIn channels test pairs n → IsMet state test n
   met_of n met =
       let here : IsMetBy (heard_channels found) test met.pair n = subst (λ (cs : List ℕ). IsMetBy cs test met.pair n) is met.met in
       record {
@@ -178,7 +178,7 @@ module _ (pairs : List Pair) (found : List Found) (place : ℕ) (channels : List
         true_there = here.true_there;
       }
 
-  of_met : (n : ℕ) → IsMet state test n → IsMetIn channels test pairs n
+  pub of_met : (n : ℕ) → IsMet state test n → IsMetIn channels test pairs n
   of_met n met =
       let there = both_at pairs met.index met.job met.part met.job_there met.part_there in
       record {

@@ -7,6 +7,7 @@ pub mod PlayingOn
 pub mod PlayingNext
 pub mod Channels
 pub mod FirstMet
+pub mod LatestMet
 pub mod Finds
 pub mod PlacedLists
 pub mod Lists

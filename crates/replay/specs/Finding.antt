@@ -1,5 +1,6 @@
--- The first message past a place whose outcome makes a condition true, job by job.
-use Rattle.std.specs.Prelude.{◌≡◌, ℕ, suc, ◌<◌, ◌==◌, true, List, take, count_by, slice_get, min, Option, Some, None}
+-- The first message past a place, and the latest before one, whose outcome makes a condition true, job by job.
+use Rattle.std.specs.Prelude.{◌≡◌, ℕ, suc, ◌<◌, ◌==◌, true, List, take, count_by, slice_get, min, max}
+use Rattle.std.specs.Prelude.{Option, Some, None}
 use Rattle.std.specs.Option.{MatchOption}
 use Rattle.frame_tree.specs.Tree.{Condition}
 use Rattle.ch11_recording.specs.Items.{last_number}
@@ -40,3 +41,18 @@ abbrev pub earlier : Option ℕ → Option ℕ → Option ℕ
 earlier None other = other
 earlier (Some a) None = Some a
 earlier (Some a) (Some b) = Some (min a b)
+
+-- the latest number before a place that has the property, or none has it
+pub record IsLatest (place : ℕ) (P : ℕ → Type 0) (n : ℕ) : Type 0 where
+  pub before : n < place
+  pub met : P n
+  pub latest : (m : ℕ) → n < m → m < place → ¬ P m
+
+abbrev pub FindsBack : ℕ → (ℕ → Type 0) → Option ℕ → Type 0
+FindsBack place P r = MatchOption r ((m : ℕ) → m < place → ¬ P m) (λ n. IsLatest place P n)
+
+-- the later of two numbers, as far as they are there
+abbrev pub later : Option ℕ → Option ℕ → Option ℕ
+later None other = other
+later (Some a) None = Some a
+later (Some a) (Some b) = Some (max a b)

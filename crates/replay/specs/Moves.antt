@@ -78,6 +78,16 @@ pub record IsNextMet (s : ReplayState) (test : Condition) (n : ℕ) : Type 0 whe
 abbrev pub IsNowhere : ReplayState → Condition → Type 0
 IsNowhere s test = (m : ℕ) → s.place < m → ¬ IsMet s test m
 
+-- the latest such message before the place
+pub record IsLatestMet (s : ReplayState) (test : Condition) (n : ℕ) : Type 0 where
+  pub before : n < s.place
+  pub met : IsMet s test n
+  pub latest : (m : ℕ) → n < m → m < s.place → ¬ IsMet s test m
+
+-- there is none before it
+abbrev pub IsNowhereBefore : ReplayState → Condition → Type 0
+IsNowhereBefore s test = (m : ℕ) → m < s.place → ¬ IsMet s test m
+
 -- ---- refusals
 
 -- Y1, only at the first difference, or want of memory

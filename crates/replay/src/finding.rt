@@ -1,6 +1,6 @@
-//! The first message past a place whose outcome makes a condition true.
+//! The first message past a place, and the latest before one, whose outcome makes a condition true.
 ghost use Rattle.frame_tree.specs.Tree.{condition_in};
-ghost use Rattle.replay.specs.Finding.{earlier, IsMetBy, IsMetIn, Finds};
+ghost use Rattle.replay.specs.Finding.{earlier, later, IsMetBy, IsMetIn, Finds, FindsBack};
 ghost use Rattle.replay.specs.Standings.{HasNoExtraMessages};
 ghost use Rattle.std.specs.List.{AllByRecursion};
 ghost use Rattle.std.specs.Prelude.{◌≡◌, ◌≤◌, length};
@@ -63,4 +63,60 @@ pub(crate) fn first_met<A: Allocator + Clone>(
         first = earlier(first, first_of_job(track, channels, place, condition));
     }
     first
+}
+
+/// The latest message before a place that is of the job, and whose outcome makes the condition true. Conditions: as for
+/// the first past it.
+fn latest_of_job<A: Allocator + Clone>(
+    track: &Track,
+    channels: &[u16],
+    place: usize,
+    condition: &Cond<A>,
+) -> Option<usize>
+    requires place { place ≤ length channels.now }
+    requires room { HasNoExtraMessages channels.now track.now }
+    ensures { FindsBack place (IsMetBy channels.now (condition_in condition.now) track.now) result }
+{
+    let channel = track.channel();
+    let mut heard = 0;
+    let mut latest = None;
+    for before in 0..place.saturating_sub(1) {
+        if channels[before] == channel {
+            heard += 1;
+            if holds(condition, track.outcome(heard)) {
+                latest = Some(before + 1);
+            }
+        }
+    }
+    latest
+}
+
+/// The later of two numbers, as far as they are there.
+fn later(latest: Option<usize>, other: Option<usize>) -> Option<usize>
+    ensures { result ≡ later latest other }
+{
+    match (latest, other) {
+        (None, other) => other,
+        (latest, None) => latest,
+        (Some(a), Some(b)) => Some(a.max(b)),
+    }
+}
+
+/// The latest message before a place that is of one of the jobs, and whose outcome makes the condition true.
+/// Conditions: as for one job.
+pub(crate) fn latest_met<A: Allocator + Clone>(
+    tracks: &[Track],
+    channels: &[u16],
+    place: usize,
+    condition: &Cond<A>,
+) -> Option<usize>
+    requires place { place ≤ length channels.now }
+    requires room { AllByRecursion (HasNoExtraMessages channels.now) tracks.now }
+    ensures { FindsBack place (IsMetIn channels.now (condition_in condition.now) tracks.now) result }
+{
+    let mut latest = None;
+    for track in tracks {
+        latest = later(latest, latest_of_job(track, channels, place, condition));
+    }
+    latest
 }

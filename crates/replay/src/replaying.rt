@@ -6,13 +6,14 @@ ghost use Rattle.job_file.specs.Meaning.{bus_after};
 ghost use Rattle.mil_bus.specs.Exchange.{played};
 ghost use Rattle.replay.specs.Accord.{Agrees};
 ghost use Rattle.replay.specs.Moves.{OpensNot, PastWhere, StartWhere, IsMemory};
-ghost use Rattle.replay.specs.Moves.{opened, at_place, total_of, OfJob, IsNextMet, IsNowhere};
+ghost use Rattle.replay.specs.Moves.{opened, at_place, total_of, OfJob};
+ghost use Rattle.replay.specs.Moves.{IsNextMet, IsNowhere, IsLatestMet, IsNowhereBefore};
 ghost use Rattle.replay.specs.Places.{latest_kept_number};
 ghost use Rattle.std.specs.Prelude.{◌≡◌, ◌+◌, ◌-◌, ◌<◌, ◌≤◌, ◌%◌, length, slice_get, Some, IfOk, IfErr, OnOk, OnErr};
 
 use crate::checkpoints::empty_stops;
 use crate::error::ReplayError;
-use crate::finding::first_met;
+use crate::finding::{first_met, latest_met};
 use crate::opening::{compare_channels, message_channels, tracks};
 use crate::standings::begin_all;
 use crate::timeline::Timeline;
@@ -167,6 +168,30 @@ impl<'a> Replay<'a> {
     {
         let timeline = &self.timeline;
         match first_met(
+            &timeline.tracks,
+            &timeline.channels,
+            self.place as usize,
+            condition,
+        ) {
+            None => Err(ReplayError::Past),
+            Some(n) => self.move_to(n as u64),
+        }
+    }
+
+    /// To the latest message before the place whose outcome makes the condition true. Y2 where there is none; a refusal
+    /// leaves all as it was.
+    pub fn find_back<A: Allocator + Clone>(
+        &mut self,
+        condition: &Cond<A>,
+    ) -> Result<(), ReplayError>
+        ensures there { OnOk result (IsLatestMet self.old.state (condition_in condition.now) self.new.state.place) }
+        ensures moved { OnOk result (self.new.state ≡ at_place self.new.state.place self.old.state) }
+        ensures refused { IfErr result
+            (λ e. PastWhere (IsNowhereBefore self.old.state (condition_in condition.now)) e) }
+        ensures same { OnErr result (self.new ≡ self.old) }
+    {
+        let timeline = &self.timeline;
+        match latest_met(
             &timeline.tracks,
             &timeline.channels,
             self.place as usize,

@@ -16,14 +16,15 @@ returns-in-None-clause-refused g c =
 
 pub returns-in-Some-clause-there : goal.returns-in-Some-clause-there
 returns-in-Some-clause-there g c =
-    stops_there c.move_to.result c.args.self.now.state c.move_to.new.self.state (condition_in c.args.condition.now) c.in-Some.n c.move_to.ensures.moved
+    stops_there c.move_to.result c.args.self.now.state c.move_to.new.self.state (IsNextMet c.args.self.now.state (condition_in c.args.condition.now)) c.in-Some.n c.move_to.ensures.moved
     (subst (λ (s : DebuggerState). IsNextMet s.state (condition_in c.args.condition.now) c.in-Some.n) c.self.view_is
     (goes_there c.self.inside.timeline.tracks.items c.deref.result.now c.self.inside.index c.self.inside.place c.self.inside.timeline.channels.items c.deref-2.result.now c.deref.ensures.value c.deref-2.ensures.value
     (condition_in c.args.condition.now) c.self.invariant.channels_are c.in-Some.n c.in-Some.ensures))
 
 pub returns-in-Some-clause-refused : goal.returns-in-Some-clause-refused
 returns-in-Some-clause-refused g c =
-    somewhere c.move_to.result c.args.self.now.state (condition_in c.args.condition.now) c.in-Some.n c.move_to.ensures.refused
-    (subst (λ (s : DebuggerState). IsNextMet s.state (condition_in c.args.condition.now) c.in-Some.n) c.self.view_is
+    let met : IsNextMet c.args.self.now.state (condition_in c.args.condition.now) c.in-Some.n =
+    subst (λ (s : DebuggerState). IsNextMet s.state (condition_in c.args.condition.now) c.in-Some.n) c.self.view_is
     (goes_there c.self.inside.timeline.tracks.items c.deref.result.now c.self.inside.index c.self.inside.place c.self.inside.timeline.channels.items c.deref-2.result.now c.deref.ensures.value c.deref-2.ensures.value
-    (condition_in c.args.condition.now) c.self.invariant.channels_are c.in-Some.n c.in-Some.ensures))
+    (condition_in c.args.condition.now) c.self.invariant.channels_are c.in-Some.n c.in-Some.ensures) in
+    somewhere c.move_to.result (IsNowhere c.args.self.now.state (condition_in c.args.condition.now)) c.move_to.ensures.refused (λ none. none c.in-Some.n met.past met.met)
