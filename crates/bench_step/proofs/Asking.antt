@@ -1,5 +1,5 @@
 -- What lines take memory for.
-use Rattle.std.proofs.Common.{Result, Ok, Err, inr}
+use Rattle.std.proofs.Common.{Result, Ok, Err, inr, refl}
 use Rattle.frame_tree.specs.Tree.{Condition}
 use Rattle.frame_text.specs.declared.faults.Cause.{Cause}
 use Rattle.replay.specs.declared.error.ReplayError.TheVariants as error
@@ -30,14 +30,14 @@ refused_memory s (back n) never = absurd never
 refused_memory s (go n) never = absurd never
 refused_memory s (go_time ticks) never = absurd never
 refused_memory s (seek sought n) never = absurd never
-refused_memory s (find test) taken = inr tt
-refused_memory s (find_back test) taken = inr tt
-refused_memory s (select selector) taken = inr tt
-refused_memory s (select_back selector) taken = inr tt
+refused_memory s (find test) taken = inr refl
+refused_memory s (find_back test) taken = inr refl
+refused_memory s (select selector) taken = inr refl
+refused_memory s (select_back selector) taken = inr refl
 refused_memory s (state detail) never = absurd never
 refused_memory s show never = absurd never
 refused_memory s (show_at n) never = absurd never
 refused_memory s help never = absurd never
 refused_memory s quit never = absurd never
-refused_memory s no_condition taken = tt
+refused_memory s no_condition taken = refl
 refused_memory s unknown never = absurd never

@@ -4,14 +4,13 @@ use Rattle.std.specs.Prelude.{Bool, true, false, ◌||◌}
 use Rattle.std.proofs.lemmas.Bool.{cases_order}
 use Rattle.frame_tree.specs.Tree.{Condition}
 use Rattle.replay.specs.declared.error.ReplayError.TheVariants as error
-use Rattle.replay.specs.Moves.{ReplayState, total_of, IsNextMet, IsNowhere}
+use Rattle.replay.specs.Moves.{ReplayState, total_of, IsNextMet, IsNowhere, IsLatestMet, IsNowhereBefore}
 use Rattle.bench_places.specs.declared.sought.Sought.{Sought}
 use Rattle.bench_places.specs.Places.{latest_of, place_before, place_of}
 use Rattle.bench_places.specs.declared.sought.Sought.TheVariants.{Later, Commands}
 use Rattle.bench_state.specs.declared.details.Detail.{Detail}
 use Rattle.bench_step.specs.Commands.{Asked, forward, back, go, go_time, seek, find, find_back, select, select_back, state, show, show_at, help, quit, no_condition, unknown, asked}
-use Rattle.bench_step.specs.Backwards.{IsLatestBefore}
-use Rattle.bench_step.specs.Session.{Replies, IsMoveTo, RepliesPlaceFound, IsNoneBefore, HasMessageNumbered, IsAbsent, after_reply, is_memory, AreReplies, any_memory, RepliesAreDetermined}
+use Rattle.bench_step.specs.Session.{Replies, IsMoveTo, RepliesPlaceFound, HasMessageNumbered, IsAbsent, after_reply, is_memory, AreReplies, any_memory, RepliesAreDetermined}
 use Rattle.bench_step.specs.declared.manners.Manner.{Manner}
 use Rattle.bench_step.specs.declared.replies.Reply.{Reply}
 use Rattle.bench_step.specs.declared.replies.Reply.TheVariants as reply
@@ -88,9 +87,9 @@ to_sought s what n reply.Unknown h m = absurd h
 -- where a selector leads
 to_found : (place : Option ℕ) (r : Reply) → RepliesPlaceFound place r → is_memory r ≡ false → AtOrNowhere place r
 to_found place (reply.At k) h m = inl (k, h, refl)
-to_found place (reply.Refused (error.Mismatch c k)) h m = elim h [ inl x ↦ absurd x | inr x ↦ absurd x ]
-to_found place (reply.Refused error.Past) h m = elim h [ inl none ↦ inr (none, refl) | inr x ↦ absurd x ]
-to_found place (reply.Refused error.Start) h m = elim h [ inl x ↦ absurd x | inr x ↦ absurd x ]
+to_found place (reply.Refused (error.Mismatch c k)) h m = elim h [ inl x ↦ absurd x | inr x ↦ cc ]
+to_found place (reply.Refused error.Past) h m = elim h [ inl none ↦ inr (none, refl) | inr x ↦ cc ]
+to_found place (reply.Refused error.Start) h m = elim h [ inl x ↦ absurd x | inr x ↦ cc ]
 to_found place (reply.Refused error.Memory) h m = cc
 to_found place (reply.Shown detail) h m = absurd h
 to_found place (reply.Message n) h m = absurd h
@@ -101,9 +100,9 @@ to_found place reply.Unknown h m = absurd h
 -- to a place of the recording
 to_place : (place : ℕ) (r : Reply) → IsMoveTo place r → is_memory r ≡ false → r ≡ reply.At place
 to_place place (reply.At k) h m = ap reply.At h
-to_place place (reply.Refused (error.Mismatch c k)) h m = absurd h
-to_place place (reply.Refused error.Past) h m = absurd h
-to_place place (reply.Refused error.Start) h m = absurd h
+to_place place (reply.Refused (error.Mismatch c k)) h m = cc
+to_place place (reply.Refused error.Past) h m = cc
+to_place place (reply.Refused error.Start) h m = cc
 to_place place (reply.Refused error.Memory) h m = cc
 to_place place (reply.Shown detail) h m = absurd h
 to_place place (reply.Message n) h m = absurd h
@@ -121,9 +120,9 @@ next_is_one s test n k x y =
 
 to_find : (s : ReplayState) (test : Condition) (r : Reply) → Replies s (find test) r → is_memory r ≡ false → ((n : ℕ) × IsNextMet s test n × (r ≡ reply.At n)) ⊎ (IsNowhere s test × (r ≡ reply.Refused error.Past))
 to_find s test (reply.At k) h m = inl (k, h, refl)
-to_find s test (reply.Refused (error.Mismatch c k)) h m = elim h [ inl x ↦ absurd x | inr x ↦ absurd x ]
-to_find s test (reply.Refused error.Past) h m = elim h [ inl nowhere ↦ inr (nowhere, refl) | inr x ↦ absurd x ]
-to_find s test (reply.Refused error.Start) h m = elim h [ inl x ↦ absurd x | inr x ↦ absurd x ]
+to_find s test (reply.Refused (error.Mismatch c k)) h m = elim h [ inl x ↦ absurd x | inr x ↦ cc ]
+to_find s test (reply.Refused error.Past) h m = elim h [ inl nowhere ↦ inr (nowhere, refl) | inr x ↦ cc ]
+to_find s test (reply.Refused error.Start) h m = elim h [ inl x ↦ absurd x | inr x ↦ cc ]
 to_find s test (reply.Refused error.Memory) h m = cc
 to_find s test (reply.Shown detail) h m = absurd h
 to_find s test (reply.Message n) h m = absurd h
@@ -139,18 +138,18 @@ one_found s test r q (inr x) (inl y) = absurd (x.0 y.0 y.1.past y.1.met)
 one_found s test r q (inr x) (inr y) = x.1 ∙ sym y.1
 
 -- the latest message before the place that meets a condition is one
-latest_is_one : (s : ReplayState) (test : Condition) (n k : ℕ) → IsLatestBefore s test s.place n → IsLatestBefore s test s.place k → n ≡ k
+latest_is_one : (s : ReplayState) (test : Condition) (n k : ℕ) → IsLatestMet s test n → IsLatestMet s test k → n ≡ k
 latest_is_one s test n k x y =
     elim (cases_order n k) [
       | inl same ↦ same
       | inr other ↦ elim other [ inl below ↦ absurd (x.latest k below y.before y.met) | inr above ↦ absurd (y.latest n above x.before x.met) ]
     ]
 
-to_find_back : (s : ReplayState) (test : Condition) (r : Reply) → Replies s (find_back test) r → is_memory r ≡ false → ((n : ℕ) × IsLatestBefore s test s.place n × (r ≡ reply.At n)) ⊎ (IsNoneBefore s test × (r ≡ reply.Refused error.Past))
+to_find_back : (s : ReplayState) (test : Condition) (r : Reply) → Replies s (find_back test) r → is_memory r ≡ false → ((n : ℕ) × IsLatestMet s test n × (r ≡ reply.At n)) ⊎ (IsNowhereBefore s test × (r ≡ reply.Refused error.Past))
 to_find_back s test (reply.At k) h m = inl (k, h, refl)
-to_find_back s test (reply.Refused (error.Mismatch c k)) h m = elim h [ inl x ↦ absurd x | inr x ↦ absurd x ]
-to_find_back s test (reply.Refused error.Past) h m = elim h [ inl nowhere ↦ inr (nowhere, refl) | inr x ↦ absurd x ]
-to_find_back s test (reply.Refused error.Start) h m = elim h [ inl x ↦ absurd x | inr x ↦ absurd x ]
+to_find_back s test (reply.Refused (error.Mismatch c k)) h m = elim h [ inl x ↦ absurd x | inr x ↦ cc ]
+to_find_back s test (reply.Refused error.Past) h m = elim h [ inl nowhere ↦ inr (nowhere, refl) | inr x ↦ cc ]
+to_find_back s test (reply.Refused error.Start) h m = elim h [ inl x ↦ absurd x | inr x ↦ cc ]
 to_find_back s test (reply.Refused error.Memory) h m = cc
 to_find_back s test (reply.Shown detail) h m = absurd h
 to_find_back s test (reply.Message n) h m = absurd h
@@ -158,8 +157,8 @@ to_find_back s test reply.Help h m = absurd h
 to_find_back s test reply.Quit h m = absurd h
 to_find_back s test reply.Unknown h m = absurd h
 
-one_found_back : (s : ReplayState) (test : Condition) (r q : Reply) → ((n : ℕ) × IsLatestBefore s test s.place n × (r ≡ reply.At n)) ⊎ (IsNoneBefore s test × (r ≡ reply.Refused error.Past))
-    → ((n : ℕ) × IsLatestBefore s test s.place n × (q ≡ reply.At n)) ⊎ (IsNoneBefore s test × (q ≡ reply.Refused error.Past)) → r ≡ q
+one_found_back : (s : ReplayState) (test : Condition) (r q : Reply) → ((n : ℕ) × IsLatestMet s test n × (r ≡ reply.At n)) ⊎ (IsNowhereBefore s test × (r ≡ reply.Refused error.Past))
+    → ((n : ℕ) × IsLatestMet s test n × (q ≡ reply.At n)) ⊎ (IsNowhereBefore s test × (q ≡ reply.Refused error.Past)) → r ≡ q
 one_found_back s test r q (inl x) (inl y) = x.2 ∙ ap reply.At (latest_is_one s test x.0 y.0 x.1 y.1) ∙ sym y.2
 one_found_back s test r q (inl x) (inr y) = absurd (y.0 x.0 x.1.before x.1.met)
 one_found_back s test r q (inr x) (inl y) = absurd (x.0 y.0 y.1.before y.1.met)
@@ -218,9 +217,9 @@ to_quit s reply.Quit h = refl
 
 to_no_condition : (s : ReplayState) (r : Reply) → Replies s no_condition r → is_memory r ≡ false → r ≡ reply.Unknown
 to_no_condition s (reply.At n) h m = absurd h
-to_no_condition s (reply.Refused (error.Mismatch c k)) h m = absurd h
-to_no_condition s (reply.Refused error.Past) h m = absurd h
-to_no_condition s (reply.Refused error.Start) h m = absurd h
+to_no_condition s (reply.Refused (error.Mismatch c k)) h m = cc
+to_no_condition s (reply.Refused error.Past) h m = cc
+to_no_condition s (reply.Refused error.Start) h m = cc
 to_no_condition s (reply.Refused error.Memory) h m = cc
 to_no_condition s (reply.Shown detail) h m = absurd h
 to_no_condition s (reply.Message n) h m = absurd h

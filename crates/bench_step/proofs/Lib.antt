@@ -1,6 +1,6 @@
 pub mod Asking
 pub mod Moving
-pub mod Looking
+pub mod NotIndexed
 pub mod Pairs
 pub mod Lines
 pub mod Ending

@@ -1,15 +1,12 @@
 -- What is replied to a move.
 use Rattle.std.proofs.Common.{◌≡◌, ℕ, ◌+◌, ◌-◌, ◌<◌, ◌≤◌, List, Option, Some, None, refl, ap, sym, subst, ◌∙◌, inl, inr, arith}
-use Rattle.replay.specs.declared.error.ReplayError.TheVariants as error
 use Rattle.replay.specs.Moves.{ReplayState, total_of}
 use Rattle.bench_places.specs.declared.sought.Sought.{Sought}
 use Rattle.bench_places.specs.Places.{place_of}
 use Rattle.judge_rules.specs.declared.rules.Selector.{Selector}
 use Rattle.bench_step.specs.Commands.{forward, back, seek, selects, show, show_at}
-use Rattle.job_file.specs.Jobs.{JobState}
 use Rattle.ch11_reader.specs.Recording.{Found}
 use Rattle.bench_report.specs.Reports.{ChannelPart}
-use Rattle.bench_step.specs.Answering.{IsDebuggerOpen}
 use Rattle.bench_step.specs.Session.{Replies, IsMoveIfAny, IsMoveTo, RepliesPlaceFound, after_reply, selected_place}
 use Rattle.bench_step.specs.declared.commands.Way.{Way}
 use Rattle.bench_step.specs.declared.commands.Way.TheVariants.{On, Back}
@@ -18,10 +15,7 @@ use Rattle.bench_step.specs.declared.replies.Reply.TheVariants as reply
 
 pub moved_on : (s : ReplayState) (k : ℕ) (r : Reply) → s.place + k ≤ total_of s → IsMoveTo (s.place + k) r → Replies s (forward k) r
 moved_on s k (reply.At n) within is = (within, is)
-moved_on s k (reply.Refused (error.Mismatch c n)) within is = absurd is
-moved_on s k (reply.Refused error.Past) within is = absurd is
-moved_on s k (reply.Refused error.Start) within is = absurd is
-moved_on s k (reply.Refused error.Memory) within is = λ past. absurd (omega arith)
+moved_on s k (reply.Refused e) within is = rw is (λ past. absurd (omega arith))
 moved_on s k (reply.Shown detail) within is = absurd is
 moved_on s k (reply.Message n) within is = absurd is
 moved_on s k reply.Help within is = absurd is
@@ -30,10 +24,7 @@ moved_on s k reply.Unknown within is = absurd is
 
 pub moved_back : (s : ReplayState) (k : ℕ) (r : Reply) → k ≤ s.place → IsMoveTo (s.place - k) r → Replies s (back k) r
 moved_back s k (reply.At n) within is = (within, is)
-moved_back s k (reply.Refused (error.Mismatch c n)) within is = absurd is
-moved_back s k (reply.Refused error.Past) within is = absurd is
-moved_back s k (reply.Refused error.Start) within is = absurd is
-moved_back s k (reply.Refused error.Memory) within is = λ past. absurd (omega arith)
+moved_back s k (reply.Refused e) within is = rw is (λ past. absurd (omega arith))
 moved_back s k (reply.Shown detail) within is = absurd is
 moved_back s k (reply.Message n) within is = absurd is
 moved_back s k reply.Help within is = absurd is
@@ -42,10 +33,7 @@ moved_back s k reply.Unknown within is = absurd is
 
 sought_at : (s : ReplayState) (what : Sought) (k place : ℕ) (r : Reply) → place_of what 0 k s.found ≡ Some place → IsMoveTo place r → Replies s (seek what k) r
 sought_at s what k place (reply.At n) there is = there ∙ ap Some (sym is)
-sought_at s what k place (reply.Refused (error.Mismatch c n)) there is = absurd is
-sought_at s what k place (reply.Refused error.Past) there is = absurd is
-sought_at s what k place (reply.Refused error.Start) there is = absurd is
-sought_at s what k place (reply.Refused error.Memory) there is = λ none. cc
+sought_at s what k place (reply.Refused e) there is = rw is (λ none. cc)
 sought_at s what k place (reply.Shown detail) there is = absurd is
 sought_at s what k place (reply.Message n) there is = absurd is
 sought_at s what k place reply.Help there is = absurd is
@@ -59,10 +47,7 @@ sought s what k (Some place) r there is = sought_at s what k place r (sym there)
 -- what is replied where a selector leads to a message
 finds_place : (found : Option ℕ) (place : ℕ) (r : Reply) → found ≡ Some place → IsMoveTo place r → RepliesPlaceFound found r
 finds_place found place (reply.At n) there is = there ∙ ap Some (sym is)
-finds_place found place (reply.Refused (error.Mismatch c n)) there is = absurd is
-finds_place found place (reply.Refused error.Past) there is = absurd is
-finds_place found place (reply.Refused error.Start) there is = absurd is
-finds_place found place (reply.Refused error.Memory) there is = inr tt
+finds_place found place (reply.Refused e) there is = inr is
 finds_place found place (reply.Shown detail) there is = absurd is
 finds_place found place (reply.Message n) there is = absurd is
 finds_place found place reply.Help there is = absurd is
@@ -79,16 +64,18 @@ pub selected : (way : Way) (s : ReplayState) (found : List Found) (stands : ℕ)
 selected On s found stands place selector r same here there is = subst (λ (p : Option ℕ). RepliesPlaceFound p r) (rw (same, here) at there) (finds_any place r is)
 selected Back s found stands place selector r same here there is = subst (λ (p : Option ℕ). RepliesPlaceFound p r) (rw (same, here) at there) (finds_any place r is)
 
--- a reply leaves the debugger on the same recording
-pub still_open : (s new : ReplayState) (jobs : List JobState) (parts : List ChannelPart) (recording : List ℕ) (r : Reply)
-    → IsDebuggerOpen s jobs parts recording → new ≡ after_reply r s → IsDebuggerOpen new jobs parts recording
-still_open s new jobs parts recording (reply.At n) h is = subst (λ (t : ReplayState). IsDebuggerOpen t jobs parts recording) (sym is) (record { jobs_are = h.jobs_are; parts_are = h.parts_are; read = h.read })
-still_open s new jobs parts recording (reply.Refused e) h is = rw is h
-still_open s new jobs parts recording (reply.Shown detail) h is = rw is h
-still_open s new jobs parts recording (reply.Message n) h is = rw is h
-still_open s new jobs parts recording reply.Help h is = rw is h
-still_open s new jobs parts recording reply.Quit h is = rw is h
-still_open s new jobs parts recording reply.Unknown h is = rw is h
+-- a reply leaves the parts of the report as they are
+parts_after : (s : ReplayState) (r : Reply) → (after_reply r s).parts ≡ s.parts
+parts_after s (reply.At n) = refl
+parts_after s (reply.Refused e) = refl
+parts_after s (reply.Shown detail) = refl
+parts_after s (reply.Message n) = refl
+parts_after s reply.Help = refl
+parts_after s reply.Quit = refl
+parts_after s reply.Unknown = refl
+
+pub same_parts : (s new : ReplayState) (parts : List ChannelPart) (r : Reply) → parts ≡ s.parts → new ≡ after_reply r s → parts ≡ new.parts
+same_parts s new parts r same is = same ∙ sym (ap (λ (t : ReplayState). t.parts) is ∙ parts_after s r)
 
 -- the message at the place
 pub shows_place : (s : ReplayState) (n : ℕ) (r : Reply) → n ≡ s.place → Replies s (show_at n) r → Replies s show r

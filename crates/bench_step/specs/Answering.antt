@@ -9,6 +9,8 @@ use Rattle.text_lines.specs.Words.{Text}
 use Rattle.job_file.specs.Jobs.{JobState}
 use Rattle.bench_report.specs.Reports.{ChannelPart}
 use Rattle.text_lines.specs.Lines.{text_lines}
+use Rattle.ch11_reader.specs.declared.error.ReadError.{ReadError}
+use Rattle.ch11_reader.specs.declared.error.ReadError.TheVariants as unread
 use Rattle.ch11_reader.specs.Recording.{packets_in}
 use Rattle.ch11_reader.specs.Indexed.{found_in}
 use Rattle.replay.specs.Accord.{Agrees}
@@ -90,13 +92,6 @@ pub record IsThrough (manner : Manner) (jobs : List JobState) (parts : List Chan
   pub last : ReplayState
   pub read : IsAllRead manner (opened_on jobs parts recording) last left leaves got gets refused
 
--- a debugger on a recording: jobs, report and recording are those that it was opened with
-pub record IsDebuggerOpen (s : ReplayState) (jobs : List JobState) (parts : List ChannelPart)
-    (recording : List ℕ) : Type 0 where
-  pub jobs_are : s.jobs ≡ jobs
-  pub parts_are : s.parts ≡ parts
-  pub read : s.found ≡ found_in recording
-
 -- a debugger, and the manner in which lines are answered
 pub record SessionState : Type 0 where
   pub debugger : ReplayState
@@ -133,6 +128,11 @@ IsCutShort manner s left got gets fault.Memory = ⊥
 IsCutShort manner s left got gets fault.LineMemory = IsFront manner s left got gets
 IsCutShort manner s left got gets fault.Input = IsFront manner s left got gets
 IsCutShort manner s left got gets fault.Output = Unit {0}
+
+-- the fault of a recording that was not indexed
+abbrev pub fault_of : ReadError → StepFault
+fault_of (unread.Refused r) = fault.Refused r
+fault_of unread.Memory = fault.Memory
 
 -- Why a debugger was not opened. The recording's fault comes first, and only where it has one; then the first
 -- difference between jobs, report and recording; want of memory where the recording can be read.

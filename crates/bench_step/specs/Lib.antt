@@ -1,6 +1,5 @@
 pub mod Commands
 pub mod HelpText
-pub mod Backwards
 pub mod Session
 pub mod Answering
 pub mod FaultText

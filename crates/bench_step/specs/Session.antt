@@ -3,18 +3,17 @@ use Rattle.std.specs.Prelude.{◌≡◌, ◌≢◌, ℕ, ◌+◌, ◌-◌, ◌<�
 use Rattle.std.specs.Prelude.{Option, None, Some, codes, decimal}
 use Rattle.std.specs.List.{flat_map, zip, list_any}
 use Rattle.text_lines.specs.Words.{Text}
-use Rattle.frame_tree.specs.Tree.{Condition}
 use Rattle.job_file.specs.Jobs.{JobState, job_in}
 use Rattle.job_file.specs.Meaning.{bus_after}
 use Rattle.judge_rules.specs.declared.rules.Selector.{Selector}
 use Rattle.ch11_reader.specs.Recording.{Found}
 use Rattle.ch11_reader.specs.Contents.{message_numbered}
 use Rattle.bench_report.specs.Reports.{ChannelPart}
-use Rattle.replay.specs.declared.error.ReplayError.{ReplayError}
 use Rattle.replay.specs.declared.error.ReplayError.TheVariants as error
 use Rattle.replay.specs.Codes.{error_text}
 use Rattle.replay.specs.Places.{latest_kept_number}
-use Rattle.replay.specs.Moves.{ReplayState, at_place, total_of, IsMet, IsNextMet, IsNowhere, PastWhere, StartWhere}
+use Rattle.replay.specs.Moves.{ReplayState, at_place, total_of, IsNextMet, IsNowhere, IsLatestMet, IsNowhereBefore}
+use Rattle.replay.specs.Moves.{PastWhere, StartWhere, IsMemory}
 use Rattle.bench_state.specs.declared.details.Detail.{Detail}
 use Rattle.bench_state.specs.StateText.{channel_text}
 use Rattle.bench_places.specs.Places.{latest_of, place_before, place_of}
@@ -22,7 +21,6 @@ use Rattle.bench_places.specs.declared.sought.Sought.TheVariants.{Later, Command
 use Rattle.bench_step.specs.Commands.{Asked, forward, back, go, go_time, seek, find, find_back, select, select_back}
 use Rattle.bench_step.specs.Commands.{state, show, show_at, help, quit, no_condition, unknown, asked}
 use Rattle.bench_step.specs.HelpText.{help_text}
-use Rattle.bench_step.specs.Backwards.{IsLatestBefore}
 use Rattle.bench_step.specs.declared.commands.Way.{Way}
 use Rattle.bench_step.specs.declared.commands.Way.TheVariants.{On, Back}
 use Rattle.bench_step.specs.declared.manners.Manner.{Manner}
@@ -43,17 +41,6 @@ unfoldable pub state_text : Detail → ReplayState → Text
 state_text detail s = flat_map (λ (p : JobState × ChannelPart). job_text detail s p.0 p.1) (zip s.jobs s.parts)
 
 -- ---- one line
-
--- want of memory
-abbrev pub IsMemory : ReplayError → Type 0
-IsMemory (error.Mismatch channel number) = ⊥
-IsMemory error.Past = ⊥
-IsMemory error.Start = ⊥
-IsMemory error.Memory = Unit {0}
-
--- no message before the place makes it true
-abbrev pub IsNoneBefore : ReplayState → Condition → Type 0
-IsNoneBefore s test = (m : ℕ) → m < s.place → ¬ IsMet s test m
 
 -- the file has a message of this number
 abbrev pub HasMessageNumbered : ReplayState → ℕ → Type 0
@@ -99,8 +86,8 @@ Replies s (seek sought n) (reply.At m) = place_of sought 0 n s.found ≡ Some m
 Replies s (seek sought n) (reply.Refused e) = PastWhere (place_of sought 0 n s.found ≡ None) e
 Replies s (find test) (reply.At n) = IsNextMet s test n
 Replies s (find test) (reply.Refused e) = PastWhere (IsNowhere s test) e ⊎ IsMemory e
-Replies s (find_back test) (reply.At n) = IsLatestBefore s test s.place n
-Replies s (find_back test) (reply.Refused e) = PastWhere (IsNoneBefore s test) e ⊎ IsMemory e
+Replies s (find_back test) (reply.At n) = IsLatestMet s test n
+Replies s (find_back test) (reply.Refused e) = PastWhere (IsNowhereBefore s test) e ⊎ IsMemory e
 Replies s (select selector) r = RepliesPlaceFound (place_of (Commands selector) s.place 1 s.found) r
 Replies s (select_back selector) r = RepliesPlaceFound (latest_of (Commands selector) s.place s.found) r
 Replies s (state detail) (reply.Shown shown) = shown ≡ detail

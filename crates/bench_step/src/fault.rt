@@ -1,10 +1,10 @@
 //! Why a session ended before its lines did, or with a refusal for memory.
-ghost use Rattle.bench_step.specs.Answering.{IsReaders};
+ghost use Rattle.bench_step.specs.Answering.{IsReaders, fault_of};
 ghost use Rattle.bench_step.specs.FaultText.{fault_text};
 ghost use Rattle.std.specs.IoError.{error_kind};
-ghost use Rattle.std.specs.Prelude.{Some};
+ghost use Rattle.std.specs.Prelude.{◌≡◌, Some};
 
-use ch11_reader::Refusal;
+use ch11_reader::{ReadError, Refusal};
 use std::fmt::{self, Display, Formatter, Write};
 use std::io;
 
@@ -42,6 +42,17 @@ impl Display for StepFault {
             }
             StepFault::Memory | StepFault::LineMemory => write!(f, "memory"),
             StepFault::Input | StepFault::Output => write!(f, "device -"),
+        }
+    }
+}
+
+impl From<ReadError> for StepFault {
+    ghost from_gives = { λ unread e. e ≡ fault_of unread };
+
+    fn from(unread: ReadError) -> StepFault {
+        match unread {
+            ReadError::Refused(refusal) => StepFault::Refused(refusal),
+            ReadError::Memory => StepFault::Memory,
         }
     }
 }

@@ -5,7 +5,6 @@
 //! `command_tests`. Its wrong bodies: `edits/`.
 #![tactic(auto)]
 
-mod backwards;
 mod commands;
 mod console;
 mod decoding;

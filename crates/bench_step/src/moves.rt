@@ -101,6 +101,15 @@ pub(crate) fn find_on(replay: &mut Replay<'_>, condition: &Cond<Global>) -> Repl
     Reply::to_move(replay, moved)
 }
 
+/// Back to the latest message before the place whose outcome makes the condition true.
+pub(crate) fn find_back(replay: &mut Replay<'_>, condition: &Cond<Global>) -> Reply
+    ensures lawful { Replies replay.old.state (asked.find_back (condition_in condition.now)) result }
+    ensures after { replay.new.state ≡ after_reply result replay.old.state }
+{
+    let moved = replay.find_back(condition);
+    Reply::to_move(replay, moved)
+}
+
 /// The place of the next message that the selector is about, or of the latest one before a place, if there is one.
 fn selected_place(index: &Index<'_>, way: Way, selector: Selector, place: u64) -> Option<u64>
     ensures { result ≡ selected_place way selector place index.now }

@@ -4,12 +4,13 @@ ghost use Rattle.std.specs.Prelude.{◌≡◌, IfOk, IfErr, OnOk};
 
 use crate::fault::StepFault;
 use bench_report::Report;
-use ch11_reader::{Index, ReadError};
+use ch11_reader::Index;
 use job_file::Job;
 use replay::{Replay, ReplayError};
 use std::alloc::Global;
 
 /// A debugger on a recording that can be read, where jobs and report agree with it.
+#[tactic(auto, using(crate::proofs::NotIndexed::not_indexed))]
 pub(crate) fn open_replay<'a>(
     alloc: Global,
     jobs: &[Job],
@@ -20,11 +21,7 @@ pub(crate) fn open_replay<'a>(
     ensures accepted { OnOk result (MayBeDebugged jobs.now report.now.channels recording.now) }
     ensures refused { IfErr result (IsOpeningRefusal jobs.now report.now.channels recording.now) }
 {
-    let index = match Index::build(alloc, recording) {
-        Ok(index) => index,
-        Err(ReadError::Refused(refusal)) => return Err(StepFault::Refused(refusal)),
-        Err(ReadError::Memory) => return Err(StepFault::Memory),
-    };
+    let index = Index::build(alloc, recording)?;
     match Replay::open(alloc, jobs, report, index) {
         Ok(replay) => Ok(replay),
         Err(ReplayError::Mismatch { channel, number }) => {

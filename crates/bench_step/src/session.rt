@@ -5,12 +5,11 @@ ghost use Rattle.bench_step.specs.Session.{Replies, after_reply, reply_text};
 ghost use Rattle.std.specs.Io.KnownBytes.{Appends};
 ghost use Rattle.std.specs.Prelude.{◌≡◌, ◌++◌, IfOk, IfErr, OnOk};
 
-use crate::backwards::back_to;
 use crate::commands::{Command, Way, read_command};
 use crate::decoding::Decoder;
 use crate::fault::StepFault;
 use crate::manners::Manner;
-use crate::moves::{find_on, go_back, go_on, go_time, go_to, seek, select};
+use crate::moves::{find_back, find_on, go_back, go_on, go_time, go_to, seek, select};
 use crate::opening::open_replay;
 use crate::replies::Reply;
 use bench_report::Report;
@@ -21,22 +20,20 @@ use std::io;
 use std::io::Write;
 use std::marker::Model;
 
-/// A recording under the debugger, with what it was opened with. Contracts see the debugger, and how lines are
-/// answered.
+/// A recording under the debugger, with the report of its run. Contracts see the debugger, and how lines are answered.
 #[derive(Drop)]
 pub(crate) struct Session<'a> {
     replay: Replay<'a>,
-    jobs: &'a [Job],
     report: &'a Report,
-    recording: &'a [u8],
     manner: Manner,
     decoder: Decoder,
 }
 
 impl<'a> Model for Session<'a> {
-    ghost use Rattle.bench_step.specs.Answering.{IsDebuggerOpen, SessionState};
+    ghost use Rattle.bench_step.specs.Answering.{SessionState};
     ghost use Rattle.job_file.specs.contracts.scripts.Script as scripts;
     ghost use Rattle.std.specs.Coded.{codes};
+    ghost use Rattle.std.specs.Prelude.{◌≡◌};
 
     ghost Value = { SessionState };
 
@@ -44,7 +41,7 @@ impl<'a> Model for Session<'a> {
 
     ghost view = { λ s. record { debugger = s.replay.state; manner = s.manner } };
 
-    ghost invariant = { λ s. IsDebuggerOpen s.replay.state s.jobs.now s.report.now.channels s.recording.now };
+    ghost invariant = { λ s. s.report.now.channels ≡ s.replay.state.parts };
 }
 
 /// What became of a line: whether memory was refused for what it asks, and whether it ends the session.
@@ -77,7 +74,7 @@ impl<'a> Session<'a> {
     pub(crate) fn open(
         alloc: Global,
         manner: Manner,
-        jobs: &'a [Job],
+        jobs: &[Job],
         report: &'a Report,
         recording: &'a [u8],
     ) -> Result<Session<'a>, StepFault>
@@ -90,9 +87,7 @@ impl<'a> Session<'a> {
         match Decoder::make(alloc) {
             Ok(decoder) => Ok(Session {
                 replay,
-                jobs,
                 report,
-                recording,
                 manner,
                 decoder,
             }),
@@ -116,8 +111,8 @@ impl<'a> Session<'a> {
     }
 
     /// Does what a command asks.
-    #[tactic(auto, using(crate::proofs::Moving::still_open, crate::proofs::Moving::shows_place))]
-    fn obey(&mut self, alloc: Global, command: &Command) -> Reply
+    #[tactic(auto, using(crate::proofs::Moving::same_parts, crate::proofs::Moving::shows_place))]
+    fn obey(&mut self, command: &Command) -> Reply
         ensures lawful { Replies self.old.debugger (asked_of command.now) result }
         ensures after { self.new.debugger ≡ after_reply result self.old.debugger }
         ensures manner { self.new.manner ≡ self.old.manner }
@@ -129,14 +124,7 @@ impl<'a> Session<'a> {
             Command::GoTime(ticks) => go_time(&mut self.replay, *ticks),
             Command::Seek(sought, number) => seek(&mut self.replay, sought, *number),
             Command::Find(condition) => find_on(&mut self.replay, condition),
-            Command::FindBack(condition) => back_to(
-                alloc,
-                &mut self.replay,
-                self.jobs,
-                self.report,
-                self.recording,
-                condition,
-            ),
+            Command::FindBack(condition) => find_back(&mut self.replay, condition),
             Command::Select(selector) => select(&mut self.replay, Way::On, *selector),
             Command::SelectBack(selector) => select(&mut self.replay, Way::Back, *selector),
             Command::State(detail) => Reply::Shown(*detail),
@@ -159,7 +147,7 @@ impl<'a> Session<'a> {
         ensures manner { self.new.manner ≡ self.old.manner }
     {
         match read_command(alloc, self.manner, line) {
-            Ok(command) => self.obey(alloc, &command),
+            Ok(command) => self.obey(&command),
             Err(_) => Reply::Refused(ReplayError::Memory),
         }
     }

@@ -48,6 +48,7 @@ pub(crate) enum Call {
     Back,
     Go,
     Find,
+    FindBack,
 }
 
 /// Their names.
@@ -92,6 +93,7 @@ pub(crate) const CALLS: &[(&str, Call)] = &[
     ("Replay::back", Call::Back),
     ("Replay::go", Call::Go),
     ("Replay::find", Call::Find),
+    ("Replay::find_back", Call::FindBack),
 ];
 
 /// Makes a call, and says what it came to.
@@ -137,5 +139,6 @@ pub(crate) fn make_call<R: Threads + Wait + Sync>(rt: &R, alloc: Global, call: C
         Call::Back => moves::back(alloc),
         Call::Go => moves::go(alloc),
         Call::Find => moves::found(alloc),
+        Call::FindBack => moves::found_back(alloc),
     }
 }

@@ -23,6 +23,7 @@ enum Asked<'a> {
     Back,
     Go,
     Find(&'a Cond<Global>),
+    FindBack(&'a Cond<Global>),
 }
 
 /// The place, and the number and the clock of the controller.
@@ -42,6 +43,7 @@ fn go_there(replay: &mut Replay<'_>, asked: Asked<'_>) -> Result<(), ReplayError
         Asked::Back => replay.back(),
         Asked::Go => replay.go(90),
         Asked::Find(condition) => replay.find(condition),
+        Asked::FindBack(condition) => replay.find_back(condition),
     }
 }
 
@@ -53,6 +55,7 @@ fn aim(asked: Asked<'_>) -> u64 {
         Asked::Back => 67,
         Asked::Go => 90,
         Asked::Find(_) => 70,
+        Asked::FindBack(_) => 66,
     }
 }
 
@@ -164,6 +167,14 @@ pub(crate) fn go(alloc: Global) -> Told {
 pub(crate) fn found(alloc: Global) -> Told {
     match read_cond(alloc, b"not bit busy") {
         Ok(condition) => tried(alloc, Asked::Find(&condition)),
+        Err(_) => Told::Early,
+    }
+}
+
+/// `Replay::find_back`: to the latest message before whose terminal is the other one, 9.
+pub(crate) fn found_back(alloc: Global) -> Told {
+    match read_cond(alloc, b"not bit busy") {
+        Ok(condition) => tried(alloc, Asked::FindBack(&condition)),
         Err(_) => Told::Early,
     }
 }

@@ -1,6 +1,6 @@
 //! Moves, and the states behind them.
 use super::recordings::record_of;
-use super::scripts::Move::{Back, BackBy, Find, Forward, Go};
+use super::scripts::Move::{Back, BackBy, Find, FindBack, Forward, Go};
 use super::scripts::{Row, moves, opened, same, seen_at};
 use replay::{Replay, ReplayError};
 use std::alloc::Global;
@@ -21,7 +21,8 @@ const THREE_MESSAGES: Offered = Offered {
     total: 3,
 };
 
-const THREE_MOVES: [Row; 8] = [
+/// Only message 1 is without an answer; the message of the place itself is none before it.
+const THREE_MOVES: [Row; 13] = [
     (Back, Err(ReplayError::Start), 0, None, None),
     (Find("silent"), Ok(()), 1, Some((1, 0x2C00, 0x2823)), None),
     (Go(3), Ok(()), 3, Some((3, 0x2C00, 0x2FE2)), None),
@@ -32,6 +33,29 @@ const THREE_MOVES: [Row; 8] = [
         Err(ReplayError::Past),
         3,
         Some((3, 0x2C00, 0x2FE2)),
+        None,
+    ),
+    (
+        FindBack("silent"),
+        Ok(()),
+        1,
+        Some((1, 0x2C00, 0x2823)),
+        None,
+    ),
+    (
+        FindBack("silent"),
+        Err(ReplayError::Past),
+        1,
+        Some((1, 0x2C00, 0x2823)),
+        None,
+    ),
+    (Go(3), Ok(()), 3, None, None),
+    (FindBack("not silent"), Ok(()), 2, None, None),
+    (
+        FindBack("not silent"),
+        Err(ReplayError::Past),
+        2,
+        None,
         None,
     ),
     (Go(0), Ok(()), 0, Some((0, 0x2800, 0)), None),
@@ -45,11 +69,19 @@ const FIVE_MESSAGES: Offered = Offered {
 };
 
 /// Message 3 turns the terminal busy and is refused: it has happened at the next place all the same.
-const FIVE_MOVES: [Row; 4] = [
+const FIVE_MOVES: [Row; 6] = [
     (Go(2), Ok(()), 2, Some((2, 0x2800, 0x2821)), None),
     (Forward, Ok(()), 3, Some((4, 0x2808, 0x2821)), None),
     (Go(0), Ok(()), 0, None, None),
     (Find("bit busy"), Ok(()), 3, None, None),
+    (Go(4), Ok(()), 4, None, None),
+    (
+        FindBack("bit busy"),
+        Ok(()),
+        3,
+        Some((4, 0x2808, 0x2821)),
+        None,
+    ),
 ];
 
 const HUNDRED_MESSAGES: Offered = Offered {

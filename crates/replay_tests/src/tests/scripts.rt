@@ -3,6 +3,7 @@ use super::recordings::Recorded;
 use bc_machine::Machine;
 use ch11_reader::Index;
 use frame_text::read_cond;
+use frame_tree::Cond;
 use replay::{Replay, ReplayError};
 use std::alloc::Global;
 use std::fmt::Debug;
@@ -15,6 +16,7 @@ pub(crate) enum Move {
     Forward,
     Back,
     Find(&'static str),
+    FindBack(&'static str),
 
     /// So many moves back.
     BackBy(u64),
@@ -74,15 +76,10 @@ pub(crate) fn seen_at(replay: &Replay<'_>) -> Option<(Shown, u64)> {
     Some((shown(machine)?, machine.bus().clock()))
 }
 
-/// The answer to a search for a condition, which is given by its text.
-fn found(
-    rt: &impl Abort,
-    alloc: Global,
-    replay: &mut Replay<'_>,
-    text: &str,
-) -> Result<(), ReplayError> {
+/// A condition, which is given by its text.
+fn condition(rt: &impl Abort, alloc: Global, text: &str) -> Cond<Global> {
     let condition = read_cond(alloc, text.as_bytes());
-    replay.find(&condition.ok().expect(rt, "a condition"))
+    condition.ok().expect(rt, "a condition")
 }
 
 /// The answer to so many moves back: of the last, or of the first that is refused.
@@ -112,7 +109,8 @@ fn answer(
         Move::Go(place) => replay.go(place),
         Move::Forward => replay.forward(),
         Move::Back => replay.back(),
-        Move::Find(text) => found(rt, alloc, replay, text),
+        Move::Find(text) => replay.find(&condition(rt, alloc, text)),
+        Move::FindBack(text) => replay.find_back(&condition(rt, alloc, text)),
         Move::BackBy(count) => back_by(replay, count),
         Move::ThroughTo(last) => through_to(replay, last),
     }
