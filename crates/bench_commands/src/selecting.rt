@@ -2,9 +2,9 @@
 
 use crate::options::{Row, channel, choice, flag, signed};
 use bench_requests::Fault;
-use bench_select::{Bound, Bus, Selection, Selector, read_bound};
+use bench_select::{Bound, Selection, read_bound};
 use clap::ArgMatches;
-use judge_rules::{RuleFault, selector_of};
+use judge_rules::{Bus, RuleFault, Selector, selector_of};
 
 /// What a command line says of a selection.
 #[derive(Clone, Copy, Debug)]

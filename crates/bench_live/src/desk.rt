@@ -2,7 +2,7 @@
 ghost use Rattle.bench_live.specs.Posting.{IsOpened};
 ghost use Rattle.std.specs.Prelude.{IfOk, OnOk};
 
-use bench_run::{Inbox, Mailbox, Poster};
+use bench_mail::{Inbox, Mailbox, Poster};
 use job_file::Job;
 use std::alloc::{AllocError, Global};
 use std::sync::atomic::{AtomicU32, Ordering};

@@ -3,8 +3,9 @@ ghost use Rattle.bench_places.specs.Places.{is_sought};
 ghost use Rattle.ch11_f1.specs.Views.{message_of};
 ghost use Rattle.std.specs.Prelude.{◌≡◌};
 
-use bench_select::{Selector, selects_commands};
+use bench_select::selects_commands;
 use ch11_f1::Seen;
+use judge_rules::Selector;
 
 /// What is asked of a message.
 #[derive(Clone, Copy, Debug, PartialEq, Eq)]

@@ -19,7 +19,6 @@ mod scope;
 mod threads;
 mod writer;
 
-pub use bench_mail::{Inbox, MailError, Mailbox, Post, PostError, Poster};
 pub use error::{LiveError, RunError};
 pub use gate::{Gate, OpenGate};
 pub use holding::HoldingGate;

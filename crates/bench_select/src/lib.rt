@@ -12,6 +12,5 @@ mod selectors;
 
 pub use bounds::{Bound, read_bound};
 pub use channels::{CHANNELS, mark_channel, no_channels};
-pub use judge_rules::{Bus, Selector};
 pub use selection::Selection;
 pub use selectors::{is_of, is_on, selects_commands};

@@ -11,11 +11,11 @@ ghost use Rattle.text_lines.specs.Words.{words};
 
 use crate::manners::Manner;
 use bench_places::Sought;
-use bench_select::{Bound, Selector, read_bound};
+use bench_select::{Bound, read_bound};
 use bench_state::Detail;
 use frame_text::{ScriptError, read_cond};
 use frame_tree::Cond;
-use judge_rules::selector_of;
+use judge_rules::{Selector, selector_of};
 use numerals::spelled;
 use std::alloc::{AllocError, Global};
 use text_lines::{next_word, split_word};

@@ -7,9 +7,9 @@ ghost use Rattle.std.specs.Prelude.{◌≡◌, ◌+◌, ◌-◌};
 use crate::commands::Way;
 use crate::replies::Reply;
 use bench_places::{Sought, latest_place, nth_place, place_before};
-use bench_select::Selector;
 use ch11_reader::Index;
 use frame_tree::Cond;
+use judge_rules::Selector;
 use replay::{Replay, ReplayError};
 use std::alloc::Global;
 

@@ -3,7 +3,7 @@ ghost use Rattle.bench_mail.specs.Mail.{MayPost};
 ghost use Rattle.std.specs.Prelude.{◌≡◌};
 
 use crate::gate::Posted;
-use bench_run::{Mailbox, Poster};
+use bench_mail::{Mailbox, Poster};
 use mil_host::Action;
 use std::sync::Wait;
 use std::thread::{Threads, join};

@@ -15,8 +15,9 @@ mod gate;
 mod hosts;
 
 use bench_core::Settings;
+use bench_mail::{Inbox, Mailbox, Poster};
 use bench_report::{ChannelReport, Report};
-use bench_run::{Inbox, Mailbox, Poster, run_live};
+use bench_run::run_live;
 use ch11_writer::MemorySink;
 use gate::Posted;
 use hosts::{Host, post_all};

@@ -3,8 +3,9 @@
 use crate::told::Told;
 use crate::worked::{FIVE, ONE, job_of, jobs_of, settings_of};
 use bench_core::{ChannelFault, one_channel};
+use bench_mail::{MailError, Mailbox};
 use bench_report::Report;
-use bench_run::{MailError, Mailbox, OpenGate, RunError, run};
+use bench_run::{OpenGate, RunError, run};
 use ch11_writer::MemorySink;
 use job_file::Job;
 use mil_trunk::{Tagged, Trunk, TrunkError};

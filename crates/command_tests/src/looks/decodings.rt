@@ -2,8 +2,9 @@
 use crate::looks::equal::{reads, reads_all, same, same_in};
 use crate::looks::made::{TRANSFER, recorded};
 use bench_decode::{Line, Numbers, Output, Place, Shown, decode, write_message};
-use bench_select::{Bound, Bus, Selection};
+use bench_select::{Bound, Selection};
 use ch11_f1::Seen;
+use judge_rules::Bus;
 use std::alloc::Global;
 use std::process::Abort;
 use test_values::FOREIGN;

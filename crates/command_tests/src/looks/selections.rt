@@ -3,8 +3,8 @@ use crate::looks::decodings::{COLUMNS, FILE_LINES, POLL, all, shows};
 use crate::looks::equal::{reads, same, same_in};
 use crate::looks::made::{TRANSFER, recorded};
 use bench_decode::{Output, decode};
-use bench_select::{Bound, Bus, Selection, Selector, read_bound};
-use judge_rules::{RuleFault, selector_of};
+use bench_select::{Bound, Selection, read_bound};
+use judge_rules::{Bus, RuleFault, Selector, selector_of};
 use std::alloc::Global;
 use std::process::Abort;
 

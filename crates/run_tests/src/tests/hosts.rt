@@ -5,8 +5,9 @@ ghost use Rattle.std.specs.Prelude.{◌≡◌, [], ◌∷◌, IfOk};
 
 use crate::tests::fixtures::Bench;
 use crate::tests::gates::OrderingGate;
+use bench_mail::{Inbox, Mailbox, Poster};
 use bench_report::Report;
-use bench_run::{Inbox, LiveError, Mailbox, Poster, run_live};
+use bench_run::{LiveError, run_live};
 use ch11_reader::Index;
 use ch11_writer::MemorySink;
 use job_file::Job;

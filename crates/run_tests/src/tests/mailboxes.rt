@@ -1,7 +1,7 @@
 //! Mailboxes: which are made, what comes back, and what is received.
 use crate::tests::equal::prints;
 use crate::tests::fixtures::{TO_FIVE, job_of};
-use bench_run::{MailError, Mailbox, Post, PostError};
+use bench_mail::{MailError, Mailbox, Post, PostError};
 use job_file::Job;
 use mil_host::Action;
 use std::alloc::Global;

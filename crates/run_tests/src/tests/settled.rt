@@ -7,7 +7,7 @@ ghost use Rattle.std.specs.Prelude.{◌≡◌, [], ◌∷◌};
 use crate::tests::fixtures::{Bench, bench_of};
 use crate::tests::gates::{OrderingGate, Rules};
 use crate::tests::hosts::{alone, lives_beside, taking};
-use bench_run::{Inbox, Mailbox, Post, Poster};
+use bench_mail::{Inbox, Mailbox, Post, Poster};
 use job_file::Job;
 use mil_host::Action;
 use std::alloc::Global;
