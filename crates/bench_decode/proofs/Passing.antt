@@ -6,9 +6,8 @@ use Rattle.std.proofs.lemmas.Grind.{flat_map-append}
 use Rattle.ch11_f1.specs.BodyReading.{Message}
 use Rattle.ch11_reader.specs.declared.packet.Packet.{Packet}
 use Rattle.ch11_reader.specs.Recording.{Found}
-use Rattle.ch11_reader.specs.Contents.{heard_of, heard_in, total_in}
+use Rattle.ch11_reader.specs.Contents.{heard_of, heard_in, total_in, Heard}
 use Rattle.bench_dump.proofs.Packets.{IsAt}
-use Rattle.bench_decode.specs.ByTime.{Heard}
 
 abbrev pub with_channel : ℕ → Message → Heard
 with_channel channel = λ (m : Message). (channel, m)

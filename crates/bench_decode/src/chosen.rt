@@ -1,8 +1,8 @@
 //! The chosen messages of a recording, in the order of their stamps.
-ghost use Rattle.bench_decode.specs.ByTime.{Heard, AreByTime, AreChosen, chosen, told_of};
+ghost use Rattle.bench_decode.specs.ByTime.{AreByTime, AreChosen, chosen, told_of};
 ghost use Rattle.ch11_f1.specs.BodyReading.{Message};
 ghost use Rattle.ch11_f1.specs.Views.{message_of};
-ghost use Rattle.ch11_reader.specs.Contents.{heard_in};
+ghost use Rattle.ch11_reader.specs.Contents.{heard_in, Heard};
 ghost use Rattle.std.specs.Prelude.{◌≡◌, ◌+◌, ◌<◌, ◌^◌, ◌++◌, ◌∷◌, List, length, map, reverse, IfOk, OnOk};
 
 use crate::messages::Place;

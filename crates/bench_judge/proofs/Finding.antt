@@ -5,7 +5,8 @@ use Rattle.std.proofs.lemmas.List.{take_all}
 use Rattle.judge_rules.specs.declared.rules.Rule.{Rule}
 use Rattle.bench_judge.specs.declared.tallies.Tally.{Tally}
 use Rattle.bench_judge.specs.declared.verdicts.Miss.{Miss}
-use Rattle.bench_judge.specs.Verdicts.{Heard, misses, miss_of}
+use Rattle.ch11_reader.specs.Contents.{Heard}
+use Rattle.bench_judge.specs.Verdicts.{misses, miss_of}
 use Rattle.bench_judge.specs.Tallies.{IsTally, IsFinding, misses_next}
 use Rattle.bench_judge.proofs.Moments.{moment}
 use Rattle.bench_judge.proofs.Writing.{misses-stay, misses-grow}

@@ -4,7 +4,8 @@ use Rattle.std.specs.Prelude.{Some, slice_get}
 use Rattle.std.proofs.lemmas.List.{take-append-drop}
 use Rattle.judge_rules.specs.declared.rules.Rule.{Rule}
 use Rattle.bench_judge.specs.declared.verdicts.RuleVerdict.{RuleVerdict}
-use Rattle.bench_judge.specs.Verdicts.{Heard, IsVerdict, AreVerdicts}
+use Rattle.ch11_reader.specs.Contents.{Heard}
+use Rattle.bench_judge.specs.Verdicts.{IsVerdict, AreVerdicts}
 
 pub no-verdicts : (history : List Heard) → AreVerdicts [] history []
 no-verdicts history = record { many = refl; each = λ k rule verdict asked has. absurd cc }

@@ -7,7 +7,8 @@ use Rattle.judge_rules.specs.declared.rules.Rule.{Rule}
 use Rattle.bench_judge.specs.declared.verdicts.Miss.{Miss}
 use Rattle.bench_judge.specs.Selection.{selects}
 use Rattle.bench_judge.specs.Checks.{meets}
-use Rattle.bench_judge.specs.Verdicts.{Heard, Moment, moments, latest_stamp, is_selected, is_miss, selected, missed, misses, miss_of}
+use Rattle.ch11_reader.specs.Contents.{Heard}
+use Rattle.bench_judge.specs.Verdicts.{Moment, moments, latest_stamp, is_selected, is_miss, selected, missed, misses, miss_of}
 
 filter_skip : {X : Type 0} (p : X → Bool) (x : X) (xs : List X) → p x ≡ false → filter p (x ∷ xs) ≡ filter p xs
 filter_skip p x xs is = rw is refl

@@ -5,7 +5,7 @@ use Rattle.std.proofs.lemmas.Bool.{cases_eq}
 use Rattle.std.proofs.lemmas.Option.{slice_get_within}
 use Rattle.judge_rules.specs.declared.rules.Rule.{Rule}
 use Rattle.bench_judge.specs.declared.tallies.Tally.{Tally}
-use Rattle.bench_judge.specs.Verdicts.{Heard}
+use Rattle.ch11_reader.specs.Contents.{Heard}
 use Rattle.bench_judge.specs.Tallies.{IsTally, AreTallies}
 
 get_set_same : {X : Type 0} (xs : List X) (i : ℕ) (a : X) → i < length xs → slice_get (set xs i a) i ≡ Some a

@@ -4,7 +4,7 @@ use Rattle.std.specs.Prelude.{Option, Err}
 use Rattle.bench_judge.specs.declared.pass_fault.PassFault.{PassFault}
 use Rattle.bench_judge.specs.declared.pass_fault.PassFault.TheVariants.{Opening, Printing, Recording}
 use Rattle.bench_judge.specs.Streaming.{WritesLinesOf}
-use Rattle.bench_judge.specs.Verdicts.{Heard}
+use Rattle.ch11_reader.specs.Contents.{Heard}
 
 -- a fault in front of some lines is one in front of others
 pub same_fault : (lines others : List Heard → List ℕ) (e : PassFault) (file : List ℕ) (got mid gets then : Option (List ℕ)) → WritesLinesOf {A = Unit {0}} lines (Err e) file got mid → WritesLinesOf {A = Unit {0}} others (Err e) file gets then

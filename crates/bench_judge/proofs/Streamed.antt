@@ -3,10 +3,9 @@ use Rattle.std.proofs.Common.{◌≡◌, List, [], ◌∷◌, ◌++◌, length, 
 use Rattle.std.proofs.lemmas.List.{length-reverse, reverse-append}
 use Rattle.std.proofs.lemmas.Grind.{flat_map-append}
 use Rattle.ch11_reader.specs.Recording.{Found}
-use Rattle.ch11_reader.specs.Contents.{heard_in, heard_of, total_in}
+use Rattle.ch11_reader.specs.Contents.{heard_in, heard_of, total_in, Heard}
 use Rattle.ch11_stream.proofs.Folding.{one_behind, total_reverse}
 use Rattle.bench_judge.specs.Tallies.{heard_on}
-use Rattle.bench_judge.specs.Verdicts.{Heard}
 use Rattle.bench_judge.proofs.Whole.{length-heard}
 
 -- those of packets that stand newest first

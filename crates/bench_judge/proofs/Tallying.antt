@@ -5,7 +5,8 @@ use Rattle.judge_rules.specs.declared.rules.Rule.{Rule}
 use Rattle.bench_judge.specs.declared.tallies.Tally.{Tally}
 use Rattle.bench_judge.specs.Selection.{selects}
 use Rattle.bench_judge.specs.Checks.{meets}
-use Rattle.bench_judge.specs.Verdicts.{Heard, latest_stamp, selected}
+use Rattle.ch11_reader.specs.Contents.{Heard}
+use Rattle.bench_judge.specs.Verdicts.{latest_stamp, selected}
 use Rattle.bench_judge.specs.Tallies.{IsTally, IsLatest, misses_next}
 use Rattle.bench_judge.proofs.Moments.{selected-more, missed-met, missed-take, few-selected, few-missed}
 

@@ -7,12 +7,12 @@ use Rattle.std.proofs.lemmas.Grind.{flat_map-append}
 use Rattle.ch11_f1.specs.BodyReading.{Message}
 use Rattle.ch11_reader.specs.declared.packet.Packet.{Packet}
 use Rattle.ch11_reader.specs.Recording.{Found}
-use Rattle.ch11_reader.specs.Contents.{heard_of, heard_in, total_in}
+use Rattle.ch11_reader.specs.Contents.{heard_of, heard_in, total_in, Heard}
 use Rattle.bench_dump.proofs.Packets.{IsAt}
 use Rattle.judge_rules.specs.declared.rules.Rule.{Rule}
 use Rattle.bench_judge.specs.declared.tallies.Tally.{Tally}
 use Rattle.bench_judge.specs.declared.verdicts.RuleVerdict.{RuleVerdict}
-use Rattle.bench_judge.specs.Verdicts.{Heard, IsVerdict, IsVerdictWith, AreVerdicts}
+use Rattle.bench_judge.specs.Verdicts.{IsVerdict, IsVerdictWith, AreVerdicts}
 use Rattle.bench_judge.specs.Tallies.{IsTally, AreTallies, heard_on}
 
 -- an element of a list with one more: one of the list, or the last

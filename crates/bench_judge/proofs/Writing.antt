@@ -12,7 +12,8 @@ use Rattle.bench_judge.specs.declared.verdicts.Miss.{Miss}
 use Rattle.bench_judge.specs.declared.verdicts.RuleVerdict.{RuleVerdict}
 use Rattle.bench_judge.specs.Selection.{selects}
 use Rattle.bench_judge.specs.Checks.{meets}
-use Rattle.bench_judge.specs.Verdicts.{Heard, latest_stamp, misses, miss_of, AreVerdicts, not_held, rules_not_held, holds}
+use Rattle.ch11_reader.specs.Contents.{Heard}
+use Rattle.bench_judge.specs.Verdicts.{latest_stamp, misses, miss_of, AreVerdicts, not_held, rules_not_held, holds}
 use Rattle.bench_judge.specs.Lines.{miss_line, verdict_lines, rules_lines, last_line, verdict_text}
 use Rattle.bench_judge.specs.Tallies.{IsTally, IsWriting, misses_next, miss_lines}
 use Rattle.bench_judge.proofs.Moments.{moment, misses-skip, misses-met, misses-more}

@@ -4,7 +4,8 @@ use Rattle.std.specs.List.{flat_map}
 use Rattle.judge_rules.specs.declared.rules.Rule.{Rule}
 use Rattle.bench_judge.specs.declared.verdicts.Miss.{Miss}
 use Rattle.bench_judge.specs.Checks.{counts}
-use Rattle.bench_judge.specs.Verdicts.{Heard, selected, missed, misses, rules_not_held}
+use Rattle.ch11_reader.specs.Contents.{Heard}
+use Rattle.bench_judge.specs.Verdicts.{selected, missed, misses, rules_not_held}
 
 -- a message that misses the rule of a line
 abbrev pub miss_line : ℕ → Miss → List ℕ

@@ -1,13 +1,12 @@
 -- What comes of lines that are written while the packets of a recording come from a reader.
 use Rattle.std.specs.Prelude.{◌≡◌, ℕ, List, Option, Result, Ok, Err, reverse}
 use Rattle.std.specs.Io.KnownBytes.{Appends}
-use Rattle.ch11_reader.specs.Contents.{heard_in}
+use Rattle.ch11_reader.specs.Contents.{heard_in, Heard}
 use Rattle.ch11_reader.specs.Indexed.{found_in}
 use Rattle.ch11_reader.specs.Recording.{packets_in}
 use Rattle.ch11_stream.specs.Folding.{IsFaultOf}
 use Rattle.bench_judge.specs.declared.pass_fault.PassFault.{PassFault}
 use Rattle.bench_judge.specs.declared.pass_fault.PassFault.TheVariants as faults
-use Rattle.bench_judge.specs.Verdicts.{Heard}
 
 -- the messages of a file, newest first
 abbrev pub history_of : List ℕ → List Heard

@@ -11,7 +11,8 @@ use Rattle.bench_judge.specs.declared.verdicts.Miss.{Miss}
 use Rattle.bench_judge.specs.declared.tallies.Tally.{Tally}
 use Rattle.bench_judge.specs.Selection.{selects}
 use Rattle.bench_judge.specs.Checks.{meets, period_of}
-use Rattle.bench_judge.specs.Verdicts.{Heard, selected, missed, misses, latest_stamp}
+use Rattle.ch11_reader.specs.Contents.{Heard}
+use Rattle.bench_judge.specs.Verdicts.{selected, missed, misses, latest_stamp}
 use Rattle.bench_judge.specs.Lines.{miss_line}
 
 -- for a rule of a period, the stamp of the newest selected message of each channel; the history stands newest first

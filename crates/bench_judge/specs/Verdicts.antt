@@ -3,15 +3,12 @@ use Rattle.std.specs.Prelude.{◌≡◌, ℕ, ◌+◌, ◌==◌, nat_lt, Bool, n
 use Rattle.std.specs.Prelude.{map, reverse, Option, Some, None, slice_get}
 use Rattle.std.specs.List.{filter}
 use Rattle.ch11_f1.specs.BodyReading.{Message}
+use Rattle.ch11_reader.specs.Contents.{Heard}
 use Rattle.judge_rules.specs.declared.rules.Rule.{Rule}
 use Rattle.bench_judge.specs.declared.verdicts.Miss.{Miss}
 use Rattle.bench_judge.specs.declared.verdicts.RuleVerdict.{RuleVerdict}
 use Rattle.bench_judge.specs.Selection.{selects}
 use Rattle.bench_judge.specs.Checks.{meets, counts, is_count}
-
--- a message with its channel
-abbrev pub Heard : Type 0
-Heard = ℕ × Message
 
 -- a message of a recording: its number, counted from 1, and those before it, newest first
 pub record Moment : Type 0 where

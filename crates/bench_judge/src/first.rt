@@ -1,8 +1,8 @@
 //! The first messages that miss a rule.
 ghost use Rattle.bench_judge.specs.Tallies.{IsFinding, heard_on};
-ghost use Rattle.bench_judge.specs.Verdicts.{Heard, misses};
+ghost use Rattle.bench_judge.specs.Verdicts.{misses};
 ghost use Rattle.ch11_f1.specs.Views.{message_of};
-ghost use Rattle.ch11_reader.specs.Contents.{heard_in};
+ghost use Rattle.ch11_reader.specs.Contents.{heard_in, Heard};
 ghost use Rattle.ch11_stream.specs.Folding.{FoldsPackets};
 ghost use Rattle.std.specs.Prelude.{OnOk};
 ghost use Rattle.std.specs.Prelude.{◌≡◌, ◌+◌, ◌<◌, ◌≤◌, ◌^◌, ◌∷◌, ◌++◌, [], ℕ, List, Some, length, take, reverse};

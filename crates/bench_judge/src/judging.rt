@@ -1,8 +1,8 @@
 //! Passes over the messages of a recording: one for all rules, but for many rules of many channels.
 ghost use Rattle.bench_judge.specs.Tallies.{AreTallies, heard_on};
-ghost use Rattle.bench_judge.specs.Verdicts.{Heard, AreVerdicts};
+ghost use Rattle.bench_judge.specs.Verdicts.{AreVerdicts};
 ghost use Rattle.ch11_f1.specs.Views.{message_of};
-ghost use Rattle.ch11_reader.specs.Contents.{heard_in};
+ghost use Rattle.ch11_reader.specs.Contents.{heard_in, Heard};
 ghost use Rattle.judge_rules.specs.declared.rules.Rule.{Rule};
 ghost use Rattle.std.specs.Prelude.{◌≡◌, ◌+◌, ◌<◌, ◌≤◌, ◌^◌, ◌∷◌, ◌++◌, [], List, length, reverse, IfOk, OnOk};
 

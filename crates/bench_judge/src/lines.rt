@@ -3,9 +3,9 @@ ghost use Rattle.bench_judge.specs.Lines.{count_lines, last_line, miss_line, rul
 ghost use Rattle.bench_judge.specs.Lines.{verdict_lines, verdict_text};
 ghost use Rattle.bench_judge.specs.Tallies.{IsWriting, heard_on, miss_lines};
 ghost use Rattle.bench_judge.specs.Verdicts as spec;
-ghost use Rattle.bench_judge.specs.Verdicts.{Heard, AreVerdicts, IsVerdict};
+ghost use Rattle.bench_judge.specs.Verdicts.{AreVerdicts, IsVerdict};
 ghost use Rattle.ch11_f1.specs.Views.{message_of};
-ghost use Rattle.ch11_reader.specs.Contents.{heard_in};
+ghost use Rattle.ch11_reader.specs.Contents.{heard_in, Heard};
 ghost use Rattle.std.specs.Io.KnownBytes.{Appends};
 ghost use Rattle.std.specs.Prelude.{◌≡◌, ◌+◌, ◌<◌, ◌^◌, ◌∷◌, List, ℕ, Option, length, reverse, IfOk, OnOk};
 

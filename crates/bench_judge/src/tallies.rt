@@ -3,7 +3,8 @@ ghost use Rattle.bench_judge.specs.Checks.{meets as spec_meets};
 ghost use Rattle.bench_judge.specs.Clean.{IsKnown};
 ghost use Rattle.bench_judge.specs.Selection.{selects as selects_message};
 ghost use Rattle.bench_judge.specs.Tallies.{IsLatest, IsMissIf, IsTally, miss_at, misses_next};
-ghost use Rattle.bench_judge.specs.Verdicts.{Heard, latest_stamp};
+ghost use Rattle.ch11_reader.specs.Contents.{Heard};
+ghost use Rattle.bench_judge.specs.Verdicts.{latest_stamp};
 ghost use Rattle.ch11_f1.specs.Views.{message_of};
 ghost use Rattle.std.specs.Prelude.{◌≡◌, ◌+◌, ◌∷◌, ◌<◌, ◌≤◌, ◌^◌, [], true, List, length, OnOk, IfOk};
 

@@ -6,10 +6,10 @@ use Rattle.ch11_f1.specs.BodyReading.{Message}
 use Rattle.ch11_header.specs.declared.header.Header.{Header}
 use Rattle.ch11_reader.specs.declared.packet.Packet.{Packet}
 use Rattle.ch11_reader.specs.Recording.{Found}
-use Rattle.ch11_reader.specs.Contents.{heard_of, heard_in, total_in}
+use Rattle.ch11_reader.specs.Contents.{heard_of, heard_in, total_in, Heard}
 use Rattle.ch11_reader.specs.Listing.{listing}
 use Rattle.bench_dump.proofs.Packets.{no_packet, at_place, same_count}
-use Rattle.bench_places.specs.Places.{Heard, place_before, place_of}
+use Rattle.bench_places.specs.Places.{place_before, place_of}
 use Rattle.bench_places.specs.declared.sought.Sought.{Sought}
 use Rattle.bench_places.proofs.Walking.{none_left, first_place}
 

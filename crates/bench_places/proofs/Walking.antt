@@ -3,7 +3,8 @@ use Rattle.std.proofs.Common.{◌≡◌, ℕ, zero, suc, ◌+◌, ◌-◌, ◌<�
 use Rattle.std.specs.Prelude.{Bool, true, false, if◌then◌else◌}
 use Rattle.std.specs.List.{last_or, position_or_len}
 use Rattle.std.specs.Option.{MatchOption}
-use Rattle.bench_places.specs.Places.{Heard, is_sought, places_behind, numbered, count_in_channel}
+use Rattle.ch11_reader.specs.Contents.{Heard}
+use Rattle.bench_places.specs.Places.{is_sought, places_behind, numbered, count_in_channel}
 use Rattle.bench_places.specs.declared.sought.Sought.{Sought}
 
 pub drop_next : (xs : List Heard) (i : ℕ) (h : Heard) (hs : List Heard) → drop i xs ≡ h ∷ hs → drop (suc i) xs ≡ hs

@@ -2,16 +2,11 @@
 use Rattle.std.specs.Prelude.{ℕ, zero, suc, ◌+◌, ◌-◌, ◌==◌, nat_lt, Bool, if◌then◌else◌, List, [], ◌∷◌, take, drop}
 use Rattle.std.specs.Prelude.{slice_get, Option, None}
 use Rattle.std.specs.List.{last_or, position_or_len}
-use Rattle.ch11_f1.specs.BodyReading.{Message}
 use Rattle.ch11_reader.specs.Recording.{Found}
-use Rattle.ch11_reader.specs.Contents.{heard_in}
+use Rattle.ch11_reader.specs.Contents.{Heard, heard_in}
 use Rattle.bench_select.specs.Selectors.{selects_commands}
 use Rattle.bench_places.specs.declared.sought.Sought.{Sought}
 use Rattle.bench_places.specs.declared.sought.Sought.TheVariants.{Channel, Later, Commands}
-
--- a message with its channel
-abbrev pub Heard : Type 0
-Heard = ℕ × Message
 
 abbrev pub is_sought : Sought → Heard → Bool
 is_sought (Channel one) h = h.0 == one

@@ -19,9 +19,8 @@ pub(crate) struct Following<'a, 'i> {
 }
 
 impl<'a, 'i> Model for Following<'a, 'i> {
-    ghost use Rattle.bench_places.specs.Places.{Heard};
     ghost use Rattle.ch11_f1.specs.BodyReading.{Message};
-    ghost use Rattle.ch11_reader.specs.Contents.{heard_in};
+    ghost use Rattle.ch11_reader.specs.Contents.{Heard, heard_in};
     ghost use Rattle.std.specs.Prelude.{List, ◌++◌, drop, map};
 
     ghost Value = { List Heard };

@@ -9,16 +9,20 @@ use Rattle.ch11_reader.specs.Recording.{Found}
 abbrev pub reading : List Found → ℕ → List Message
 reading ps channel = flat_map (λ (p : Found). if p.header.channel == channel then p.messages else []) ps
 
+-- a message with its channel
+abbrev pub Heard : Type 0
+Heard = ℕ × Message
+
 -- the messages of a packet, each with the packet's channel
-abbrev pub heard_of : Found → List (ℕ × Message)
+abbrev pub heard_of : Found → List Heard
 heard_of p = map (λ (m : Message). (p.header.channel, m)) p.messages
 
 -- all messages, in the file's order
-abbrev pub heard_in : List Found → List (ℕ × Message)
+abbrev pub heard_in : List Found → List Heard
 heard_in ps = flat_map heard_of ps
 
 -- message n of the file, counted from 1
-abbrev pub message_numbered : List Found → ℕ → Option (ℕ × Message)
+abbrev pub message_numbered : List Found → ℕ → Option Heard
 message_numbered ps zero = None
 message_numbered ps (suc n) = slice_get (heard_in ps) n
 

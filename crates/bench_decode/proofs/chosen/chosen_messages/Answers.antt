@@ -1,9 +1,9 @@
 use Rattle.std.proofs.Common.{◌≡◌, ◌+◌, List, ap, subst, arith, length, take, reverse}
 use Rattle.std.proofs.lemmas.List.{take_all}
 use Rattle.ch11_reader.specs.Recording.{Found}
-use Rattle.ch11_reader.specs.Contents.{heard_in}
+use Rattle.ch11_reader.specs.Contents.{heard_in, Heard}
 use Rattle.bench_dump.proofs.Packets.{no_packet, at_place, same_count}
-use Rattle.bench_decode.specs.ByTime.{Heard, AreChosen, chosen, told_of}
+use Rattle.bench_decode.specs.ByTime.{AreChosen, chosen, told_of}
 use Rattle.bench_decode.proofs.Passing.{before_packet, packets-more}
 use Rattle.bench_decode.proofs.chosen.chosen_messages.Goals as goal
 

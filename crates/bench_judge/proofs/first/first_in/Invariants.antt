@@ -1,5 +1,5 @@
 use Rattle.std.proofs.Common.{◌≡◌, ◌+◌, List, length}
-use Rattle.bench_judge.specs.Verdicts.{Heard}
+use Rattle.ch11_reader.specs.Contents.{Heard}
 use Rattle.bench_judge.specs.Tallies.{IsFinding}
 use Rattle.bench_judge.proofs.Whole.{IsPassing}
 use Rattle.bench_judge.proofs.first.first_in.Given as goal

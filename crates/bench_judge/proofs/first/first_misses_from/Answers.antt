@@ -1,12 +1,12 @@
 use Rattle.std.proofs.Common.{◌≡◌, ◌∙◌, List, ap, sym, subst, length, reverse, take}
 use Rattle.ch11_reader.specs.declared.packet.Packet.{Packet}
-use Rattle.ch11_reader.specs.Contents.{heard_in, total_in}
+use Rattle.ch11_reader.specs.Contents.{heard_in, total_in, Heard}
 use Rattle.ch11_reader.specs.Recording.{Found}
 use Rattle.ch11_stream.specs.Reading.{last_found}
 use Rattle.ch11_stream.proofs.Folding.{all_found, not_found}
 use Rattle.ch11_stream.proofs.Readings.{amid_on, amid_start}
 use Rattle.bench_judge.specs.Tallies.{IsFinding}
-use Rattle.bench_judge.specs.Verdicts.{Heard, misses}
+use Rattle.bench_judge.specs.Verdicts.{misses}
 use Rattle.bench_judge.proofs.Finding.{finding-none}
 use Rattle.bench_judge.proofs.Streamed.{heard_count, heard_more, heard_so_far}
 use Rattle.bench_judge.proofs.first.first_misses_from.Goals as goal

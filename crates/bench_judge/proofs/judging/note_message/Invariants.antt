@@ -1,7 +1,7 @@
 use Rattle.std.proofs.Common.{◌≡◌, ◌+◌, ◌<◌, ◌^◌, List, length}
 use Rattle.ch11_f1.specs.Views.{message_of}
 use Rattle.bench_judge.specs.Clean.{IsKnown}
-use Rattle.bench_judge.specs.Verdicts.{Heard}
+use Rattle.ch11_reader.specs.Contents.{Heard}
 use Rattle.bench_judge.specs.Tallies.{AreTallies}
 use Rattle.bench_judge.proofs.Passing.{IsNoting}
 use Rattle.bench_judge.proofs.judging.note_message.Given as goal

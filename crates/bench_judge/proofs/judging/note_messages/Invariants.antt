@@ -1,5 +1,5 @@
 use Rattle.std.proofs.Common.{◌≡◌, ◌+◌, ◌<◌, ◌^◌, List, length}
-use Rattle.bench_judge.specs.Verdicts.{Heard}
+use Rattle.ch11_reader.specs.Contents.{Heard}
 use Rattle.bench_judge.specs.Tallies.{AreTallies}
 use Rattle.bench_judge.proofs.Whole.{IsPassing}
 use Rattle.bench_judge.proofs.judging.note_messages.Given as goal

@@ -1,6 +1,6 @@
 use Rattle.std.proofs.Common.{◌≡◌, ◌+◌, ℕ, List, length}
 use Rattle.std.specs.Prelude.{Option}
-use Rattle.bench_judge.specs.Verdicts.{Heard}
+use Rattle.ch11_reader.specs.Contents.{Heard}
 use Rattle.bench_judge.specs.Tallies.{IsWriting}
 use Rattle.bench_judge.proofs.Whole.{IsPassing}
 use Rattle.bench_judge.proofs.lines.write_messages.Given as goal

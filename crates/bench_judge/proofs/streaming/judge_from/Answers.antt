@@ -1,13 +1,13 @@
 use Rattle.std.proofs.Common.{◌≡◌, ◌+◌, ◌<◌, ◌^◌, ◌∙◌, List, ap, sym, subst, arith, length, reverse}
 use Rattle.std.proofs.lemmas.List.{with_items_is}
-use Rattle.ch11_reader.specs.Contents.{heard_in, total_in}
+use Rattle.ch11_reader.specs.Contents.{heard_in, total_in, Heard}
 use Rattle.ch11_reader.specs.Recording.{Found}
 use Rattle.ch11_stream.specs.Reading.{last_found}
 use Rattle.ch11_stream.proofs.Folding.{all_found, not_found}
 use Rattle.ch11_stream.proofs.Readings.{amid_on, amid_start}
 use Rattle.bench_judge.specs.declared.tallies.Tally.{Tally}
 use Rattle.bench_judge.specs.Tallies.{AreTallies}
-use Rattle.bench_judge.specs.Verdicts.{AreVerdicts, Heard}
+use Rattle.bench_judge.specs.Verdicts.{AreVerdicts}
 use Rattle.bench_judge.proofs.Streamed.{heard_count, heard_more, heard_so_far}
 use Rattle.bench_judge.proofs.streaming.judge_from.Goals as goal
 

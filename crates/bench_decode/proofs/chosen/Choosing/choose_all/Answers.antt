@@ -1,6 +1,7 @@
 use Rattle.std.proofs.Common.{List, ap, arith, length}
 use Rattle.ch11_f1.specs.Views.{message_of}
-use Rattle.bench_decode.specs.ByTime.{Heard, AreChosen}
+use Rattle.ch11_reader.specs.Contents.{Heard}
+use Rattle.bench_decode.specs.ByTime.{AreChosen}
 use Rattle.bench_decode.proofs.Passing.{passing-none, passing-more, passing-all}
 use Rattle.bench_decode.proofs.chosen.Choosing.choose_all.Goals as goal
 

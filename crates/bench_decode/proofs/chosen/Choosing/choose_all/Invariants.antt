@@ -1,5 +1,6 @@
 use Rattle.std.proofs.Common.{◌≡◌, ◌+◌, List, length}
-use Rattle.bench_decode.specs.ByTime.{Heard, AreChosen}
+use Rattle.ch11_reader.specs.Contents.{Heard}
+use Rattle.bench_decode.specs.ByTime.{AreChosen}
 use Rattle.bench_decode.proofs.Passing.{IsPassing}
 use Rattle.bench_decode.proofs.chosen.Choosing.choose_all.Given as goal
 

@@ -1,7 +1,8 @@
 use Rattle.std.proofs.Common.{◌≡◌, ◌+◌, ◌<◌, ◌^◌, ◌∙◌, ◌∷◌, refl, sym, arith, true, length}
 use Rattle.std.proofs.lemmas.Grind.{common_steps}
 use Rattle.ch11_f1.specs.Views.{message_of}
-use Rattle.bench_judge.specs.Verdicts.{Heard, selected}
+use Rattle.ch11_reader.specs.Contents.{Heard}
+use Rattle.bench_judge.specs.Verdicts.{selected}
 use Rattle.bench_judge.proofs.Tallying.{tally-more, tally-met, tally-missed}
 use Rattle.bench_judge.proofs.tallies.Tally.note.Goals as goal
 
