@@ -3,7 +3,7 @@ use Rattle.std.specs.Prelude.{ℕ, zero, suc, ◌+◌, ◌-◌, ◌==◌, nat_lt
 use Rattle.std.specs.Prelude.{slice_get, Option, None}
 use Rattle.std.specs.List.{last_or, position_or_len}
 use Rattle.ch11_reader.specs.Recording.{Found}
-use Rattle.ch11_reader.specs.Contents.{Heard, heard_in}
+use Rattle.ch11_reader.specs.Contents.{Heard, channels_of, count_in, heard_in}
 use Rattle.bench_select.specs.Selectors.{selects_commands}
 use Rattle.bench_places.specs.declared.sought.Sought.{Sought}
 use Rattle.bench_places.specs.declared.sought.Sought.TheVariants.{Channel, Later, Commands}
@@ -39,8 +39,7 @@ place_before sought found = position_or_len (is_sought sought) (heard_in found)
 
 -- how many messages are of a channel
 abbrev pub count_in_channel : ℕ → List Heard → ℕ
-count_in_channel channel [] = 0
-count_in_channel channel (h ∷ hs) = (if h.0 == channel then 1 else 0) + count_in_channel channel hs
+count_in_channel channel hs = count_in channel (channels_of hs)
 
 -- how many of them there are up to a place
 abbrev pub count_to : ℕ → ℕ → List Found → ℕ

@@ -1,3 +1,4 @@
 pub mod Bounds
+pub mod Channels
 pub mod Selecting
 pub mod Selectors

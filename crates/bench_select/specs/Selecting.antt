@@ -1,8 +1,9 @@
--- Which messages of a recording are chosen (own choice): block status bits 13 and 12 are the line and the summary of
--- errors, and a stamp is a time in ticks of 0.1 µs (IRIG 106-17 Chapter 11, MIL-STD-1553 bus data packets, Format 1).
+-- Which messages of a recording are chosen (own choice): by their channel, the line, the summary of errors, the
+-- selector of a rule, number and stamp, a time in ticks of 0.1 µs (IRIG 106-17 Chapter 11, MIL-STD-1553 bus data
+-- packets, Format 1).
 use Rattle.std.specs.Prelude.{ℕ, nat_le, Bool, true, false, not, ◌&&◌, ◌||◌, Option, Some, None}
-use Rattle.mil_word.specs.Fields.{has_bit}
 use Rattle.ch11_f1.specs.BodyReading.{Message}
+use Rattle.ch11_layout.specs.BlockStatus.{has_error}
 use Rattle.judge_rules.specs.declared.rules.Selector.{Selector}
 use Rattle.bench_select.specs.declared.bounds.Bound.{Bound}
 use Rattle.bench_select.specs.declared.bounds.Bound.TheVariants.{Number, Time}
@@ -29,7 +30,7 @@ is_about (Some selector) m = selects_commands selector m
 -- the message of a number of the file, counted from 1, on a channel
 abbrev pub selects : Selection → ℕ → ℕ → Message → Bool
 selects s number channel m =
-    is_chosen s.channel channel && is_on s.line m.block && (not s.errors || has_bit 12 m.block)
+    is_chosen s.channel channel && is_on s.line m.block && (not s.errors || has_error m.block)
     && is_from s.from number m.stamp && is_up_to s.to number m.stamp && is_about s.selector m
 
 -- all messages

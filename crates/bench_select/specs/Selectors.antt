@@ -1,8 +1,9 @@
 -- Which messages a selector is about, by their command words (MIL-STD-1553B 4.3.3.5.1); that it does is our own choice.
 -- A message without words has no command.
 use Rattle.std.specs.Prelude.{ℕ, ◌==◌, Bool, true, false, not, ◌&&◌, if◌then◌else◌, Option, Some, None}
-use Rattle.mil_word.specs.Fields.{has_bit, address_of, sub_of, code_of, is_broadcast, is_transmit, is_mode, is_receive}
+use Rattle.mil_word.specs.Fields.{address_of, sub_of, code_of, is_broadcast, is_transmit, is_mode, is_receive}
 use Rattle.ch11_f1.specs.BodyReading.{Message}
+use Rattle.ch11_layout.specs.BlockStatus.{is_on_line_b}
 use Rattle.ch11_layout.specs.Layouts.{word_of, first_word, commands_in}
 use Rattle.judge_rules.specs.declared.rules.Bus.{Bus}
 use Rattle.judge_rules.specs.declared.rules.Bus.TheVariants as bus
@@ -65,8 +66,8 @@ selects_commands selector m =
     else if commands_in m == 1 then selects_one selector (first_word m)
     else selects_two selector (first_word m) (second_word m)
 
--- the line of the bus is bit 13 of the block status word
+-- of the line of the bus, by the block status word
 abbrev pub is_on : Option Bus → ℕ → Bool
 is_on None block = true
-is_on (Some bus.A) block = not (has_bit 13 block)
-is_on (Some bus.B) block = has_bit 13 block
+is_on (Some bus.A) block = not (is_on_line_b block)
+is_on (Some bus.B) block = is_on_line_b block

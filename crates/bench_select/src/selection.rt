@@ -6,6 +6,7 @@ ghost use Rattle.std.specs.Prelude.{◌≡◌};
 use crate::bounds::Bound;
 use crate::selectors::{is_of, is_on, selects_commands};
 use ch11_f1::Seen;
+use ch11_layout::block::MESSAGE_ERROR;
 use ch11_layout::is_set;
 use judge_rules::{Bus, Selector};
 
@@ -47,7 +48,7 @@ impl Selection {
     {
         is_of(self.channel, channel)
             && is_on(self.line, seen.block)
-            && (!self.errors || is_set(seen.block, 12))
+            && (!self.errors || is_set(seen.block, MESSAGE_ERROR))
             && is_from(self.from, number, seen.stamp)
             && is_up_to(self.to, number, seen.stamp)
             && is_about(self.selector, seen)

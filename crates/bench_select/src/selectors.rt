@@ -5,6 +5,7 @@ ghost use Rattle.ch11_layout.specs.Layouts.{commands_in};
 ghost use Rattle.std.specs.Prelude.{◌≡◌};
 
 use ch11_f1::Seen;
+use ch11_layout::block::{LINE_B, TERMINAL_TO_TERMINAL};
 use ch11_layout::{is_set, word_at};
 use judge_rules::{Bus, Selector};
 use mil_word::Command;
@@ -108,7 +109,7 @@ fn commands(seen: &Seen<'_>) -> usize
     let words = seen.words.len() / 2;
     if words == 0 {
         0
-    } else if is_set(seen.block, 11) && words > 1 {
+    } else if is_set(seen.block, TERMINAL_TO_TERMINAL) && words > 1 {
         2
     } else {
         1
@@ -133,8 +134,8 @@ pub fn is_on(bus: Option<Bus>, block: u16) -> bool
 {
     match bus {
         None => true,
-        Some(Bus::A) => !is_set(block, 13),
-        Some(Bus::B) => is_set(block, 13),
+        Some(Bus::A) => !is_set(block, LINE_B),
+        Some(Bus::B) => is_set(block, LINE_B),
     }
 }
 

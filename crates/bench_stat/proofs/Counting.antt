@@ -4,7 +4,8 @@ use Rattle.std.specs.List.{sum_by, count_by}
 use Rattle.std.proofs.lemmas.List.Sums.{sum_by-cons}
 use Rattle.bench_stat.specs.declared.calls.Call.{Call}
 use Rattle.bench_stat.specs.declared.terminals.TerminalFigures.{TerminalFigures}
-use Rattle.bench_stat.specs.Figures.{capped, one_if, is_receive_call, is_transmit_call, is_mode_call, responses, figures_of, least, greatest}
+use Rattle.ch11_reader.specs.Contents.{capped}
+use Rattle.bench_stat.specs.Figures.{one_if, is_receive_call, is_transmit_call, is_mode_call, responses, figures_of, least, greatest}
 use Rattle.bench_stat.specs.Steps.{with_kind, with_response, with_call}
 
 -- what was counted so far, and some more

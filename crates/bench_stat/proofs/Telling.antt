@@ -25,7 +25,8 @@ use Rattle.bench_stat.specs.declared.shown.Shown.{Shown}
 use Rattle.bench_stat.specs.declared.told.Told.{Told}
 use Rattle.bench_stat.specs.Chosen.{history_of, picked}
 use Rattle.bench_stat.specs.Details.{jumps, losses_of, overflows}
-use Rattle.bench_stat.specs.Figures.{capped, one_if}
+use Rattle.ch11_reader.specs.Contents.{capped}
+use Rattle.bench_stat.specs.Figures.{one_if}
 use Rattle.bench_stat.specs.Told.{AreTold, IsFollowed, IsListedBehind, IsTold, has_figures}
 use Rattle.bench_stat.proofs.Counted.{counted_here, passed_elsewhere}
 use Rattle.bench_stat.proofs.Streamed.{next_one}

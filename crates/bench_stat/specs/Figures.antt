@@ -1,17 +1,20 @@
 -- What is counted of a channel's messages, which stand newest first (own choice). Counts and sums go as far as 64 bits
 -- count them.
-use Rattle.std.specs.Prelude.{◌≡◌, ◌<◌, slice_index_or, ℕ, ◌+◌, ◌*◌, ◌-◌, ◌^◌, ◌==◌, Bool, true, false, not, ◌&&◌, ◌||◌}
+use Rattle.std.specs.Prelude.{ℕ, ◌+◌, ◌*◌, ◌-◌, ◌^◌, ◌==◌, Bool, true, false, not, ◌&&◌, ◌||◌}
 use Rattle.std.specs.Prelude.{if◌then◌else◌, List, [], ◌∷◌, length, map, min, max}
 use Rattle.std.specs.List.{sum_by, count_by, filter, list_any, range_with_len}
-use Rattle.mil_word.specs.Fields.{has_bit}
 use Rattle.mil_word.specs.Timing.{word_time, contiguous_gap}
 use Rattle.ch11_header.specs.declared.header.Header.{Header}
 use Rattle.ch11_f1.specs.BodyReading.{Message}
 use Rattle.ch11_reader.specs.declared.packet.Packet.{Packet}
+use Rattle.ch11_reader.specs.Contents.{capped}
 use Rattle.ch11_reader.specs.Recording.{Found, holds_messages}
+use Rattle.bench_select.specs.Channels.{AreMarks}
 use Rattle.bench_select.specs.declared.selection.Selection.{Selection}
 use Rattle.bench_select.specs.Selectors.{is_chosen}
 use Rattle.bench_stat.specs.Chosen.{history_of}
+use Rattle.ch11_layout.specs.BlockStatus.{has_response_timeout, has_word_count_error, has_sync_type_error}
+use Rattle.ch11_layout.specs.BlockStatus.{has_invalid_word_error}
 use Rattle.ch11_layout.specs.Layouts.{size_of, first_gap, second_gap}
 use Rattle.bench_stat.specs.declared.calls.Call.{Call}
 use Rattle.bench_stat.specs.declared.calls.CallKind.TheVariants.{Receive, Transmit, Mode}
@@ -20,9 +23,6 @@ use Rattle.bench_stat.specs.declared.traffic.Traffic.{Traffic}
 use Rattle.bench_stat.specs.declared.errors.Errors.{Errors}
 use Rattle.bench_stat.specs.declared.channels.ChannelFigures.{ChannelFigures}
 use Rattle.bench_stat.specs.Sendings.{calls, is_failed, is_retry_behind, latest, sending_of}
-
-abbrev pub capped : ℕ → ℕ
-capped n = min n (2 ^ 64 - 1)
 
 abbrev pub one_if : Bool → ℕ
 one_if b = if b then 1 else 0
@@ -55,16 +55,16 @@ traffic_of history = record {
 
 -- errors by their kind, one message under each kind that its block status word names
 abbrev pub is_silent : Message → Bool
-is_silent m = has_bit 9 m.block
+is_silent m = has_response_timeout m.block
 
 abbrev pub is_miscounted : Message → Bool
-is_miscounted m = has_bit 5 m.block
+is_miscounted m = has_word_count_error m.block
 
 abbrev pub is_of_other_sync : Message → Bool
-is_of_other_sync m = has_bit 4 m.block
+is_of_other_sync m = has_sync_type_error m.block
 
 abbrev pub is_unsound : Message → Bool
-is_unsound m = has_bit 3 m.block
+is_unsound m = has_invalid_word_error m.block
 
 -- an error of none of these kinds
 abbrev pub is_otherwise_failed : Message → Bool
@@ -143,7 +143,7 @@ headers_listed entries = map (λ (e : Packet). e.header) entries
 
 -- there is a mark at each channel that has such packets, and at no other
 abbrev pub ArePresent : List Bool → List Header → Type 0
-ArePresent marks hs = (c : ℕ) → c < 65536 → slice_index_or marks c false ≡ has_channel c hs
+ArePresent marks hs = AreMarks (λ channel. has_channel channel hs) marks
 
 -- the selection is of the channel, and there are such packets of it
 abbrev pub is_listed : Selection → List Header → ℕ → Bool

@@ -6,7 +6,8 @@ use Rattle.mil_word.specs.Timing.{contiguous_gap}
 use Rattle.ch11_f1.specs.BodyReading.{Message}
 use Rattle.bench_stat.specs.declared.flows.Flow.{Flow}
 use Rattle.bench_stat.specs.Sendings.{is_failed}
-use Rattle.bench_stat.specs.Figures.{capped, one_if, duration, least, greatest}
+use Rattle.ch11_reader.specs.Contents.{capped}
+use Rattle.bench_stat.specs.Figures.{one_if, duration, least, greatest}
 
 abbrev pub end_of : Message → ℕ
 end_of m = capped (m.stamp + duration m)

@@ -7,7 +7,8 @@ use Rattle.mil_word.specs.Fields.{has_terminal_flag}
 use Rattle.ch11_f1.specs.BodyReading.{Message}
 use Rattle.ch11_layout.specs.Layouts.{size_of, word_of, commands_in, data_start, data_end}
 use Rattle.bench_stat.specs.declared.replies.Replies.{Replies}
-use Rattle.bench_stat.specs.Figures.{capped, one_if}
+use Rattle.ch11_reader.specs.Contents.{capped}
+use Rattle.bench_stat.specs.Figures.{one_if}
 
 -- one of the three reserved bits (4.3.3.5.3.6)
 abbrev pub has_reserved : ℕ → Bool

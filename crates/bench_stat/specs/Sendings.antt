@@ -3,8 +3,9 @@
 use Rattle.std.specs.Prelude.{ℕ, ◌==◌, Bool, true, false, not, ◌&&◌, nat_lt, if◌then◌else◌, List, [], ◌∷◌, Option, None}
 use Rattle.std.specs.Prelude.{Some}
 use Rattle.std.specs.List.{flat_map}
-use Rattle.mil_word.specs.Fields.{has_bit, address_of, is_mode, is_transmit}
+use Rattle.mil_word.specs.Fields.{address_of, is_mode, is_transmit}
 use Rattle.ch11_f1.specs.BodyReading.{Message}
+use Rattle.ch11_layout.specs.BlockStatus.{is_on_line_b, has_error}
 use Rattle.ch11_layout.specs.Layouts.{size_of, word_of, is_between, first_gap, second_gap}
 use Rattle.bench_stat.specs.declared.sendings.Sending.{Sending}
 use Rattle.bench_stat.specs.declared.calls.Call.{Call}
@@ -15,18 +16,14 @@ use Rattle.bench_stat.specs.declared.calls.CallKind.TheVariants.{Receive, Transm
 abbrev pub word_at : ℕ → Message → Option ℕ
 word_at place m = if nat_lt place (size_of m) then Some (word_of m.bytes place) else None
 
--- block status bit 12: the message had an error
+-- the message had an error
 abbrev pub is_failed : Message → Bool
-is_failed m = has_bit 12 m.block
-
--- block status bit 13: it was sent on line B
-abbrev pub is_on_line_b : Message → Bool
-is_on_line_b m = has_bit 13 m.block
+is_failed m = has_error m.block
 
 -- line, error and command words of a message
 abbrev pub sending_of : Message → Sending
 sending_of m = record {
-  line_b = is_on_line_b m;
+  line_b = is_on_line_b m.block;
   failed = is_failed m;
   first = word_at 0 m;
   second = if is_between m then word_at 1 m else None;

@@ -3,7 +3,7 @@ use Rattle.std.specs.Prelude.{◌≡◌, ℕ, ◌+◌, ◌-◌, List, min, max}
 use Rattle.std.specs.List.{sum_by, All}
 use Rattle.ch11_f1.specs.BodyReading.{Message}
 use Rattle.bench_stat.specs.declared.slices.Slice.{Slice}
-use Rattle.bench_stat.specs.Figures.{capped}
+use Rattle.ch11_reader.specs.Contents.{capped}
 use Rattle.bench_stat.specs.Flows.{end_of}
 
 -- how long a message takes of the time from one tick up to another

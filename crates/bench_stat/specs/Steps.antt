@@ -8,7 +8,8 @@ use Rattle.bench_stat.specs.declared.traffic.Traffic.{Traffic}
 use Rattle.bench_stat.specs.declared.errors.Errors.{Errors}
 use Rattle.bench_stat.specs.declared.tally.Tally.{Tally}
 use Rattle.bench_stat.specs.Sendings.{is_failed, latest}
-use Rattle.bench_stat.specs.Figures.{capped, one_if, duration, is_silent, is_miscounted, is_of_other_sync, is_unsound}
+use Rattle.ch11_reader.specs.Contents.{capped}
+use Rattle.bench_stat.specs.Figures.{one_if, duration, is_silent, is_miscounted, is_of_other_sync, is_unsound}
 use Rattle.bench_stat.specs.Figures.{is_otherwise_failed, is_receive_call, is_transmit_call, is_mode_call}
 use Rattle.bench_stat.specs.Figures.{figures_of_channel}
 

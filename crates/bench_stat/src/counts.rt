@@ -1,5 +1,6 @@
 //! Counts that stop at the most that 64 bits hold.
-ghost use Rattle.bench_stat.specs.Figures.{capped, one_if};
+ghost use Rattle.ch11_reader.specs.Contents.{capped};
+ghost use Rattle.bench_stat.specs.Figures.{one_if};
 ghost use Rattle.std.specs.Prelude.{◌≡◌, ◌+◌};
 
 /// The sum, at most 2^64 - 1.

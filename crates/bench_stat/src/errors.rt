@@ -6,6 +6,9 @@ ghost use Rattle.std.specs.Prelude.{◌≡◌, []};
 
 use crate::counts::counted;
 use ch11_f1::Seen;
+use ch11_layout::block::{
+    INVALID_WORD_ERROR, MESSAGE_ERROR, RESPONSE_TIMEOUT, SYNC_TYPE_ERROR, WORD_COUNT_ERROR,
+};
 use ch11_layout::is_set;
 
 /// How many messages had which error, by the block status word (IRIG 106-17 Chapter 11). A message counts under each
@@ -38,11 +41,11 @@ impl Errors {
     pub(crate) fn note(&mut self, seen: &Seen<'_>)
         ensures { self.new ≡ with_errors (message_of seen.now) self.old }
     {
-        let failed = is_set(seen.block, 12);
-        let silent = is_set(seen.block, 9);
-        let miscounted = is_set(seen.block, 5);
-        let of_other_sync = is_set(seen.block, 4);
-        let unsound = is_set(seen.block, 3);
+        let failed = is_set(seen.block, MESSAGE_ERROR);
+        let silent = is_set(seen.block, RESPONSE_TIMEOUT);
+        let miscounted = is_set(seen.block, WORD_COUNT_ERROR);
+        let of_other_sync = is_set(seen.block, SYNC_TYPE_ERROR);
+        let unsound = is_set(seen.block, INVALID_WORD_ERROR);
         let named = silent || miscounted || of_other_sync || unsound;
         self.messages = counted(self.messages, failed);
         self.response = counted(self.response, silent);

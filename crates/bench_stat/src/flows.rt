@@ -7,6 +7,7 @@ ghost use Rattle.std.specs.Prelude.{◌≡◌, ◌∷◌, [], List};
 use crate::counts::{counted, more};
 use crate::traffic::time_of;
 use ch11_f1::Seen;
+use ch11_layout::block::MESSAGE_ERROR;
 use ch11_layout::is_set;
 use mil_word::timing::CONTIGUOUS_GAP;
 
@@ -55,7 +56,7 @@ impl Flow {
     {
         self.note_gap(seen);
         self.messages = more(self.messages, 1);
-        self.errors = counted(self.errors, is_set(seen.block, 12));
+        self.errors = counted(self.errors, is_set(seen.block, MESSAGE_ERROR));
         self.ended = Some(end_of(seen));
     }
 

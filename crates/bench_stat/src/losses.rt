@@ -1,6 +1,7 @@
 //! What packets say of messages that are missing.
 ghost use Rattle.bench_stat.specs.Details as spec;
-ghost use Rattle.bench_stat.specs.Figures.{capped, one_if};
+ghost use Rattle.ch11_reader.specs.Contents.{capped};
+ghost use Rattle.bench_stat.specs.Figures.{one_if};
 ghost use Rattle.ch11_reader.specs.Listing.{listing};
 ghost use Rattle.ch11_reader.specs.declared.packet.Packet.{Packet as PacketValue};
 ghost use Rattle.std.specs.List.{filter};

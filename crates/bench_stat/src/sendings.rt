@@ -5,6 +5,7 @@ ghost use Rattle.ch11_layout.specs.Layouts.{word_of};
 ghost use Rattle.std.specs.Prelude.{◌≡◌, ◌/◌, nat_lt, length, if◌then◌else◌};
 
 use ch11_f1::Seen;
+use ch11_layout::block::{LINE_B, MESSAGE_ERROR, TERMINAL_TO_TERMINAL};
 use ch11_layout::{is_set, word_at};
 
 /// Line, error and command words of a recorded message.
@@ -25,14 +26,14 @@ impl Sending {
     pub fn of(seen: &Seen<'_>) -> Sending
         ensures { result ≡ spec.sending_of (message_of seen.now) }
     {
-        let second = if is_set(seen.block, 11) {
+        let second = if is_set(seen.block, TERMINAL_TO_TERMINAL) {
             command_at(seen.words, 1)
         } else {
             None
         };
         Sending {
-            line_b: is_set(seen.block, 13),
-            failed: is_set(seen.block, 12),
+            line_b: is_set(seen.block, LINE_B),
+            failed: is_set(seen.block, MESSAGE_ERROR),
             first: command_at(seen.words, 0),
             second,
         }

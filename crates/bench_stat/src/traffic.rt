@@ -1,5 +1,6 @@
 //! Messages, words and times of a channel.
-ghost use Rattle.bench_stat.specs.Figures.{traffic_of, capped, duration};
+ghost use Rattle.ch11_reader.specs.Contents.{capped};
+ghost use Rattle.bench_stat.specs.Figures.{traffic_of, duration};
 ghost use Rattle.bench_stat.specs.Steps.{with_traffic};
 ghost use Rattle.ch11_f1.specs.Views.{message_of};
 ghost use Rattle.std.specs.Prelude.{◌≡◌, []};

@@ -3,8 +3,9 @@
 -- words, and perhaps a status word; that a reply came is said by the gap times word, in which a gap of 0 is none.
 use Rattle.std.specs.Prelude.{ℕ, ◌+◌, ◌-◌, ◌*◌, ◌/◌, ◌%◌, ◌==◌, Bool, not, ◌&&◌, ◌||◌, nat_lt, if◌then◌else◌, List}
 use Rattle.std.specs.Prelude.{length, slice_index}
-use Rattle.mil_word.specs.Fields.{has_bit, is_transmit, is_broadcast}
+use Rattle.mil_word.specs.Fields.{is_transmit, is_broadcast}
 use Rattle.ch11_f1.specs.BodyReading.{Message}
+use Rattle.ch11_layout.specs.BlockStatus.{is_transfer}
 use Rattle.ch11_layout.specs.declared.layouts.Layout.{Layout}
 use Rattle.ch11_layout.specs.declared.layouts.Role.{Role}
 use Rattle.ch11_layout.specs.declared.layouts.Role.TheVariants.{Command, Status, Data}
@@ -22,9 +23,9 @@ word_of bytes place =
 abbrev pub first_word : Message → ℕ
 first_word m = word_of m.bytes 0
 
--- block status bit 11: a transfer between terminals, which has two commands
+-- a transfer between terminals, which has two commands
 abbrev pub is_between : Message → Bool
-is_between m = has_bit 11 m.block
+is_between m = is_transfer m.block
 
 -- the gaps of the first and of the second reply, in ticks
 abbrev pub first_gap : Message → ℕ

@@ -1,1 +1,2 @@
+pub mod BlockStatus
 pub mod Layouts

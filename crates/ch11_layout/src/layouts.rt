@@ -4,6 +4,7 @@ ghost use Rattle.ch11_layout.specs.Layouts as spec;
 ghost use Rattle.mil_word.specs.Fields.{has_bit};
 ghost use Rattle.std.specs.Prelude.{◌≡◌, ◌≤◌, ◌==◌, ◌&&◌, nat_lt, if◌then◌else◌};
 
+use crate::block::TERMINAL_TO_TERMINAL;
 use ch11_f1::Seen;
 use mil_word::Command;
 
@@ -42,7 +43,7 @@ impl Layout {
         ensures end { result.data_end ≤ result.words }
     {
         let words = seen.words.len() / 2;
-        let between = is_set(seen.block, 11);
+        let between = is_set(seen.block, TERMINAL_TO_TERMINAL);
         let commands = commands_of(words, between);
         let first = Command::of(word_at(seen.words, 0));
         let answers = between || first.is_transmit() && !first.is_broadcast();

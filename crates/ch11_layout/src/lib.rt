@@ -4,6 +4,7 @@
 //! and verdicts that rest on it. Its wrong bodies: `edits/`.
 #![tactic(auto)]
 
+pub mod block;
 mod layouts;
 
 pub use layouts::{Layout, Role, first_gap, is_set, second_gap, word_at};

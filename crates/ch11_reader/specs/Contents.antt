@@ -1,6 +1,6 @@
 -- What a recording holds, read off its packets.
-use Rattle.std.specs.Prelude.{ℕ, zero, suc, ◌+◌, ◌==◌, if◌then◌else◌, List, [], ◌∷◌, length, map, slice_get, Option}
-use Rattle.std.specs.Prelude.{None}
+use Rattle.std.specs.Prelude.{ℕ, zero, suc, ◌+◌, ◌-◌, ◌^◌, ◌==◌, min, if◌then◌else◌, List, [], ◌∷◌, length, map, slice_get}
+use Rattle.std.specs.Prelude.{Option, None}
 use Rattle.std.specs.List.{flat_map}
 use Rattle.ch11_f1.specs.BodyReading.{Message}
 use Rattle.ch11_reader.specs.Recording.{Found}
@@ -30,3 +30,16 @@ message_numbered ps (suc n) = slice_get (heard_in ps) n
 abbrev pub total_in : List Found → ℕ
 total_in [] = 0
 total_in (p ∷ ps) = length p.messages + total_in ps
+
+-- a count of them, as far as 64 bits count
+abbrev pub capped : ℕ → ℕ
+capped n = min n (2 ^ 64 - 1)
+
+-- the channels of messages
+abbrev pub channels_of : List Heard → List ℕ
+channels_of messages = map (λ (h : Heard). h.0) messages
+
+-- how many messages of a channel there are among those of these channels
+abbrev pub count_in : ℕ → List ℕ → ℕ
+count_in channel [] = 0
+count_in channel (c ∷ cs) = (if c == channel then 1 else 0) + count_in channel cs

@@ -1,6 +1,7 @@
 use Rattle.std.proofs.Common.{◌≡◌, ℕ, ◌+◌, Bool, ap, ◌∙◌}
 use Rattle.bench_stat.specs.Details.{overflows, jumps}
-use Rattle.bench_stat.specs.Figures.{capped, one_if}
+use Rattle.ch11_reader.specs.Contents.{capped}
+use Rattle.bench_stat.specs.Figures.{one_if}
 use Rattle.bench_stat.proofs.Telling.{losses, losses_more}
 use Rattle.bench_stat.proofs.losses.Losses.note.Goals as goal
 
