@@ -6,15 +6,12 @@ use Rattle.std.specs.List.Sorted.{IsPermutation, IsNonDecreasingBy, IsStableByKe
 use Rattle.std.specs.Ordering.{nat_cmp}
 use Rattle.ch11_f1.specs.BodyReading.{Message}
 use Rattle.ch11_f1.specs.Views.{message_of}
-use Rattle.ch11_reader.specs.Contents.{Heard}
+use Rattle.ch11_reader.specs.Contents.{Heard, channels_of, count_in}
 use Rattle.bench_select.specs.declared.selection.Selection.{Selection}
 use Rattle.bench_select.specs.Selecting.{selects}
 use Rattle.bench_decode.specs.declared.chosen.Chosen.{Chosen}
 use Rattle.bench_decode.specs.declared.chosen.Choosing.{Choosing}
-use Rattle.bench_decode.specs.Numbering.{count_in, AreCounts}
-
-abbrev pub channels_of : List Heard → List ℕ
-channels_of history = map (λ (h : Heard). h.0) history
+use Rattle.bench_decode.specs.Numbering.{AreCounts}
 
 -- a message with its number in the file and its number in its channel, both counted from 1
 pub record Told : Type 0 where

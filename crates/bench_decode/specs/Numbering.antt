@@ -1,11 +1,6 @@
 -- The number of a message in its channel: how many messages of the channel stand before it in the file, and one.
-use Rattle.std.specs.Prelude.{◌≡◌, ℕ, ◌+◌, ◌<◌, ◌^◌, ◌==◌, if◌then◌else◌, List, [], ◌∷◌, length}
-use Rattle.std.specs.Prelude.{slice_index_or}
-
--- how many messages of a channel there are among those of these channels
-abbrev pub count_in : ℕ → List ℕ → ℕ
-count_in channel [] = 0
-count_in channel (c ∷ cs) = (if c == channel then 1 else 0) + count_in channel cs
+use Rattle.std.specs.Prelude.{◌≡◌, ℕ, ◌+◌, ◌<◌, ◌^◌, List, length, slice_index_or}
+use Rattle.ch11_reader.specs.Contents.{count_in}
 
 -- a count for each channel, of the messages passed, the newest first
 pub record AreCounts (passed : List ℕ) (counts : List ℕ) : Type 0 where

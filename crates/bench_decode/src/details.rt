@@ -7,6 +7,7 @@ use crate::messages::Place;
 use crate::replies::put_replies;
 use crate::times::Time;
 use ch11_f1::Seen;
+use ch11_layout::block::LINE_B;
 use ch11_layout::{Layout, is_set, word_at};
 
 /// How many words are shown at most.
@@ -50,7 +51,11 @@ fn put_place(line: &mut Line, place: &Place, seen: &Seen<'_>) {
     line.put_labelled(b", channel ", u64::from(place.channel));
     line.put_labelled(b", number ", place.in_channel);
     line.put(b" there, line ");
-    line.put(if is_set(seen.block, 13) { b"B" } else { b"A" });
+    line.put(if is_set(seen.block, LINE_B) {
+        b"B"
+    } else {
+        b"A"
+    });
     line.put_labelled(b"\n", time.seconds);
     line.put_decimals(time);
     line.put(b" s\n");

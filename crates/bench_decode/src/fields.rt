@@ -3,6 +3,10 @@
 use crate::forms::Form;
 use crate::line::Line;
 use crate::modes::mode_name;
+use ch11_layout::block::{
+    FORMAT_ERROR, INVALID_WORD_ERROR, MESSAGE_ERROR, RESPONSE_TIMEOUT, SYNC_TYPE_ERROR,
+    TERMINAL_TO_TERMINAL, WORD_COUNT_ERROR,
+};
 use ch11_layout::is_set;
 
 /// Puts numbers, each behind a space.
@@ -92,29 +96,33 @@ fn put_transfer(line: &mut Line, form: Form) {
     }
 }
 
-/// The bits of a block status word that have a name, but that of the line (IRIG 106-17 Chapter 11).
-const BITS: u16 = 0x1E38;
+/// The bits of a block status word that tell of a kind of error (IRIG 106-17 Chapter 11).
+const KIND: u16 = 1 << FORMAT_ERROR
+    | 1 << RESPONSE_TIMEOUT
+    | 1 << WORD_COUNT_ERROR
+    | 1 << SYNC_TYPE_ERROR
+    | 1 << INVALID_WORD_ERROR;
 
-/// Those of them that tell of a kind of error.
-const KIND: u16 = 0x0638;
+/// All that have a name, but that of the line.
+const BITS: u16 = KIND | 1 << MESSAGE_ERROR | 1 << TERMINAL_TO_TERMINAL;
 
 /// The bits that tell of a kind of error, with their names.
 const KINDS: [(u32, &[u8]); 5] = [
-    (10, b" format_error"),
-    (9, b" response_timeout"),
-    (5, b" word_count_error"),
-    (4, b" sync_type_error"),
-    (3, b" invalid_word_error"),
+    (FORMAT_ERROR, b" format_error"),
+    (RESPONSE_TIMEOUT, b" response_timeout"),
+    (WORD_COUNT_ERROR, b" word_count_error"),
+    (SYNC_TYPE_ERROR, b" sync_type_error"),
+    (INVALID_WORD_ERROR, b" invalid_word_error"),
 ];
 
 /// Puts the names of the bits of a block status word that are set, each behind a space; the line is told elsewhere.
 pub(crate) fn put_block(line: &mut Line, block: u16) {
-    if is_set(block, 12) {
+    if is_set(block, MESSAGE_ERROR) {
         line.begin_red();
         line.put(b" message_error");
         line.end_red();
     }
-    if is_set(block, 11) {
+    if is_set(block, TERMINAL_TO_TERMINAL) {
         line.put(b" terminal_to_terminal");
     }
     if block & KIND == 0 {

@@ -4,6 +4,7 @@ ghost use Rattle.ch11_f1.specs.Views.{message_of};
 ghost use Rattle.std.specs.Prelude.{◌≡◌};
 
 use ch11_f1::Seen;
+use ch11_layout::block::TERMINAL_TO_TERMINAL;
 use ch11_layout::{is_set, word_at};
 use mil_word::Command;
 
@@ -70,7 +71,7 @@ impl Form {
             return Form::Unknown;
         }
         let first = Command::of(word_at(seen.words, 0));
-        if is_set(seen.block, 11) && words > 1 {
+        if is_set(seen.block, TERMINAL_TO_TERMINAL) && words > 1 {
             of_two(first, Command::of(word_at(seen.words, 1)))
         } else {
             of_one(first)

@@ -7,6 +7,7 @@ use crate::line::Line;
 use crate::replies::put_replies;
 use crate::times::Time;
 use ch11_f1::Seen;
+use ch11_layout::block::LINE_B;
 use ch11_layout::{Layout, is_set};
 use std::io;
 use std::io::Write;
@@ -85,7 +86,11 @@ pub fn write_message<W: Write>(
 
 /// The letter of the line that a message went over.
 fn letter_of(seen: &Seen<'_>) -> u8 {
-    if is_set(seen.block, 13) { b'B' } else { b'A' }
+    if is_set(seen.block, LINE_B) {
+        b'B'
+    } else {
+        b'A'
+    }
 }
 
 /// Puts the columns in front of the form.

@@ -1,5 +1,6 @@
 //! The numbers of messages in their channels.
-ghost use Rattle.bench_decode.specs.Numbering.{count_in, AreCounts, ArePassed};
+ghost use Rattle.ch11_reader.specs.Contents.{count_in};
+ghost use Rattle.bench_decode.specs.Numbering.{AreCounts, ArePassed};
 ghost use Rattle.std.specs.Prelude.{◌≡◌, ◌+◌, ◌∷◌, [], ℕ, List, IfOk};
 
 use crate::messages::Place;

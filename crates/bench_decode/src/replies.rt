@@ -2,6 +2,7 @@
 
 use crate::line::Line;
 use ch11_f1::Seen;
+use ch11_layout::block::TERMINAL_TO_TERMINAL;
 use ch11_layout::{Layout, first_gap, is_set, second_gap, word_at};
 use mil_word::{Command, Status};
 
@@ -16,7 +17,7 @@ struct Reply {
 /// Puts the status words of a message, each with the names of its bits and its response time.
 #[inline]
 pub(crate) fn put_replies(line: &mut Line, seen: &Seen<'_>, layout: &Layout) {
-    let between = is_set(seen.block, 11);
+    let between = is_set(seen.block, TERMINAL_TO_TERMINAL);
     let front = front_of(seen, layout);
     let back = back_of(seen, layout, between);
     let first_told = front.is_some() || back.is_some() && !between;
