@@ -2,8 +2,8 @@
 use Rattle.std.specs.Prelude.{ℕ, ◌+◌, ◌-◌, ◌*◌, ◌==◌, Bool, true, false, not, ◌&&◌, ◌||◌, nat_le, List, [], ◌∷◌, length}
 use Rattle.std.specs.Prelude.{Option, Some, None, bit_and}
 use Rattle.std.specs.List.{list_all}
-use Rattle.mil_word.specs.Fields.{has_bit}
 use Rattle.ch11_f1.specs.BodyReading.{Message}
+use Rattle.ch11_layout.specs.BlockStatus.{has_error}
 use Rattle.ch11_layout.specs.Layouts.{word_of, layout_of, first_gap, second_gap}
 use Rattle.judge_rules.specs.declared.rules.Bounds.{Bounds}
 use Rattle.judge_rules.specs.declared.rules.Datum.{Datum}
@@ -63,8 +63,8 @@ is_count _ = false
 
 -- a message meets a check; in its channel the selected message before it had this stamp
 abbrev pub meets : Check → Option ℕ → Message → Bool
-meets Sound before m = not (has_bit 12 m.block)
-meets Failed before m = has_bit 12 m.block
+meets Sound before m = not (has_error m.block)
+meets Failed before m = has_error m.block
 meets Clean before m = clean m
 meets (Status d) before m = has_status d m
 meets (Data wanted) before m = has_data wanted.items m

@@ -16,16 +16,17 @@ use Rattle.mil_message.specs.Parts.{Parts, request_at}
 use Rattle.mil_message.specs.Request.{Request}
 use Rattle.mil_message.specs.Rules.{checked}
 use Rattle.ch11_f1.specs.BodyReading.{Message}
+use Rattle.ch11_layout.specs.BlockStatus.{has_error, has_format_error, has_response_timeout, has_word_count_error}
+use Rattle.ch11_layout.specs.BlockStatus.{has_sync_type_error, has_invalid_word_error}
 use Rattle.ch11_layout.specs.Layouts.{first_word}
 use Rattle.bench_select.specs.Selectors.{second_word}
 use Rattle.bench_judge.specs.Words.{has_two, statuses, data_words, data_count, gaps}
 
--- block status bits of errors: a message error of any kind, a format error, no response or a late one, another number
--- of words than due, another sync, and an unsound word
+-- the block status word tells of no error
 abbrev pub has_no_error : ℕ → Bool
 has_no_error block =
-    not (has_bit 12 block) && not (has_bit 10 block) && not (has_bit 9 block)
-    && not (has_bit 5 block) && not (has_bit 4 block) && not (has_bit 3 block)
+    not (has_error block) && not (has_format_error block) && not (has_response_timeout block)
+    && not (has_word_count_error block) && not (has_sync_type_error block) && not (has_invalid_word_error block)
 
 -- a mode command's code is one that the standard assigns, and one that may be sent to all terminals where it is (table
 -- I)

@@ -8,6 +8,7 @@ ghost use Rattle.std.specs.Prelude.{◌≡◌, ◌+◌, ◌<◌, ◌^◌, length
 use crate::clean::clean_once;
 use crate::words::statuses;
 use ch11_f1::Seen;
+use ch11_layout::block::MESSAGE_ERROR;
 use ch11_layout::{Layout, first_gap, is_set, second_gap, word_at};
 use judge_rules::{Bounds, Check, Datum};
 
@@ -146,8 +147,8 @@ pub(crate) fn meets(
     ensures known { IsKnown known.new (message_of seen.now) }
 {
     match check {
-        Check::Sound => !is_set(seen.block, 12),
-        Check::Failed => is_set(seen.block, 12),
+        Check::Sound => !is_set(seen.block, MESSAGE_ERROR),
+        Check::Failed => is_set(seen.block, MESSAGE_ERROR),
         Check::Clean => clean_once(known, seen),
         Check::Status(datum) => has_status(datum, seen),
         Check::Data(wanted) => has_data(wanted.as_slice(), seen),

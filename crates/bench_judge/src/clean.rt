@@ -9,6 +9,10 @@ ghost use Rattle.std.specs.Prelude.{◌≡◌, ◌-◌, ◌≤◌, Some, if◌th
 use crate::replies::{replies_fit, sends_no_data, words_due};
 use crate::words::{data_words, statuses};
 use ch11_f1::Seen;
+use ch11_layout::block::{
+    FORMAT_ERROR, INVALID_WORD_ERROR, MESSAGE_ERROR, RESPONSE_TIMEOUT, SYNC_TYPE_ERROR,
+    WORD_COUNT_ERROR,
+};
 use ch11_layout::{Layout, first_gap, is_set, second_gap, word_at};
 use mil_message::Message;
 use mil_mode::{ModeRow, broadcast_allowed, mode_of};
@@ -19,12 +23,12 @@ use mil_word::fields::MOST_WORDS;
 fn has_no_error(block: u16) -> bool
     ensures { result ≡ spec.has_no_error block }
 {
-    !is_set(block, 12)
-        && !is_set(block, 10)
-        && !is_set(block, 9)
-        && !is_set(block, 5)
-        && !is_set(block, 4)
-        && !is_set(block, 3)
+    !is_set(block, MESSAGE_ERROR)
+        && !is_set(block, FORMAT_ERROR)
+        && !is_set(block, RESPONSE_TIMEOUT)
+        && !is_set(block, WORD_COUNT_ERROR)
+        && !is_set(block, SYNC_TYPE_ERROR)
+        && !is_set(block, INVALID_WORD_ERROR)
 }
 
 /// Whether the standard assigns a mode command's code, and lets it be sent to all terminals where it is.
