@@ -3,9 +3,10 @@ use Rattle.std.specs.Prelude.{ℕ, zero, suc, ◌+◌, ◌-◌, ◌==◌, ◌&&�
 use Rattle.std.specs.Prelude.{length, Option, Some, None}
 use Rattle.std.specs.List.Sorted.{IsPermutation, IsStableByKey, IsNonDecreasingBy}
 use Rattle.std.specs.Ordering.{nat_cmp}
-use Rattle.mil_word.specs.Fields.{has_bit, address_of}
+use Rattle.mil_word.specs.Fields.{address_of}
 use Rattle.mil_word.specs.Timing.{word_time}
 use Rattle.ch11_f1.specs.BodyReading.{Message}
+use Rattle.ch11_layout.specs.BlockStatus.{is_on_line_b}
 use Rattle.ch11_layout.specs.declared.layouts.Role.{Role}
 use Rattle.ch11_layout.specs.declared.layouts.Role.TheVariants as roles
 use Rattle.ch11_layout.specs.Layouts.{size_of, word_of, data_start, layout_of, role_at}
@@ -37,7 +38,7 @@ driven_at n m place = record {
 
 -- a change of the line of a message
 abbrev pub change_of : Message → ℕ → ℕ → Option Driven → Change
-change_of m channel tick driven = record { tick = tick; channel = channel; on_b = has_bit 13 m.block; driven = driven }
+change_of m channel tick driven = record { tick = tick; channel = channel; on_b = is_on_line_b m.block; driven = driven }
 
 -- a word begins; 200 ticks later the line is idle, unless the next word of the message begins then
 unfoldable pub changes_at : ℕ → ℕ → Message → ℕ → List Change

@@ -4,6 +4,8 @@ use Rattle.std.specs.Prelude.{ℕ, zero, suc, ◌+◌, ◌-◌, ◌/◌, ◌%◌
 use Rattle.std.specs.Prelude.{if◌then◌else◌, List, [], ◌∷◌, ◌++◌, Option, Some, None, codes, decimal}
 use Rattle.mil_word.specs.Fields.{has_bit, is_transmit, most_words}
 use Rattle.ch11_f1.specs.BodyReading.{Message}
+use Rattle.ch11_layout.specs.BlockStatus.{has_error, has_format_error, has_response_timeout, has_word_count_error}
+use Rattle.ch11_layout.specs.BlockStatus.{has_sync_type_error, has_invalid_word_error}
 use Rattle.ch11_layout.specs.Layouts.{size_of, word_of, is_between, first_word, first_gap, second_gap, commands_in}
 use Rattle.ch11_layout.specs.Layouts.{data_start, data_end}
 use Rattle.bench_dump.specs.DumpText.{word_digits}
@@ -71,8 +73,8 @@ status_flags first second =
 -- the errors of the block status word (IRIG 106-17 Chapter 11)
 abbrev pub error_flags : ℕ → List (List ℕ)
 error_flags block =
-    flag (has_bit 12 block) ∷ flag (has_bit 10 block) ∷ flag (has_bit 9 block) ∷ flag (has_bit 5 block)
-    ∷ flag (has_bit 4 block) ∷ flag (has_bit 3 block) ∷ []
+    flag (has_error block) ∷ flag (has_format_error block) ∷ flag (has_response_timeout block)
+    ∷ flag (has_word_count_error block) ∷ flag (has_sync_type_error block) ∷ flag (has_invalid_word_error block) ∷ []
 
 -- the data word at a place of the data words
 abbrev pub data_word : Message → ℕ → Option ℕ

@@ -3,6 +3,7 @@ use Rattle.std.specs.Prelude.{ℕ, ◌-◌, ◌*◌, ◌/◌, ◌%◌, ◌==◌,
 use Rattle.std.specs.Prelude.{take, drop, codes, decimal}
 use Rattle.mil_word.specs.Fields.{has_bit, address_of, sub_of, code_of, count_of, is_mode, is_broadcast, is_transmit}
 use Rattle.ch11_f1.specs.BodyReading.{Message}
+use Rattle.ch11_layout.specs.BlockStatus.{is_on_line_b}
 use Rattle.ch11_layout.specs.Layouts.{size_of, word_of, first_word, first_gap, second_gap, commands_in, data_start}
 use Rattle.ch11_layout.specs.Layouts.{data_end}
 use Rattle.bench_dump.specs.DumpText.{bus_words}
@@ -28,7 +29,7 @@ abbrev pub gap_text : ℕ → List ℕ
 gap_text gap = if gap == 0 then [] else micros gap
 
 abbrev pub message_line_text : Message → List ℕ
-message_line_text m = if has_bit 13 m.block then codes "B" else codes "A"
+message_line_text m = if is_on_line_b m.block then codes "B" else codes "A"
 
 -- the form of a message by its commands (MIL-STD-1553B 4.3.3.6)
 abbrev pub form_text : Message → List ℕ

@@ -1,11 +1,12 @@
 -- The text of a value change dump (IEEE 1364-2001 section 18) of a recording (own choice of its signals).
-use Rattle.std.specs.Prelude.{◌≡◌, ℕ, zero, suc, ◌+◌, ◌/◌, ◌%◌, ◌==◌, ◌<◌, nat_lt, Bool, true, false, if◌then◌else◌}
+use Rattle.std.specs.Prelude.{◌≡◌, ℕ, zero, suc, ◌+◌, ◌/◌, ◌%◌, ◌==◌, nat_lt, Bool, true, false, if◌then◌else◌}
 use Rattle.std.specs.Prelude.{List, [], ◌∷◌, ◌++◌, slice_index_or, Option, Some, None, codes, decimal}
 use Rattle.std.specs.List.{list_any}
 use Rattle.std.specs.Io.KnownBytes.{Appends}
 use Rattle.ch11_layout.specs.declared.layouts.Role.{Role}
 use Rattle.ch11_layout.specs.declared.layouts.Role.TheVariants as roles
 use Rattle.ch11_reader.specs.Recording.{Found}
+use Rattle.bench_select.specs.Channels.{AreMarks}
 use Rattle.bench_select.specs.declared.selection.Selection.{Selection}
 use Rattle.bench_export.specs.declared.changes.Change.{Change}
 use Rattle.bench_export.specs.declared.changes.Driven.{Driven}
@@ -72,7 +73,7 @@ abbrev pub marked : List Bool → ℕ → Bool
 marked marks channel = slice_index_or marks channel false
 
 abbrev pub ArePresent : List Bool → List Change → Type 0
-ArePresent marks changes = (channel : ℕ) → channel < 65536 → marked marks channel ≡ has_channel channel changes
+ArePresent marks changes = AreMarks (λ channel. has_channel channel changes) marks
 
 -- a signal is declared: its type, how many bits it has, and its name
 unfoldable pub declared_text : List ℕ → List ℕ → List ℕ → Bool → ℕ → List ℕ

@@ -9,6 +9,7 @@ use crate::moments::{WORD, begin_of};
 use crate::place::Place;
 use bench_select::Selection;
 use ch11_f1::{Messages, Seen};
+use ch11_layout::block::LINE_B;
 use ch11_layout::{Layout, Role, is_set, word_at};
 use ch11_reader::{Index, Packet};
 use mil_word::Command;
@@ -72,7 +73,7 @@ fn change_of(seen: &Seen<'_>, channel: u16, tick: u128, driven: Option<Driven>) 
     Change {
         tick,
         channel,
-        on_b: is_set(seen.block, 13),
+        on_b: is_set(seen.block, LINE_B),
         driven,
     }
 }

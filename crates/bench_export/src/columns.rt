@@ -10,6 +10,7 @@ use crate::row::Row;
 use crate::texts::{push_gap, push_number};
 use crate::values::push_word;
 use ch11_f1::Seen;
+use ch11_layout::block::TERMINAL_TO_TERMINAL;
 use ch11_layout::{Layout, first_gap, is_set, second_gap, word_at};
 use mil_word::Command;
 use mil_word::fields::MOST_WORDS;
@@ -94,7 +95,7 @@ fn first_status(seen: &Seen<'_>, layout: &Layout) -> Option<u16>
 {
     if layout.commands < layout.data_start {
         Some(word_at(seen.words, layout.commands))
-    } else if !is_set(seen.block, 11) && layout.data_end < layout.words {
+    } else if !is_set(seen.block, TERMINAL_TO_TERMINAL) && layout.data_end < layout.words {
         Some(word_at(seen.words, layout.data_end))
     } else {
         None
@@ -106,7 +107,7 @@ fn second_status(seen: &Seen<'_>, layout: &Layout) -> Option<u16>
     requires { layout.now ≡ layout_of (message_of seen.now) }
     ensures { result ≡ spec.second_status (message_of seen.now) }
 {
-    if is_set(seen.block, 11) && layout.data_end < layout.words {
+    if is_set(seen.block, TERMINAL_TO_TERMINAL) && layout.data_end < layout.words {
         Some(word_at(seen.words, layout.data_end))
     } else {
         None

@@ -7,6 +7,7 @@ ghost use Rattle.std.specs.Prelude.{◌≡◌, ◌++◌, ◌∷◌, ◌-◌, ◌
 use crate::row::Row;
 use crate::texts::{push_block, push_gap, push_number, push_words};
 use ch11_f1::Seen;
+use ch11_layout::block::LINE_B;
 use ch11_layout::{Layout, first_gap, is_set, second_gap, word_at};
 use mil_word::Command;
 use std::alloc::AllocError;
@@ -37,7 +38,11 @@ fn push_sent(row: &mut Row, seen: &Seen<'_>) -> Result<(), AllocError>
 pub(crate) fn line_name(seen: &Seen<'_>) -> &'static [u8]
     ensures { result.now ≡ spec.message_line_text (message_of seen.now) }
 {
-    if is_set(seen.block, 13) { b"B" } else { b"A" }
+    if is_set(seen.block, LINE_B) {
+        b"B"
+    } else {
+        b"A"
+    }
 }
 
 /// The form of a message by its commands (MIL-STD-1553B 4.3.3.6).

@@ -4,6 +4,10 @@ ghost use Rattle.mil_word.specs.Fields.{has_bit};
 ghost use Rattle.std.specs.Prelude.{◌≡◌, ◌≤◌, ◌++◌, ◌∷◌, [], OnOk};
 
 use crate::row::Row;
+use ch11_layout::block::{
+    FORMAT_ERROR, INVALID_WORD_ERROR, MESSAGE_ERROR, RESPONSE_TIMEOUT, SYNC_TYPE_ERROR,
+    WORD_COUNT_ERROR,
+};
 use ch11_layout::is_set;
 use std::alloc::AllocError;
 
@@ -81,11 +85,11 @@ fn push_error(row: &mut Row, block: u16, place: u32) -> Result<(), AllocError>
 pub(crate) fn push_error_flags(row: &mut Row, block: u16) -> Result<(), AllocError>
     ensures { OnOk result (row.new ≡ row.old ++ spec.error_flags block) }
 {
-    push_error(row, block, 12)?;
-    push_error(row, block, 10)?;
-    push_error(row, block, 9)?;
-    push_error(row, block, 5)?;
-    push_error(row, block, 4)?;
-    push_error(row, block, 3)?;
+    push_error(row, block, MESSAGE_ERROR)?;
+    push_error(row, block, FORMAT_ERROR)?;
+    push_error(row, block, RESPONSE_TIMEOUT)?;
+    push_error(row, block, WORD_COUNT_ERROR)?;
+    push_error(row, block, SYNC_TYPE_ERROR)?;
+    push_error(row, block, INVALID_WORD_ERROR)?;
     Ok(())
 }

@@ -6,6 +6,7 @@ ghost use Rattle.mil_word.specs.Timing.{contiguous_gap};
 ghost use Rattle.std.specs.Prelude.{◌≡◌, ◌-◌, ◌<◌, ◌≤◌, ◌^◌};
 
 use ch11_f1::Seen;
+use ch11_layout::block::TERMINAL_TO_TERMINAL;
 use ch11_layout::{Layout, first_gap, is_set, second_gap};
 use mil_word::timing::{CONTIGUOUS_GAP, WORD_TIME};
 
@@ -25,7 +26,7 @@ fn gap_behind(seen: &Seen<'_>, layout: &Layout) -> u8
     requires { layout.now ≡ layout_of (message_of seen.now) }
     ensures { result ≡ last_gap (message_of seen.now) }
 {
-    if is_set(seen.block, 11) {
+    if is_set(seen.block, TERMINAL_TO_TERMINAL) {
         second_gap(seen)
     } else if layout.commands < layout.data_start {
         0

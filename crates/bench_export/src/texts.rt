@@ -4,6 +4,10 @@ ghost use Rattle.std.specs.Prelude.{◌≡◌, ◌≤◌, ◌++◌, ◌∷◌, [
 
 use crate::row::Row;
 use bench_dump::put_words;
+use ch11_layout::block::{
+    FORMAT_ERROR, INVALID_WORD_ERROR, LINE_B, MESSAGE_ERROR, RESPONSE_TIMEOUT, SYNC_TYPE_ERROR,
+    TERMINAL_TO_TERMINAL, WORD_COUNT_ERROR,
+};
 use ch11_layout::is_set;
 use itoa::Buffer;
 use std::alloc::AllocError;
@@ -83,14 +87,14 @@ pub(crate) fn push_block(row: &mut Row, text: &mut Vec<u8>, block: u16) -> Resul
     ensures { OnOk result (row.new ≡ row.old ++ block_text block ∷ []) }
 {
     text.clear();
-    put_name(text, block, 13, b"line_b")?;
-    put_name(text, block, 12, b"message_error")?;
-    put_name(text, block, 11, b"terminal_to_terminal")?;
-    put_name(text, block, 10, b"format_error")?;
-    put_name(text, block, 9, b"response_timeout")?;
-    put_name(text, block, 5, b"word_count_error")?;
-    put_name(text, block, 4, b"sync_type_error")?;
-    put_name(text, block, 3, b"invalid_word_error")?;
+    put_name(text, block, LINE_B, b"line_b")?;
+    put_name(text, block, MESSAGE_ERROR, b"message_error")?;
+    put_name(text, block, TERMINAL_TO_TERMINAL, b"terminal_to_terminal")?;
+    put_name(text, block, FORMAT_ERROR, b"format_error")?;
+    put_name(text, block, RESPONSE_TIMEOUT, b"response_timeout")?;
+    put_name(text, block, WORD_COUNT_ERROR, b"word_count_error")?;
+    put_name(text, block, SYNC_TYPE_ERROR, b"sync_type_error")?;
+    put_name(text, block, INVALID_WORD_ERROR, b"invalid_word_error")?;
     row.push(behind_first(text.as_slice()))?;
     Ok(())
 }
