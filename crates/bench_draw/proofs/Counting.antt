@@ -4,11 +4,11 @@ use Rattle.std.proofs.lemmas.List.{drop_all}
 use Rattle.ch11_f1.specs.BodyReading.{Message}
 use Rattle.ch11_reader.specs.declared.packet.Packet.{Packet}
 use Rattle.ch11_reader.specs.Recording.{Found}
-use Rattle.ch11_reader.specs.Contents.{total_in}
+use Rattle.ch11_reader.specs.Contents.{total_in, capped}
 use Rattle.ch11_stream.proofs.Folding.{one_behind, total_reverse}
 use Rattle.bench_dump.proofs.Packets.{IsAt}
 use Rattle.bench_select.specs.declared.selection.Selection.{Selection}
-use Rattle.bench_draw.specs.Chosen.{capped, chosen, chosen_in, chosen_behind}
+use Rattle.bench_draw.specs.Chosen.{chosen, chosen_in, chosen_behind}
 
 -- the chosen ones of the messages so far were counted, and a count beside that one was kept
 pub record IsCounting (s : Selection) (old now found before number channel : ℕ) (all rest : List Message) : Type 0 where

@@ -1,5 +1,5 @@
 -- How many messages are drawn: those that a selection chooses, each by its number in the file (own choice).
-use Rattle.std.specs.Prelude.{ℕ, ◌+◌, ◌-◌, ◌^◌, if◌then◌else◌, List, [], ◌∷◌, length, min}
+use Rattle.std.specs.Prelude.{ℕ, ◌+◌, if◌then◌else◌, List, [], ◌∷◌, length}
 use Rattle.ch11_f1.specs.BodyReading.{Message}
 use Rattle.ch11_reader.specs.Recording.{Found}
 use Rattle.bench_select.specs.Selecting.{selects}
@@ -20,7 +20,3 @@ chosen_behind s before (p ∷ ps) = chosen_in s before p.header.channel p.messag
 -- of a whole recording
 abbrev pub chosen : Selection → List Found → ℕ
 chosen s ps = chosen_behind s 0 ps
-
--- a count goes as far as 64 bits count
-abbrev pub capped : ℕ → ℕ
-capped n = min n (2 ^ 64 - 1)

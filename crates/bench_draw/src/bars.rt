@@ -6,6 +6,9 @@ use crate::rows::{BAR, Lane};
 use crate::scale::{LEFT, Run, Scale, WORD, end_of, runs_of};
 use bench_decode::{Place, put_details};
 use ch11_f1::Seen;
+use ch11_layout::block::{
+    INVALID_WORD_ERROR, MESSAGE_ERROR, RESPONSE_TIMEOUT, SYNC_TYPE_ERROR, WORD_COUNT_ERROR,
+};
 use ch11_layout::{Role, is_set, word_at};
 use mil_word::{Command, Status};
 use std::alloc::AllocError;
@@ -54,7 +57,7 @@ pub(crate) fn draw_bar(
         }
         before = before.saturating_add(run.words as usize);
     }
-    if is_set(seen.block, 12) {
+    if is_set(seen.block, MESSAGE_ERROR) {
         put_error(&mut text, scale, lane, seen)?;
     }
     text.push_str("</g>\n")?;
@@ -201,10 +204,10 @@ const KIND: u64 = 16;
 /// Puts the kinds of errors that a block status word tells of, as many as there is room for in so many pixels.
 fn put_kinds(text: &mut String, block: u16, wide: u64) -> Result<(), AllocError> {
     let kinds = [
-        (is_set(block, 9), "NR "),
-        (is_set(block, 5), "WC "),
-        (is_set(block, 4), "SY "),
-        (is_set(block, 3), "UW "),
+        (is_set(block, RESPONSE_TIMEOUT), "NR "),
+        (is_set(block, WORD_COUNT_ERROR), "WC "),
+        (is_set(block, SYNC_TYPE_ERROR), "SY "),
+        (is_set(block, INVALID_WORD_ERROR), "UW "),
     ];
     let mut used = 0u64;
     for (told, kind) in kinds {

@@ -1,5 +1,6 @@
 //! A whole picture.
-ghost use Rattle.bench_draw.specs.Chosen.{capped, chosen};
+ghost use Rattle.ch11_reader.specs.Contents.{capped};
+ghost use Rattle.bench_draw.specs.Chosen.{chosen};
 ghost use Rattle.ch11_reader.specs.Indexed.{found_in};
 ghost use Rattle.ch11_reader.specs.Recording.{packets_in};
 ghost use Rattle.std.specs.Prelude.{◌≡◌, ◌≤◌, ℕ, List, Some, Ok, vec_len, IfOk};

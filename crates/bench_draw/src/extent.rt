@@ -1,5 +1,6 @@
 //! What is to be drawn: which channels, which time, and how.
-ghost use Rattle.bench_draw.specs.Chosen.{capped, chosen, chosen_in};
+ghost use Rattle.ch11_reader.specs.Contents.{capped};
+ghost use Rattle.bench_draw.specs.Chosen.{chosen, chosen_in};
 ghost use Rattle.ch11_stream.specs.Folding.{FoldsPackets};
 ghost use Rattle.std.specs.Prelude.{◌≡◌, ◌+◌, ◌<◌, ◌^◌, ℕ, List, Some, length, IfOk, OnOk};
 

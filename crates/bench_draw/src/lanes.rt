@@ -9,6 +9,7 @@ use crate::rows::{Lane, Rows};
 use crate::scale::end_of;
 use bench_decode::{Form, Place};
 use ch11_f1::{Messages, Seen};
+use ch11_layout::block::{LINE_B, MESSAGE_ERROR};
 use ch11_layout::is_set;
 use ch11_reader::Packet;
 use std::alloc::{AllocError, Global};
@@ -109,7 +110,7 @@ fn draw_message(
     seen: &Seen<'_>,
 ) -> Result<(), AllocError> {
     let rows = lanes.rows;
-    let bus = if is_set(seen.block, 13) {
+    let bus = if is_set(seen.block, LINE_B) {
         &mut lanes.on_b
     } else {
         &mut lanes.on_a
@@ -126,7 +127,7 @@ fn draw_message(
         })?;
         return draw_bar(canvas, &bus.lane, place, seen);
     }
-    if is_set(seen.block, 12) {
+    if is_set(seen.block, MESSAGE_ERROR) {
         bus.load.fail(&canvas.scale, seen.stamp, place.number);
     }
     Ok(())

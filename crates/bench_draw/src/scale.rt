@@ -1,6 +1,7 @@
 //! Times as places in the picture.
 
 use ch11_f1::Seen;
+use ch11_layout::block::TERMINAL_TO_TERMINAL;
 use ch11_layout::{Layout, Role, first_gap, is_set, second_gap};
 use mil_word::timing::{CONTIGUOUS_GAP, WORD_TIME};
 
@@ -99,7 +100,7 @@ fn pause(gap: u8) -> u64 {
 /// word behind them. Runs without words are there too.
 pub(crate) fn runs_of(seen: &Seen<'_>) -> [Run; 5] {
     let layout = Layout::of(seen);
-    let between = is_set(seen.block, 11);
+    let between = is_set(seen.block, TERMINAL_TO_TERMINAL);
     let front = layout.data_start.saturating_sub(layout.commands) as u64;
     let back = layout.words.saturating_sub(layout.data_end) as u64;
     let last = if between {

@@ -1,11 +1,11 @@
 use Rattle.std.proofs.Common.{◌≡◌, ap, sym, subst, arith, length, reverse, List}
 use Rattle.ch11_reader.specs.declared.packet.Packet.{Packet}
-use Rattle.ch11_reader.specs.Contents.{total_in}
+use Rattle.ch11_reader.specs.Contents.{total_in, capped}
 use Rattle.ch11_reader.specs.Recording.{Found}
 use Rattle.ch11_stream.specs.Reading.{last_found}
 use Rattle.ch11_stream.proofs.Folding.{all_found, not_found}
 use Rattle.ch11_stream.proofs.Readings.{amid_on, amid_start}
-use Rattle.bench_draw.specs.Chosen.{capped, chosen}
+use Rattle.bench_draw.specs.Chosen.{chosen}
 use Rattle.bench_draw.proofs.Counting.{one_streamed}
 use Rattle.bench_draw.proofs.extent.Extent.of_reader.Goals as goal
 

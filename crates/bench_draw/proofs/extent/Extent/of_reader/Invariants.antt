@@ -1,6 +1,7 @@
 use Rattle.std.proofs.Common.{◌≡◌, ℕ, List, Some, reverse}
 use Rattle.ch11_stream.proofs.Readings.{IsAmid}
-use Rattle.bench_draw.specs.Chosen.{capped, chosen}
+use Rattle.ch11_reader.specs.Contents.{capped}
+use Rattle.bench_draw.specs.Chosen.{chosen}
 use Rattle.bench_draw.proofs.extent.Extent.of_reader.Given as goal
 
 -- the packets so far are those of the file, and the chosen ones of their messages were counted
