@@ -1,11 +1,12 @@
 -- How many messages a full queue refused, by the report, and that as text (own choice).
-use Rattle.std.specs.Prelude.{ℕ, ◌==◌, ◌-◌, ◌^◌, List, [], ◌++◌, length, min, codes, decimal, if◌then◌else◌}
+use Rattle.std.specs.Prelude.{ℕ, ◌==◌, List, [], ◌++◌, length, codes, decimal, if◌then◌else◌}
 use Rattle.std.specs.List.{sum_by, flat_map}
+use Rattle.ch11_reader.specs.Contents.{capped}
 use Rattle.bench_report.specs.Reports.{ChannelPart}
 
 -- the messages of all channels that were refused, as far as 64 bits count them
 abbrev pub refused_count : List ChannelPart → ℕ
-refused_count parts = min (sum_by (λ part. length part.refused) parts) (2 ^ 64 - 1)
+refused_count parts = capped (sum_by (λ part. length part.refused) parts)
 
 -- so many of a channel
 abbrev pub told_of : ℕ → ℕ → List ℕ
