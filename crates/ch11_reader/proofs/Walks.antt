@@ -8,8 +8,9 @@ use Rattle.std.proofs.lemmas.Option.{slice_get_within, slice_get-get_or, get_or_
 use Rattle.byteorder.specs.Endian.{little_number}
 use Rattle.ch11_f1.specs.declared.error.BodyError.{BodyError}
 use Rattle.ch11_f1.specs.declared.error.BodyError.TheVariants.{Odd, End}
-use Rattle.ch11_f1.specs.BodyReading.{◌>>=◌, Message, number_at, message_at, messages_at, messages_in, count_in}
+use Rattle.ch11_f1.specs.BodyReading.{◌>>=◌, Message, message_at, messages_at, messages_in, count_in}
 use Rattle.ch11_header.specs.declared.header.Header.{Header}
+use Rattle.ch11_header.specs.HeaderBytes.{number_at}
 use Rattle.ch11_header.specs.HeaderReading.{header_in, body_start}
 use Rattle.ch11_reader.specs.declared.error.Fault.TheVariants as faults
 use Rattle.ch11_reader.specs.Recording.{holds_messages, body_of, packet_at}
