@@ -1,3 +1,4 @@
+pub mod Faults
 pub mod Pieces
 pub mod Merging
 pub mod TimePackets

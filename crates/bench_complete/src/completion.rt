@@ -16,7 +16,7 @@ use crate::links::link;
 use crate::merge::merge;
 use crate::setup::write_front;
 use crate::times::{SECOND, Times};
-use ch11_reader::{Index, ReadError, Skip, SkippingIndex};
+use ch11_reader::{Index, Skip, SkippingIndex};
 use std::alloc::Global;
 use std::io::Write;
 use std::marker::Model;
@@ -134,11 +134,8 @@ impl<'a> Completion<'a> {
         if !is_setup(additions.setup) {
             return Err(CompleteFault::SetupSize);
         }
-        match Index::build(alloc, file) {
-            Ok(index) => Completion::of(file, index, additions),
-            Err(ReadError::Refused(refusal)) => Err(CompleteFault::Refused(refusal)),
-            Err(ReadError::Memory) => Err(CompleteFault::Memory),
-        }
+        let index = Index::build(alloc, file)?;
+        Completion::of(file, index, additions)
     }
 
     /// The same for whatever is sound in a recording, with the bytes that were skipped. No recording is refused for a
@@ -156,15 +153,9 @@ impl<'a> Completion<'a> {
         if !is_setup(additions.setup) {
             return Err(CompleteFault::SetupSize);
         }
-        let found = match Index::build_skipping(alloc, file) {
-            Ok(found) => found,
-            Err(_) => return Err(CompleteFault::Memory),
-        };
-        let SkippingIndex { index, skips } = found;
-        match Completion::of(file, index, additions) {
-            Ok(completion) => Ok((completion, skips)),
-            Err(fault) => Err(fault),
-        }
+        let SkippingIndex { index, skips } = Index::build_skipping(alloc, file)?;
+        let completion = Completion::of(file, index, additions)?;
+        Ok((completion, skips))
     }
 
     /// Writes the complete file: the setup record, and behind it all packets, merged. Where it fails, it answers Memory

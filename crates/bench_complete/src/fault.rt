@@ -1,8 +1,9 @@
 //! Why a recording was not completed.
+ghost use Rattle.bench_complete.specs.Faults.{fault_of_reading};
 ghost use Rattle.bench_complete.specs.declared.fault.CompleteFault.TheVariants.{Device, Memory};
 ghost use Rattle.std.specs.Prelude.{◌≡◌};
 
-use ch11_reader::Refusal;
+use ch11_reader::{ReadError, Refusal};
 use std::alloc::{AllocError, AllocFailed};
 use std::io;
 
@@ -29,6 +30,17 @@ pub enum CompleteFault {
 
     /// The writer failed, which may have got some of the file.
     Device,
+}
+
+impl From<ReadError> for CompleteFault {
+    ghost from_gives = { λ cause e. e ≡ fault_of_reading cause };
+
+    fn from(cause: ReadError) -> CompleteFault {
+        match cause {
+            ReadError::Refused(refusal) => CompleteFault::Refused(refusal),
+            ReadError::Memory => CompleteFault::Memory,
+        }
+    }
 }
 
 impl From<AllocError> for CompleteFault {

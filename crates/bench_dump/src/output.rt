@@ -14,7 +14,7 @@ use crate::skips::{dump_skips, dump_skips_before};
 use crate::text::Text;
 use bench_clock::Clock;
 use ch11_f1::Messages;
-use ch11_reader::{Index, Packet, ReadError, Skip};
+use ch11_reader::{Index, Packet, Skip};
 use ch11_stream::StreamFault;
 use std::alloc::Global;
 use std::io::Write;
@@ -124,11 +124,7 @@ fn dump_by<W: Write>(
     if skip {
         return dump_skipping(alloc, bytes, out, timed);
     }
-    let index = match Index::build(alloc, bytes) {
-        Ok(index) => index,
-        Err(ReadError::Refused(refusal)) => return Err(StreamFault::Refused(refusal)),
-        Err(ReadError::Memory) => return Err(StreamFault::Memory),
-    };
+    let index = Index::build(alloc, bytes)?;
     dump_index(alloc, bytes, &index, &[], out, timed)
 }
 
@@ -142,10 +138,8 @@ fn dump_skipping<W: Write>(
     ensures printed { OnOk result (Appends (W.contents out.old) (W.contents out.new) (text_by timed true bytes.now)) }
     ensures failed { IfErr result IsOther }
 {
-    match Index::build_skipping(alloc, bytes) {
-        Ok(found) => dump_index(alloc, bytes, &found.index, &found.skips, out, timed),
-        Err(_) => Err(StreamFault::Memory),
-    }
+    let found = Index::build_skipping(alloc, bytes)?;
+    dump_index(alloc, bytes, &found.index, &found.skips, out, timed)
 }
 
 /// Prints the packets of a recording that was read, and the skips among them, with or without times of day.

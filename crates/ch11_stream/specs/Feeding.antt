@@ -2,6 +2,8 @@
 use Rattle.std.specs.Prelude.{◌≡◌, ℕ, ◌-◌, ◌<◌, ◌≤◌, List, [], ◌++◌, length, drop, Bool, true, false, Option, Some}
 use Rattle.std.specs.Prelude.{Result, Ok, Err}
 use Rattle.std.specs.Io.KnownBytes.{Consumes, IsAtEnd, Keeps, prepend_known}
+use Rattle.ch11_reader.specs.declared.error.ReadError.{ReadError}
+use Rattle.ch11_reader.specs.declared.error.ReadError.TheVariants as errors
 use Rattle.ch11_stream.specs.declared.fault.StreamFault.{StreamFault}
 use Rattle.ch11_stream.specs.declared.fault.StreamFault.TheVariants as faults
 
@@ -44,3 +46,8 @@ abbrev pub IsOther : StreamFault → Type 0
 IsOther (faults.Refused r) = ⊥
 IsOther faults.Memory = Unit {0}
 IsOther faults.Device = Unit {0}
+
+-- the fault of a recording that is read whole
+abbrev pub fault_of_reading : ReadError → StreamFault
+fault_of_reading (errors.Refused r) = faults.Refused r
+fault_of_reading errors.Memory = faults.Memory

@@ -1,9 +1,10 @@
 //! Why a recording was not read to its end, or what is made of it not written.
 ghost use Rattle.ch11_stream.specs.FaultText.{fault_text};
+ghost use Rattle.ch11_stream.specs.Feeding.{fault_of_reading};
 ghost use Rattle.ch11_stream.specs.declared.fault.StreamFault.TheVariants.{Device, Memory};
 ghost use Rattle.std.specs.Prelude.{◌≡◌, Some};
 
-use ch11_reader::Refusal;
+use ch11_reader::{ReadError, Refusal};
 use std::alloc::AllocError;
 use std::fmt::{self, Display, Formatter, Write};
 use std::io;
@@ -30,6 +31,17 @@ impl Display for StreamFault {
             StreamFault::Refused(refusal) => write!(f, "{refusal}"),
             StreamFault::Memory => write!(f, "memory"),
             StreamFault::Device => write!(f, "device -"),
+        }
+    }
+}
+
+impl From<ReadError> for StreamFault {
+    ghost from_gives = { λ cause e. e ≡ fault_of_reading cause };
+
+    fn from(cause: ReadError) -> StreamFault {
+        match cause {
+            ReadError::Refused(refusal) => StreamFault::Refused(refusal),
+            ReadError::Memory => StreamFault::Memory,
         }
     }
 }

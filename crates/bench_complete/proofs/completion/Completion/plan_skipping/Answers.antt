@@ -5,4 +5,4 @@ use Rattle.bench_complete.proofs.completion.Completion.plan_skipping.Goals as go
 
 pub of-requires-clause-sound : goal.of-requires-clause-sound
 of-requires-clause-sound c =
-    subst (AllReadAt c.args.file.now) (sym c.in-Ok.ensures.read) (all_stretches_read c.args.file.now (λ k. omega (arith, c.type_inv.file k)))
+    subst (AllReadAt c.args.file.now) (sym c.in_ok-index.ensures.read) (all_stretches_read c.args.file.now (λ k. omega (arith, c.type_inv.file k)))
