@@ -57,11 +57,8 @@ pub fn decode<W: Write>(
     out: &mut W,
     output: &Output,
 ) -> Result<u64, StreamFault> {
-    match read_index(alloc, bytes, output.skip) {
-        Ok(found) => decode_index(alloc, &found, out, output),
-        Err(ReadError::Refused(refusal)) => Err(StreamFault::Refused(refusal)),
-        Err(ReadError::Memory) => Err(StreamFault::Memory),
-    }
+    let found = read_index(alloc, bytes, output.skip)?;
+    decode_index(alloc, &found, out, output)
 }
 
 /// The packets of a recording, which with `skip` may be damaged; without it nothing is skipped.
