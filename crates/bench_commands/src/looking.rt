@@ -2,7 +2,7 @@
 
 use bench_clock::Clock;
 use bench_requests::{Fault, tells_of_loss};
-use ch11_reader::{Index, ReadError};
+use ch11_reader::Index;
 use std::alloc::{AllocError, Global};
 use std::io::IsTerminal;
 
@@ -39,16 +39,9 @@ pub(crate) fn index_of<'a, 'b>(
     skip: bool,
 ) -> Result<Index<'b>, Fault<'a>> {
     if skip {
-        return match Index::build_skipping(alloc, recording) {
-            Ok(found) => Ok(found.index),
-            Err(_) => Err(Fault::Memory),
-        };
+        return Ok(Index::build_skipping(alloc, recording)?.index);
     }
-    match Index::build(alloc, recording) {
-        Ok(index) => Ok(index),
-        Err(ReadError::Refused(refusal)) => Err(Fault::Recording(refusal)),
-        Err(ReadError::Memory) => Err(Fault::Memory),
-    }
+    Ok(Index::build(alloc, recording)?)
 }
 
 /// The clock of a recording where times of day are asked for, and else one that tells none.

@@ -1,5 +1,7 @@
 -- The exit status of a fault (own choice); 0 is done and 2 usage.
 use Rattle.std.specs.Prelude.{◌≡◌, ℕ, List, codes}
+use Rattle.ch11_reader.specs.declared.error.ReadError.{ReadError}
+use Rattle.ch11_reader.specs.declared.error.ReadError.TheVariants as reading
 use Rattle.bench_files.specs.declared.kind.Kind.{Kind}
 use Rattle.bench_files.specs.declared.error.OutError.{OutError}
 use Rattle.bench_files.specs.declared.error.OutError.TheVariants as out
@@ -42,6 +44,11 @@ status_of (Busy name) = 3
 status_of (OtherKind name kind) = 2
 status_of (OtherPart name kind) = 2
 status_of (Usage text) = 2
+
+-- the fault of a recording that is read whole
+abbrev pub fault_of_reading : ReadError → Fault
+fault_of_reading (reading.Refused refusal) = Recording refusal
+fault_of_reading reading.Memory = Memory
 
 -- the fault of jobs and settings that may not be run
 abbrev pub fault_of_settings : WorldError → Fault

@@ -1,5 +1,5 @@
 //! Why `bench` stops, and with which exit status.
-ghost use Rattle.bench_requests.specs.Status.{status_of, fault_of, fault_of_settings, IsOfOut, IsOfStep};
+ghost use Rattle.bench_requests.specs.Status.{status_of, fault_of, fault_of_reading, fault_of_settings, IsOfOut, IsOfStep};
 ghost use Rattle.bench_requests.specs.declared.fault.Fault.TheVariants as faults;
 ghost use Rattle.std.specs.Prelude.{◌≡◌};
 
@@ -10,7 +10,7 @@ use bench_one::OneFault;
 use bench_report::ReportError;
 use bench_run::RunError;
 use bench_step::StepFault;
-use ch11_reader::Refusal;
+use ch11_reader::{ReadError, Refusal};
 use job_file::JobError;
 use judge_rules::RuleError;
 use std::alloc::AllocError;
@@ -161,6 +161,17 @@ impl<'a> Fault<'a> {
         match error.raw_os_error() {
             Some(code) => Fault::System { name, code },
             None => Fault::Device(name),
+        }
+    }
+}
+
+impl<'a> From<ReadError> for Fault<'a> {
+    ghost from_gives = { λ cause e. e ≡ fault_of_reading cause };
+
+    fn from(cause: ReadError) -> Fault<'a> {
+        match cause {
+            ReadError::Refused(refusal) => Fault::Recording(refusal),
+            ReadError::Memory => Fault::Memory,
         }
     }
 }
