@@ -17,7 +17,7 @@ use crate::recording::run_jobs;
 use crate::replacing::may_write;
 use crate::statistics::show_statistics;
 use crate::stepping::step_through;
-use crate::streams::on_stream;
+use crate::streams::{Printable, on_stream, print_to_output};
 use bench_assemble::{AssembleFault, Sizes, assemble_text, print_sizes};
 use bench_dump::{dump, dump_with_times};
 use bench_files::{Hold, Kind, leads_to_output};
@@ -26,7 +26,7 @@ use bench_requests::{Fault, is_large, read_whole, write_new};
 use clap::Error;
 use clap::error::ErrorKind;
 use std::io;
-use std::io::{BufWriter, IsTerminal, Write};
+use std::io::{IsTerminal, Write};
 use std::process::ExitCode;
 use std::rt::{Clock, Files};
 
@@ -156,13 +156,22 @@ fn run_one<'a, R: AllocGlobal + Print>(
         Err(OneFault::Memory) => return Err(Fault::Memory),
         Err(fault) => return Err(Fault::Text(fault)),
     };
-    on_stream("-", print_to_output(rt, bytes.as_slice()))
+    let packet = PacketBytes {
+        bytes: bytes.as_slice(),
+    };
+    on_stream("-", print_to_output(rt, &packet))
 }
 
-fn print_to_output<R: AllocGlobal + Print>(rt: &R, bytes: &[u8]) -> io::Result<()> {
-    let mut out = BufWriter::new(rt.alloc(), io::writer(rt))?;
-    print_bytes(&mut out, bytes)?;
-    out.flush()
+/// The bytes of a packet.
+#[derive(Drop)]
+struct PacketBytes<'a> {
+    bytes: &'a [u8],
+}
+
+impl<'a> Printable for PacketBytes<'a> {
+    fn print_to<W: Write>(&self, out: &mut W) -> io::Result<()> {
+        print_bytes(out, self.bytes)
+    }
 }
 
 fn run_assemble<'a, R: Files<File: Hold> + AllocGlobal + Print, E: Eprint>(
@@ -185,13 +194,13 @@ fn run_assemble<'a, R: Files<File: Hold> + AllocGlobal + Print, E: Eprint>(
         let _ = eprintln!(errors; "{sizes}");
         return Ok(());
     }
-    on_stream("-", print_sizes_to_output(rt, &sizes))
+    on_stream("-", print_to_output(rt, &sizes))
 }
 
-fn print_sizes_to_output<R: AllocGlobal + Print>(rt: &R, sizes: &Sizes) -> io::Result<()> {
-    let mut out = BufWriter::new(rt.alloc(), io::writer(rt))?;
-    print_sizes(&mut out, sizes)?;
-    out.flush()
+impl Printable for Sizes {
+    fn print_to<W: Write>(&self, out: &mut W) -> io::Result<()> {
+        print_sizes(out, self)
+    }
 }
 
 /// Prints a recording. One of more than 64 MiB is read packet by packet.

@@ -5,7 +5,7 @@ use crate::completing::setup_text;
 use crate::hosts::{Errors, Host};
 use crate::judged_run::{judge_run, rules_of_run};
 use crate::live_run::{Going, Run, begin_showing, end_showing, record, way_of, with_posts};
-use crate::streams::on_stream;
+use crate::streams::{Printable, on_stream, print_to_output};
 use bench_complete::Additions;
 use bench_core::judge;
 use bench_files::Hold;
@@ -19,7 +19,7 @@ use bench_run_command::{Counts, print_counts, refusals};
 use ch11_writer::StdSink;
 use std::alloc::{AllocError, Global};
 use std::io;
-use std::io::{BufWriter, Write};
+use std::io::Write;
 use std::rt::Files;
 
 /// Records the jobs into the out file; once that is whole, writes the report and prints how much was recorded. Before
@@ -190,7 +190,7 @@ fn tell<'a, R: AllocGlobal + Print, E: Eprint>(
     if is_output {
         let _ = eprintln!(errors; "{counts}");
     } else {
-        on_stream("-", print_counts_to_output(rt, &counts))?;
+        on_stream("-", print_to_output(rt, &counts))?;
     }
     let text = refusals(rt.alloc(), report)?;
     if !text.is_empty() {
@@ -219,8 +219,8 @@ fn files_read<'a>(
     Ok(names)
 }
 
-fn print_counts_to_output<R: AllocGlobal + Print>(rt: &R, counts: &Counts) -> io::Result<()> {
-    let mut out = BufWriter::new(rt.alloc(), io::writer(rt))?;
-    print_counts(&mut out, counts)?;
-    out.flush()
+impl Printable for Counts {
+    fn print_to<W: Write>(&self, out: &mut W) -> io::Result<()> {
+        print_counts(out, self)
+    }
 }

@@ -2,7 +2,7 @@
 
 use bench_requests::Fault;
 use std::io;
-use std::io::Write;
+use std::io::{BufWriter, Write};
 use text_lines::WriteFault;
 
 /// What a call on the file or stream with this name answered, `-` for standard input and output; or its fault.
@@ -11,6 +11,22 @@ pub(crate) fn on_stream<'a, T>(name: &'a str, answer: io::Result<T>) -> Result<T
         Ok(value) => Ok(value),
         Err(error) => Err(Fault::of_stream(name, &error)),
     }
+}
+
+/// What a command prints to the standard output, all at once.
+pub(crate) trait Printable {
+    /// Prints it. A fault is the writer's.
+    fn print_to<W: Write>(&self, out: &mut W) -> io::Result<()>;
+}
+
+/// Prints to the standard output through one buffer, all of which is handed on.
+pub(crate) fn print_to_output<R: AllocGlobal + Print, P: Printable>(
+    rt: &R,
+    printable: &P,
+) -> io::Result<()> {
+    let mut out = BufWriter::new(rt.alloc(), io::writer(rt))?;
+    printable.print_to(&mut out)?;
+    out.flush()
 }
 
 /// What printing to the standard output comes to that ended so, once all is handed on.
