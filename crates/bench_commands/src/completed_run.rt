@@ -1,6 +1,6 @@
 //! `bench run --complete`: jobs recorded, and the complete file made of their recording at once.
 
-use crate::completing::{fault_of, start_of, time, time_channel, write_out};
+use crate::completing::{fault_of, start_of, time, time_channel, time_channel_in, write_out};
 use crate::hosts::{Errors, Host};
 use crate::live_run::{Run, record};
 use crate::options::{Row, file, flag};
@@ -48,7 +48,7 @@ pub(crate) fn completing_in<'a>(given: &ArgMatches<'a>) -> Option<Completing<'a>
     Some(Completing {
         setup: given.get_str("setup"),
         time: given.get_str("time"),
-        time_channel: given.get_one::<u16>("time-channel").unwrap_or(65535),
+        time_channel: time_channel_in(given),
     })
 }
 

@@ -34,6 +34,9 @@ pub struct CompleteRequest<'a> {
     pub force: bool,
 }
 
+/// The channel of the time packets where none is given.
+const DEFAULT_TIME_CHANNEL: u16 = 65535;
+
 /// What the help of `bench complete` ends with.
 const COMPLETE_NOTES: &str = "\
 The packets of the recording go over byte for byte, each channel's in their order; of all channels the packet with the
@@ -76,6 +79,13 @@ pub(crate) fn time_channel<'a>() -> Row<'a> {
     channel("time-channel", help).or("65535")
 }
 
+/// The channel of the time packets that was given, or else the default.
+pub(crate) fn time_channel_in(given: &ArgMatches<'_>) -> u16 {
+    given
+        .get_one::<u16>("time-channel")
+        .unwrap_or(DEFAULT_TIME_CHANNEL)
+}
+
 /// What `bench complete` is asked for.
 pub(crate) fn complete_request<'a>(given: &ArgMatches<'a>) -> CompleteRequest<'a> {
     CompleteRequest {
@@ -83,7 +93,7 @@ pub(crate) fn complete_request<'a>(given: &ArgMatches<'a>) -> CompleteRequest<'a
         out: given.get_str("out").unwrap_or(""),
         setup: given.get_str("setup"),
         time: given.get_str("time"),
-        time_channel: given.get_one::<u16>("time-channel").unwrap_or(65535),
+        time_channel: time_channel_in(given),
         version: given.get_one::<u8>("version").unwrap_or(DEFAULT_VERSION),
         skip: given.get_flag("skip"),
         force: given.get_flag("force"),
