@@ -8,7 +8,7 @@ use crate::replies::put_replies;
 use crate::times::Time;
 use ch11_f1::Seen;
 use ch11_layout::block::LINE_B;
-use ch11_layout::{Layout, is_set, word_at};
+use ch11_layout::{Layout, is_set};
 
 /// How many words are shown at most.
 const MOST_WORDS: usize = 40;
@@ -25,7 +25,7 @@ pub fn put_details(line: &mut Line, place: &Place, seen: &Seen<'_>) {
     put_form(line, form);
     if form == Form::Unknown {
         put_raw(line, seen);
-        put_data(line, b"\nwords", seen, 0, seen.words.len() / 2);
+        put_data(line, b"\nwords", seen, 0, seen.word_count());
     } else {
         let layout = Layout::of(seen);
         line.put(b"\nstatus words: ");
@@ -77,7 +77,7 @@ fn put_data(line: &mut Line, label: &[u8], seen: &Seen<'_>, from: usize, to: usi
     line.put(label);
     let end = to.min(from.saturating_add(MOST_WORDS));
     for place in from..end {
-        line.put_word(word_at(seen.words, place));
+        line.put_word(seen.word(place));
     }
     if end < to {
         line.put(b" ..");

@@ -5,7 +5,7 @@ ghost use Rattle.std.specs.Prelude.{◌≡◌};
 
 use ch11_f1::Seen;
 use ch11_layout::block::TERMINAL_TO_TERMINAL;
-use ch11_layout::{is_set, word_at};
+use ch11_layout::is_set;
 use mil_word::Command;
 
 /// The form of a recorded message, by its command words (MIL-STD-1553B 4.3.3.6). Addresses are 0 to 30, counts 1 to 32,
@@ -66,13 +66,13 @@ impl Form {
     pub fn of(seen: &Seen<'_>) -> Form
         ensures { result ≡ spec.form_of (message_of seen.now) }
     {
-        let words = seen.words.len() / 2;
+        let words = seen.word_count();
         if words == 0 {
             return Form::Unknown;
         }
-        let first = Command::of(word_at(seen.words, 0));
+        let first = Command::of(seen.word(0));
         if is_set(seen.block, TERMINAL_TO_TERMINAL) && words > 1 {
-            of_two(first, Command::of(word_at(seen.words, 1)))
+            of_two(first, Command::of(seen.word(1)))
         } else {
             of_one(first)
         }

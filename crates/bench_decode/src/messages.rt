@@ -69,7 +69,7 @@ pub fn write_message<W: Write>(
     let form = Form::of(seen);
     if form == Form::Unknown {
         put_raw(line, seen);
-        put_data(line, out, seen, 0, seen.words.len() / 2)?;
+        put_data(line, out, seen, 0, seen.word_count())?;
     } else {
         let layout = Layout::of(seen);
         put_form(line, form);

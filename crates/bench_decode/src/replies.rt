@@ -3,7 +3,7 @@
 use crate::line::Line;
 use ch11_f1::Seen;
 use ch11_layout::block::TERMINAL_TO_TERMINAL;
-use ch11_layout::{Layout, first_gap, is_set, second_gap, word_at};
+use ch11_layout::{Layout, first_gap, is_set, second_gap};
 use mil_word::{Command, Status};
 
 /// A status word that came: of which terminal it was due, and behind which gap it came, in ticks.
@@ -66,9 +66,9 @@ fn front_of(seen: &Seen<'_>, layout: &Layout) -> Option<Reply> {
     if layout.commands >= layout.data_start {
         return None;
     }
-    let command = word_at(seen.words, if layout.commands == 2 { 1 } else { 0 });
+    let command = seen.word(if layout.commands == 2 { 1 } else { 0 });
     Some(Reply {
-        status: word_at(seen.words, layout.commands),
+        status: seen.word(layout.commands),
         due: Command::of(command).address(),
         gap: first_gap(seen),
     })
@@ -81,8 +81,8 @@ fn back_of(seen: &Seen<'_>, layout: &Layout, between: bool) -> Option<Reply> {
         return None;
     }
     Some(Reply {
-        status: word_at(seen.words, layout.data_end),
-        due: Command::of(word_at(seen.words, 0)).address(),
+        status: seen.word(layout.data_end),
+        due: Command::of(seen.word(0)).address(),
         gap: if between {
             second_gap(seen)
         } else {

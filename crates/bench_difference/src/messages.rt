@@ -67,13 +67,8 @@ fn put_made(out: &mut String, record: &Record) -> Result<(), AllocError> {
 fn put_recorded(out: &mut String, seen: &Seen<'_>) -> Result<(), AllocError> {
     let (stamp, block, gaps) = (seen.stamp, seen.block, seen.gaps);
     write!(out, "stamp {stamp} block {block:04X} gaps {gaps:04X} words")?;
-    let mut bytes = seen.words;
-    while let Some((low, behind)) = bytes.split_first() {
-        let Some((high, rest)) = behind.split_first() else {
-            break;
-        };
-        put_word(out, u16::from_le_bytes([*low, *high]))?;
-        bytes = rest;
+    for place in 0..seen.word_count() {
+        put_word(out, seen.word(place))?;
     }
     out.push('\n')
 }

@@ -9,7 +9,7 @@ use ch11_f1::Seen;
 use ch11_layout::block::{
     INVALID_WORD_ERROR, MESSAGE_ERROR, RESPONSE_TIMEOUT, SYNC_TYPE_ERROR, WORD_COUNT_ERROR,
 };
-use ch11_layout::{Role, is_set, word_at};
+use ch11_layout::{Role, is_set};
 use mil_word::{Command, Status};
 use std::alloc::AllocError;
 use std::str;
@@ -92,7 +92,7 @@ fn put_words(
     before: usize,
 ) -> Result<(), AllocError> {
     let base = lane.bars.saturating_add(15);
-    let first = word_at(seen.words, before);
+    let first = seen.word(before);
     match run.role {
         Role::Data => put_data(text, scale, base, run, seen, before),
         Role::Command => put_command(text, scale, base, run, Command::of(first)),
@@ -164,7 +164,7 @@ fn put_data(
     for place in 0..run.words as usize {
         let end = begin.saturating_add(WORD);
         let (middle, _) = middle_of(scale, begin, end);
-        let word = word_at(seen.words, before.saturating_add(place));
+        let word = seen.word(before.saturating_add(place));
         write!(
             text,
             "<text x=\"{middle}\" y=\"{base}\" class=\"d\">{word:04X}</text>"

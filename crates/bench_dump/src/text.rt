@@ -125,7 +125,7 @@ impl Text {
         ensures { OnOk result (self.new
             ≡ self.old ++ timed_line (option_map (λ t. t.ticks) time) number channel (message_of seen.now)) }
     {
-        let words = (seen.words.len() / 2).saturating_mul(5);
+        let words = seen.word_count().saturating_mul(5);
         make_room(
             &mut self.bytes,
             self.len,

@@ -10,7 +10,7 @@ use crate::place::Place;
 use bench_select::Selection;
 use ch11_f1::{Messages, Seen};
 use ch11_layout::block::LINE_B;
-use ch11_layout::{Layout, Role, is_set, word_at};
+use ch11_layout::{Layout, Role, is_set};
 use ch11_reader::{Index, Packet};
 use mil_word::Command;
 use std::alloc::{AllocError, Global};
@@ -50,7 +50,7 @@ fn terminal_at(seen: &Seen<'_>, layout: &Layout, place: usize) -> u8
         Role::Command | Role::Status => place,
         Role::Data => layout.data_start.saturating_sub(1),
     };
-    Command::of(word_at(seen.words, teller)).address()
+    Command::of(seen.word(teller)).address()
 }
 
 /// The word at a place.
@@ -59,7 +59,7 @@ fn driven_at(seen: &Seen<'_>, layout: &Layout, number: u64, place: usize) -> Dri
     ensures { result ≡ spec.driven_at number (message_of seen.now) place }
 {
     Driven {
-        word: word_at(seen.words, place),
+        word: seen.word(place),
         role: layout.role(place),
         terminal: terminal_at(seen, layout, place),
         number,

@@ -11,7 +11,7 @@ use crate::texts::{push_gap, push_number};
 use crate::values::push_word;
 use ch11_f1::Seen;
 use ch11_layout::block::TERMINAL_TO_TERMINAL;
-use ch11_layout::{Layout, first_gap, is_set, second_gap, word_at};
+use ch11_layout::{Layout, first_gap, is_set, second_gap};
 use mil_word::Command;
 use mil_word::fields::MOST_WORDS;
 use std::alloc::AllocError;
@@ -81,7 +81,7 @@ fn direction_name(seen: &Seen<'_>) -> &'static [u8]
     let layout = Layout::of(seen);
     if layout.commands == 0 {
         b""
-    } else if Command::of(word_at(seen.words, 0)).is_transmit() {
+    } else if Command::of(seen.word(0)).is_transmit() {
         b"T"
     } else {
         b"R"
@@ -94,9 +94,9 @@ fn first_status(seen: &Seen<'_>, layout: &Layout) -> Option<u16>
     ensures { result ≡ spec.first_status (message_of seen.now) }
 {
     if layout.commands < layout.data_start {
-        Some(word_at(seen.words, layout.commands))
+        Some(seen.word(layout.commands))
     } else if !is_set(seen.block, TERMINAL_TO_TERMINAL) && layout.data_end < layout.words {
-        Some(word_at(seen.words, layout.data_end))
+        Some(seen.word(layout.data_end))
     } else {
         None
     }
@@ -108,7 +108,7 @@ fn second_status(seen: &Seen<'_>, layout: &Layout) -> Option<u16>
     ensures { result ≡ spec.second_status (message_of seen.now) }
 {
     if is_set(seen.block, TERMINAL_TO_TERMINAL) && layout.data_end < layout.words {
-        Some(word_at(seen.words, layout.data_end))
+        Some(seen.word(layout.data_end))
     } else {
         None
     }
@@ -136,7 +136,7 @@ fn data_word(seen: &Seen<'_>, layout: &Layout, place: usize) -> Option<u16>
     ensures { result ≡ spec.data_word (message_of seen.now) place }
 {
     if place < layout.data_end - layout.data_start {
-        Some(word_at(seen.words, layout.data_start + place))
+        Some(seen.word(layout.data_start + place))
     } else {
         None
     }

@@ -8,7 +8,7 @@ use crate::row::Row;
 use crate::texts::{push_block, push_gap, push_number, push_words};
 use ch11_f1::Seen;
 use ch11_layout::block::LINE_B;
-use ch11_layout::{Layout, first_gap, is_set, second_gap, word_at};
+use ch11_layout::{Layout, first_gap, is_set, second_gap};
 use mil_word::Command;
 use std::alloc::AllocError;
 
@@ -53,7 +53,7 @@ pub(crate) fn form_name(seen: &Seen<'_>) -> &'static [u8]
     if layout.commands == 0 {
         return b"";
     }
-    let first = Command::of(word_at(seen.words, 0));
+    let first = Command::of(seen.word(0));
     let to_all = first.is_broadcast();
     if first.is_mode() {
         if to_all { b"mode broadcast" } else { b"mode" }
@@ -82,7 +82,7 @@ fn push_receiver(row: &mut Row, seen: &Seen<'_>, layout: &Layout) -> Result<(), 
     requires { layout.now ≡ layout_of (message_of seen.now) }
     ensures { OnOk result (row.new ≡ row.old ++ spec.first_fields (message_of seen.now)) }
 {
-    let first = Command::of(word_at(seen.words, 0));
+    let first = Command::of(seen.word(0));
     let called = layout.commands > 0;
     push_if(row, called, first.address())?;
     push_if(row, called, first.subaddress())?;
@@ -95,7 +95,7 @@ fn push_sender(row: &mut Row, seen: &Seen<'_>, layout: &Layout) -> Result<(), Al
     requires { layout.now ≡ layout_of (message_of seen.now) }
     ensures { OnOk result (row.new ≡ row.old ++ spec.second_fields (message_of seen.now)) }
 {
-    let second = Command::of(word_at(seen.words, 1));
+    let second = Command::of(seen.word(1));
     let called = layout.commands == 2;
     push_if(row, called, second.address())?;
     push_if(row, called, second.subaddress())

@@ -9,7 +9,7 @@ use crate::clean::clean_once;
 use crate::words::statuses;
 use ch11_f1::Seen;
 use ch11_layout::block::MESSAGE_ERROR;
-use ch11_layout::{Layout, first_gap, is_set, second_gap, word_at};
+use ch11_layout::{Layout, first_gap, is_set, second_gap};
 use judge_rules::{Bounds, Check, Datum};
 
 /// How many ticks of 0.1 µs a microsecond has.
@@ -48,14 +48,14 @@ fn has_status(datum: &Datum, seen: &Seen<'_>) -> bool
     is_some_list(found.as_slice()) && all_agree(datum, found.as_slice())
 }
 
-/// Whether words from a place on have these values.
-fn words_agree(words: &[u8], place: usize, wanted: &[Datum]) -> bool
+/// Whether a message's words from a place on have these values.
+fn words_agree(seen: &Seen<'_>, place: usize, wanted: &[Datum]) -> bool
     requires { place + length wanted.now < 2 ^ 64 }
-    ensures { result ≡ spec.words_agree words.now place wanted.now }
+    ensures { result ≡ spec.words_agree seen.now.words.now place wanted.now }
 {
     let (mut next, mut rest) = (place, wanted);
     'words: while let Some((datum, others)) = rest.split_first() {
-        if !agrees(datum, word_at(words, next)) {
+        if !agrees(datum, seen.word(next)) {
             return false;
         }
         next += 1;
@@ -70,7 +70,7 @@ fn has_data(wanted: &[Datum], seen: &Seen<'_>) -> bool
 {
     let layout = Layout::of(seen);
     let count = layout.data_end.saturating_sub(layout.data_start);
-    count == wanted.len() && words_agree(seen.words, layout.data_start, wanted)
+    count == wanted.len() && words_agree(seen, layout.data_start, wanted)
 }
 
 /// Whether a number lies in bounds.

@@ -13,7 +13,7 @@ use ch11_layout::block::{
     FORMAT_ERROR, INVALID_WORD_ERROR, MESSAGE_ERROR, RESPONSE_TIMEOUT, SYNC_TYPE_ERROR,
     WORD_COUNT_ERROR,
 };
-use ch11_layout::{Layout, first_gap, is_set, second_gap, word_at};
+use ch11_layout::{Layout, first_gap, is_set, second_gap};
 use mil_message::Message;
 use mil_mode::{ModeRow, broadcast_allowed, mode_of};
 use mil_word::Command;
@@ -94,8 +94,8 @@ fn message_in(seen: &Seen<'_>, layout: &Layout) -> Option<Message>
     ensures { result ≡ spec.form_with (spec.parts_in (message_of seen.now)) }
 {
     let two = layout.commands == 2;
-    let first = word_at(seen.words, 0);
-    let second = if two { word_at(seen.words, 1) } else { 0 };
+    let first = seen.word(0);
+    let second = if two { seen.word(1) } else { 0 };
     let number = form_number(two, Command::of(first));
     if matches!(number, 0 | 5 | 6 | 9) {
         let words = data_words(seen, layout);
@@ -119,7 +119,7 @@ fn data_fit(message: &Message, count: usize, statuses: &[u16]) -> bool
 pub(crate) fn is_clean(seen: &Seen<'_>) -> bool
     ensures { result ≡ spec.clean (message_of seen.now) }
 {
-    if !has_no_error(seen.block) || !may_be_sent(Command::of(word_at(seen.words, 0))) {
+    if !has_no_error(seen.block) || !may_be_sent(Command::of(seen.word(0))) {
         return false;
     }
     let layout = Layout::of(seen);

@@ -7,7 +7,7 @@ ghost use Rattle.std.specs.Prelude.{◌≡◌, ◌≤◌, ◌-◌};
 
 use arrayvec::ArrayVec;
 use ch11_f1::Seen;
-use ch11_layout::{Layout, word_at};
+use ch11_layout::Layout;
 
 /// The status words of a message, in their order.
 pub(crate) fn statuses(seen: &Seen<'_>, layout: &Layout) -> ArrayVec<u16, 2>
@@ -16,10 +16,10 @@ pub(crate) fn statuses(seen: &Seen<'_>, layout: &Layout) -> ArrayVec<u16, 2>
 {
     let mut found = ArrayVec::new();
     if layout.commands < layout.data_start {
-        found.push(word_at(seen.words, layout.commands));
+        found.push(seen.word(layout.commands));
     }
     if layout.data_end < layout.words {
-        found.push(word_at(seen.words, layout.data_end));
+        found.push(seen.word(layout.data_end));
     }
     found
 }
@@ -33,7 +33,7 @@ pub(crate) fn data_words(seen: &Seen<'_>, layout: &Layout) -> ArrayVec<u16, 32>
     let mut found = ArrayVec::new();
     let count = layout.data_end.saturating_sub(layout.data_start);
     'words: for place in 0..count {
-        found.push(word_at(seen.words, layout.data_start + place));
+        found.push(seen.word(layout.data_start + place));
     }
     found
 }

@@ -6,7 +6,7 @@ ghost use Rattle.std.specs.Prelude.{◌≡◌};
 
 use ch11_f1::Seen;
 use ch11_layout::block::{LINE_B, TERMINAL_TO_TERMINAL};
-use ch11_layout::{is_set, word_at};
+use ch11_layout::is_set;
 use judge_rules::{Bus, Selector};
 use mil_word::Command;
 
@@ -106,7 +106,7 @@ fn selects_two(selector: Selector, first: Command, second: Command) -> bool
 fn commands(seen: &Seen<'_>) -> usize
     ensures { result ≡ commands_in (message_of seen.now) }
 {
-    let words = seen.words.len() / 2;
+    let words = seen.word_count();
     if words == 0 {
         0
     } else if is_set(seen.block, TERMINAL_TO_TERMINAL) && words > 1 {
@@ -120,11 +120,11 @@ fn commands(seen: &Seen<'_>) -> usize
 pub fn selects_commands(selector: Selector, seen: &Seen<'_>) -> bool
     ensures { result ≡ spec.selects_commands selector (message_of seen.now) }
 {
-    let first = Command::of(word_at(seen.words, 0));
+    let first = Command::of(seen.word(0));
     match commands(seen) {
         0 => matches!(selector, Selector::Any),
         1 => selects_one(selector, first),
-        _ => selects_two(selector, first, Command::of(word_at(seen.words, 1))),
+        _ => selects_two(selector, first, Command::of(seen.word(1))),
     }
 }
 

@@ -6,7 +6,7 @@ ghost use Rattle.std.specs.Prelude.{◌≡◌, ◌∷◌, [], List};
 
 use crate::counts::{counted, more};
 use ch11_f1::Seen;
-use ch11_layout::{Layout, is_set, word_at};
+use ch11_layout::{Layout, is_set};
 use mil_word::Status;
 
 /// How many status words came, and in how many of them each bit was set (MIL-STD-1553B 4.3.3.5.3). Counts go as far as
@@ -80,7 +80,7 @@ impl Replies {
         ensures { self.new ≡ spec.with_statuses (spec.word_before (message_of seen.now) place end) self.old }
     {
         if place < end {
-            self.note_status(word_at(seen.words, place));
+            self.note_status(seen.word(place));
         }
     }
 

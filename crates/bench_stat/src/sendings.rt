@@ -1,12 +1,11 @@
 //! How a recorded message was sent.
 ghost use Rattle.bench_stat.specs.Sendings as spec;
 ghost use Rattle.ch11_f1.specs.Views.{message_of};
-ghost use Rattle.ch11_layout.specs.Layouts.{word_of};
-ghost use Rattle.std.specs.Prelude.{◌≡◌, ◌/◌, nat_lt, length, if◌then◌else◌};
+ghost use Rattle.std.specs.Prelude.{◌≡◌};
 
 use ch11_f1::Seen;
 use ch11_layout::block::{LINE_B, MESSAGE_ERROR, TERMINAL_TO_TERMINAL};
-use ch11_layout::{is_set, word_at};
+use ch11_layout::is_set;
 
 /// Line, error and command words of a recorded message.
 #[derive(Clone, Copy, Debug, PartialEq, Eq)]
@@ -27,14 +26,14 @@ impl Sending {
         ensures { result ≡ spec.sending_of (message_of seen.now) }
     {
         let second = if is_set(seen.block, TERMINAL_TO_TERMINAL) {
-            command_at(seen.words, 1)
+            command_at(seen, 1)
         } else {
             None
         };
         Sending {
             line_b: is_set(seen.block, LINE_B),
             failed: is_set(seen.block, MESSAGE_ERROR),
-            first: command_at(seen.words, 0),
+            first: command_at(seen, 0),
             second,
         }
     }
@@ -51,11 +50,11 @@ impl Sending {
 }
 
 /// The bus word at a place, if there is one.
-fn command_at(words: &[u8], place: usize) -> Option<u16>
-    ensures { result ≡ (if nat_lt place (length words.now / 2) then Some (word_of words.now place) else None) }
+fn command_at(seen: &Seen<'_>, place: usize) -> Option<u16>
+    ensures { result ≡ spec.word_at place (message_of seen.now) }
 {
-    if place < words.len() / 2 {
-        Some(word_at(words, place))
+    if place < seen.word_count() {
+        Some(seen.word(place))
     } else {
         None
     }

@@ -61,7 +61,7 @@ impl Traffic {
     pub(crate) fn note(&mut self, seen: &Seen<'_>)
         ensures { self.new ≡ with_traffic (message_of seen.now) self.old }
     {
-        let words = seen.words.len() as u64 / 2;
+        let words = seen.word_count() as u64;
         let time = time_of(seen);
         self.messages = more(self.messages, 1);
         self.words = more(self.words, words);
@@ -79,6 +79,6 @@ pub(crate) fn time_of(seen: &Seen<'_>) -> u64
     let (first, second) = (first_gap(seen), second_gap(seen));
     let pauses = u64::from(u16::from(first).saturating_sub(CONTIGUOUS_GAP))
         + u64::from(u16::from(second).saturating_sub(CONTIGUOUS_GAP));
-    let words = seen.words.len() as u64 / 2;
+    let words = seen.word_count() as u64;
     more(words.saturating_mul(u64::from(WORD_TIME)), pauses)
 }

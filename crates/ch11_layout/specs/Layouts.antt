@@ -1,24 +1,14 @@
 -- Which words of a recorded message are commands, status words and data words (MIL-STD-1553B 4.3.3.6; IRIG 106-17
 -- Chapter 11, MIL-STD-1553 bus data packets, Format 1). A message of any form is commands, perhaps a status word, data
 -- words, and perhaps a status word; that a reply came is said by the gap times word, in which a gap of 0 is none.
-use Rattle.std.specs.Prelude.{ℕ, ◌+◌, ◌-◌, ◌*◌, ◌/◌, ◌%◌, ◌==◌, Bool, not, ◌&&◌, ◌||◌, nat_lt, if◌then◌else◌, List}
-use Rattle.std.specs.Prelude.{length, slice_index}
+use Rattle.std.specs.Prelude.{ℕ, ◌+◌, ◌-◌, ◌/◌, ◌%◌, ◌==◌, Bool, not, ◌&&◌, ◌||◌, nat_lt, if◌then◌else◌}
 use Rattle.mil_word.specs.Fields.{is_transmit, is_broadcast}
 use Rattle.ch11_f1.specs.BodyReading.{Message}
 use Rattle.ch11_layout.specs.BlockStatus.{is_transfer}
 use Rattle.ch11_layout.specs.declared.layouts.Layout.{Layout}
 use Rattle.ch11_layout.specs.declared.layouts.Role.{Role}
 use Rattle.ch11_layout.specs.declared.layouts.Role.TheVariants.{Command, Status, Data}
-
--- how many whole words a message has
-abbrev pub size_of : Message → ℕ
-size_of m = length m.bytes / 2
-
--- the word at a place, counted from 0, the low byte first; 0 past the end
-abbrev pub word_of : List ℕ → ℕ → ℕ
-word_of bytes place =
-    if nat_lt (2 * place + 1) (length bytes)
-    then slice_index bytes (2 * place) + 256 * slice_index bytes (2 * place + 1) else 0
+pub use Rattle.ch11_f1.specs.SeenWords.{size_of, word_of}
 
 abbrev pub first_word : Message → ℕ
 first_word m = word_of m.bytes 0

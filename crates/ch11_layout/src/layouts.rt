@@ -42,10 +42,10 @@ impl Layout {
         ensures start { result.data_start ≤ result.data_end }
         ensures end { result.data_end ≤ result.words }
     {
-        let words = seen.words.len() / 2;
+        let words = seen.word_count();
         let between = is_set(seen.block, TERMINAL_TO_TERMINAL);
         let commands = commands_of(words, between);
-        let first = Command::of(word_at(seen.words, 0));
+        let first = Command::of(seen.word(0));
         let answers = between || first.is_transmit() && !first.is_broadcast();
         let front = commands < words && first_gap(seen) != 0 && answers;
         let data_start = if front { commands + 1 } else { commands };
@@ -100,18 +100,6 @@ pub fn is_set(word: u16, place: u32) -> bool
     ensures { result ≡ has_bit place word }
 {
     word >> place & 1 == 1
-}
-
-/// The word at a place, counted from 0, of bus words as they lie in a body: two bytes each, the low one first. 0 where
-/// there is none.
-pub fn word_at(words: &[u8], place: usize) -> u16
-    ensures { result ≡ spec.word_of words.now place }
-{
-    if place < words.len() / 2 {
-        u16::from(words[2 * place]) + 256 * u16::from(words[2 * place + 1])
-    } else {
-        0
-    }
 }
 
 /// The gap of the first reply in ticks of 0.1 µs: 0 where there was none, 255 where it was that or longer.

@@ -7,4 +7,4 @@
 pub mod block;
 mod layouts;
 
-pub use layouts::{Layout, Role, first_gap, is_set, second_gap, word_at};
+pub use layouts::{Layout, Role, first_gap, is_set, second_gap};

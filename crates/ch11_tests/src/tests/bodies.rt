@@ -49,6 +49,16 @@ fn is_worked(rt: &impl Abort, seen: Option<Seen<'_>>) {
     let seen = seen.expect(rt, "a message");
     assert_eq!(rt; (seen.stamp, seen.block, seen.gaps), (0, 0, 0x50));
     are_bytes(rt, seen.words, &WORKED[18..]);
+    are_worked_words(rt, &seen);
+}
+
+/// The words of the worked body: a command word, three data words, a status word, and none behind it.
+fn are_worked_words(rt: &impl Abort, seen: &Seen<'_>) {
+    assert_eq!(rt; seen.word_count(), 5);
+    assert_eq!(rt;
+        (seen.word(0), seen.word(3), seen.word(4), seen.word(5)),
+        (0x2823, 3, 0x2800, 0)
+    );
 }
 
 #[test]

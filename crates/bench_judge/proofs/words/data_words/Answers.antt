@@ -9,7 +9,7 @@ pub words-preserved : goal.words-preserved
 words-preserved c =
     let word = λ (place : ℕ). word_of c.args.seen.now.words.now (c.args.layout.now.data_start + place) in
     record {
-      many = omega (arith, ap length c.push.ensures.items, length-append c.words.found.items (c.word_at.result ∷ []), c.words.invariant.many);
-      words = c.push.ensures.items ∙ ap (λ (xs : List ℕ). xs ++ c.word_at.result ∷ []) c.words.invariant.words
-          ∙ ap (λ (w : ℕ). map word (range_with_len 0 c.words.place) ++ w ∷ []) c.word_at.ensures ∙ sym (map-range_with_len_more word 0 c.words.place c.words.place (omega arith));
+      many = omega (arith, ap length c.push.ensures.items, length-append c.words.found.items (c.word.result ∷ []), c.words.invariant.many);
+      words = c.push.ensures.items ∙ ap (λ (xs : List ℕ). xs ++ c.word.result ∷ []) c.words.invariant.words
+          ∙ ap (λ (w : ℕ). map word (range_with_len 0 c.words.place) ++ w ∷ []) c.word.ensures ∙ sym (map-range_with_len_more word 0 c.words.place c.words.place (omega arith));
     }
