@@ -1,19 +1,15 @@
 -- How a file that a command writes is told by its beginning (own choice, but for the sync pattern of a packet:
 -- IRIG 106-17 Chapter 11, 11.2.1.1).
 use Rattle.std.specs.Prelude.{◌==◌, ◌||◌, ◌&&◌, ◌∷◌, [], ℕ, List, Bool, true, if◌then◌else◌, codes, nat_eq}
-use Rattle.std.specs.List.{starts_with}
+use Rattle.std.specs.List.{starts_with, after_first}
+use Rattle.text_lines.specs.Lines.{is_line_end}
 use Rattle.bench_files.specs.declared.kind.Kind.{Kind}
 use Rattle.bench_files.specs.declared.kind.Kind.TheVariants.{Recording, Report, Image, Rows, Picture, Verdicts, Waves}
-
--- what stands behind the first line feed
-abbrev pub behind_line : List ℕ → List ℕ
-behind_line [] = []
-behind_line (b ∷ rest) = if b == 10 then rest else behind_line rest
 
 -- the count of packets, or a channel with what it made (a job begins with its channel too)
 abbrev pub is_report : List ℕ → Bool
 is_report bytes = starts_with nat_eq bytes (codes "packets ")
-    || (starts_with nat_eq bytes (codes "channel ") && starts_with nat_eq (behind_line bytes) (codes "made "))
+    || (starts_with nat_eq bytes (codes "channel ") && starts_with nat_eq (after_first is_line_end bytes) (codes "made "))
 
 -- an empty file is of every kind
 abbrev pub is_of_kind : Kind → List ℕ → Bool

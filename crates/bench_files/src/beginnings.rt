@@ -1,31 +1,16 @@
 //! How what commands write is told by its beginning.
-ghost use Rattle.bench_files.specs.Kinds.{behind_line, is_of_kind, is_report};
+ghost use Rattle.bench_files.specs.Kinds.{is_of_kind, is_report};
 ghost use Rattle.std.specs.Prelude.{◌≡◌};
 
 use crate::kind::Kind;
-
-/// The bytes behind the first line feed; none where there is none.
-fn behind_line(bytes: &[u8]) -> &[u8]
-    ensures { result.now ≡ behind_line bytes.now }
-{
-    match bytes.split_first() {
-        None => bytes,
-        Some((first, rest)) => {
-            if *first == b'\n' {
-                rest
-            } else {
-                behind_line(rest)
-            }
-        }
-    }
-}
+use text_lines::split_line;
 
 /// Whether a file that begins so may be a report, and is no job, which begins with its channel too.
 fn is_report(beginning: &[u8]) -> bool
     ensures { result ≡ is_report beginning.now }
 {
     beginning.starts_with(b"packets ")
-        || (beginning.starts_with(b"channel ") && behind_line(beginning).starts_with(b"made "))
+        || (beginning.starts_with(b"channel ") && split_line(beginning).1.starts_with(b"made "))
 }
 
 /// Whether a file that begins so is of this kind, or has no byte, so that one of this kind may take its place. The

@@ -3,6 +3,7 @@ use Rattle.std.specs.Prelude.{◌≡◌, ℕ, ◌+◌, ◌==◌, Bool, true, fal
 use Rattle.std.specs.Prelude.{List, [], ◌∷◌, length, Option, Some, None, Result, Ok, Err, unwrap_or}
 use Rattle.std.specs.List.{list_all}
 use Rattle.std.specs.Str.{bytes_eq}
+use Rattle.mil_word.specs.Fields.{has_instrumentation}
 use Rattle.mil_word.specs.Fields.{has_bit, address_of, code_of, is_broadcast, is_transmit, is_mode, has_message_error}
 use Rattle.mil_word.specs.Fields.{has_busy, most_words}
 use Rattle.mil_word.specs.Timing.{least_response, latest_response}
@@ -89,7 +90,7 @@ form_with p = asked_for p (request_at p)
 -- a status word has the address that is due, and no bit that is reserved or marks an instruction (4.3.3.5.3)
 abbrev pub status_fits : ℕ → ℕ → Bool
 status_fits address status =
-    (address_of status == address) && not (has_bit 9 status)
+    (address_of status == address) && not (has_instrumentation status)
     && not (has_bit 7 status) && not (has_bit 6 status) && not (has_bit 5 status)
 
 -- a response time of 4 to 12 µs (4.3.3.8)

@@ -97,14 +97,6 @@ impl ChannelReport {
         &self.placed
     }
 
-    /// The refused numbers and the placed actions, in the memory that they have.
-    pub fn into_lists(self) -> (Vec<u32>, Actions)
-        ensures refused { result.0.items ≡ self.refused }
-        ensures placed { result.1 ≡ self.placed }
-    {
-        (self.refused, self.placed)
-    }
-
     /// A refused number behind those that are there.
     pub(crate) fn add_refused(&mut self, number: u32) -> Result<(), ReportFault>
         ensures { TakesIntoDraft result (with_refused self.old number) self.new }

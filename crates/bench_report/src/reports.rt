@@ -47,13 +47,6 @@ impl Report {
     {
         self.packets
     }
-
-    /// The channels, in the memory that they have.
-    pub fn into_channels(self) -> Vec<ChannelReport>
-        ensures { result.items ≡ self.channels }
-    {
-        self.channels
-    }
 }
 
 /// Each channel keeps its ranges.

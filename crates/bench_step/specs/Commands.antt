@@ -3,6 +3,7 @@ use Rattle.std.specs.Prelude.{ℕ, nat_le, Bool, ◌&&◌, if◌then◌else◌, 
 use Rattle.std.specs.Prelude.{codes}
 use Rattle.std.specs.List.{before_first, after_first}
 use Rattle.std.specs.Str.{bytes_eq}
+use Rattle.mil_word.specs.Fields.{highest_address, highest_subaddress}
 use Rattle.text_lines.specs.Words.{behind_word}
 use Rattle.text_lines.specs.Words.{first_word}
 use Rattle.numerals.specs.Numerals.{spelled}
@@ -176,7 +177,7 @@ data_asked (Some address) (Some subaddress) = if nat_le 1 subaddress then state 
 
 abbrev pub holding : Option (Text × Text) → Asked
 holding None = unknown
-holding (Some x) = data_asked (number_up_to 30 x.0) (number_up_to 30 x.1)
+holding (Some x) = data_asked (number_up_to highest_address x.0) (number_up_to highest_subaddress x.1)
 
 -- behind `show`: nothing, or the number of a message
 abbrev pub telling : List Text → Asked

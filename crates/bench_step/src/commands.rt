@@ -16,6 +16,7 @@ use bench_state::Detail;
 use frame_text::{ScriptError, read_cond};
 use frame_tree::Cond;
 use judge_rules::{Selector, selector_of};
+use mil_word::fields::{HIGHEST_ADDRESS, HIGHEST_SUBADDRESS};
 use numerals::spelled;
 use std::alloc::{AllocError, Global};
 use text_lines::{next_word, split_word};
@@ -263,7 +264,11 @@ fn holding(rest: &[u8]) -> Command
     let Some((address, subaddress)) = two_words(rest) else {
         return Command::Unknown;
     };
-    match (number_up_to(30, address), number_up_to(30, subaddress)) {
+    let address = number_up_to(u64::from(HIGHEST_ADDRESS), address);
+    match (
+        address,
+        number_up_to(u64::from(HIGHEST_SUBADDRESS), subaddress),
+    ) {
         (Some(address), Some(subaddress)) if 1 <= subaddress => Command::State(Detail::Data {
             address: address as u8,
             subaddress: subaddress as u8,

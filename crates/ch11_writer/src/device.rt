@@ -40,13 +40,6 @@ impl<W: Write> StdSink<W> {
     {
         &self.writer
     }
-
-    /// The writer as it stands, given back.
-    pub fn into_writer(self) -> W
-        ensures { result ≡ self.writer }
-    {
-        self.writer
-    }
 }
 
 impl<W: Write> Sink for StdSink<W> {

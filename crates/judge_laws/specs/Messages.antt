@@ -2,7 +2,7 @@
 use Rattle.std.specs.Prelude.{◌≡◌, ℕ, ◌<◌, ◌≤◌, ◌^◌, ◌||◌, true, false, List, [], ◌∷◌, ◌++◌, length, map, Some, None}
 use Rattle.std.specs.List.{list_any, AllByRecursion}
 use Rattle.mil_word.specs.declared.Line.{Line}
-use Rattle.mil_word.specs.Fields.{address_of, has_bit, highest_address}
+use Rattle.mil_word.specs.Fields.{address_of, has_bit, has_instrumentation, highest_address}
 use Rattle.mil_word.specs.Words.{command_wave, data_wave}
 use Rattle.mil_word.specs.Timing.{least_response, latest_response}
 use Rattle.mil_message.specs.declared.forms.Due.{Due}
@@ -70,7 +70,7 @@ pub record IsDueReply (due : Due) (gap status : ℕ) (values : List ℕ) : Type 
   pub no_later : gap ≤ latest_response
   pub small : status < 2 ^ 16
   pub address : address_of status ≡ due.address
-  pub reserved : (has_bit 9 status || has_bit 7 status || has_bit 6 status || has_bit 5 status) ≡ false
+  pub reserved : (has_instrumentation status || has_bit 7 status || has_bit 6 status || has_bit 5 status) ≡ false
   pub words : AllByRecursion (λ word. word < 2 ^ 16) values
   pub many : length values ≡ due.words
 

@@ -2,6 +2,7 @@
 use Rattle.std.specs.Prelude.{ℕ, List, [], ◌∷◌, drop, Ok, Err, Option, codes, if◌then◌else◌}
 use Rattle.std.specs.Str.{bytes_eq}
 use Rattle.text_lines.specs.Words.{Text, words}
+use Rattle.mil_mode.specs.Codes.{last_code}
 use Rattle.mil_word.specs.Fields.{highest_address, highest_subaddress}
 use Rattle.judge_rules.specs.declared.fault.RuleFault.TheVariants.{Word}
 use Rattle.judge_rules.specs.declared.rules.Selector.{Selector}
@@ -9,10 +10,6 @@ use Rattle.judge_rules.specs.declared.rules.Selector.TheVariants.{Any, Receive, 
 use Rattle.judge_rules.specs.declared.rules.Selector.TheVariants.{BetweenAll, ModeAll}
 use Rattle.judge_rules.specs.Faults.{Read, both, made, ended}
 use Rattle.judge_rules.specs.Values.{choice_in}
-
--- the highest mode code: the last of five bits (4.3.3.5.1.7)
-abbrev pub last_code : ℕ
-last_code = 31
 
 -- the address of a terminal, a subaddress that is none of mode commands, and a mode code (4.3.3.5.1)
 abbrev pub address_in : List Text → Read (Option ℕ)

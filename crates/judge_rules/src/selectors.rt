@@ -6,11 +6,9 @@ use crate::fault::{RuleFault, both};
 use crate::rules::Selector;
 use crate::values::read_choice;
 use crate::words::ended;
+use mil_mode::codes::LAST_CODE;
 use mil_word::fields::{HIGHEST_ADDRESS, HIGHEST_SUBADDRESS};
 use text_lines::Words;
-
-/// The highest mode code (MIL-STD-1553B 4.3.3.5.1.7).
-const LAST_CODE: u8 = 31;
 
 fn read_address(words: &mut Words<'_>) -> Result<Option<u8>, RuleFault>
     ensures value { result ≡ spec.address_in words.old }

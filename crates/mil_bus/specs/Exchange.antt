@@ -31,9 +31,9 @@ pub record Offer : Type 0 where
   pub gap : ℕ
   pub waves : List ℕ
 
--- as many runs are enough, since each but the last puts a word on the line
+-- as many runs as words may come, since each run but the last puts one on the line
 abbrev pub most_runs : ℕ
-most_runs = 40
+most_runs = most_sent
 
 -- what an exchange has come to: the words sent, and the stations in order of address
 pub record Standing : Type 0 where

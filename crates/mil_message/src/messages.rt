@@ -220,19 +220,6 @@ impl Message {
         words
     }
 
-    /// Puts the waves of the words that the controller sends in the place of the waves that were there.
-    pub fn put_waves(&self, waves: &mut Waves)
-        ensures { waves.new ≡ controller_waves self.now }
-    {
-        let commands = self.commands();
-        waves.clear();
-        waves.put(command(commands.first));
-        if let Some(second) = commands.second {
-            waves.put(command(second));
-        }
-        waves.put_data(self.data_words());
-    }
-
     /// The values of the words that the controller sends.
     pub fn values(&self) -> Values
         ensures waves { map command_wave (take result.commands result.words.items)

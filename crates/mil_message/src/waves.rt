@@ -61,14 +61,6 @@ impl Waves {
         &self.list[..self.count]
     }
 
-    /// Drops all waves.
-    #[inline]
-    pub fn clear(&mut self)
-        ensures { self.new ≡ [] }
-    {
-        self.count = 0;
-    }
-
     /// Puts the wave of a word behind the others.
     #[inline]
     pub fn put(&mut self, word: Word)

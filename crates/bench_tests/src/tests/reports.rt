@@ -192,11 +192,10 @@ fn report_with_placed(rt: &impl Abort, alloc: Global) -> Report {
 }
 
 /// The lists of a channel that refused nothing and has the two placed actions.
-fn has_placed(rt: &impl Abort, channel: ChannelReport) {
+fn has_placed(rt: &impl Abort, channel: &ChannelReport) {
     same_in(rt, "channel", &channel.channel(), &65535);
-    let (refused, placed) = channel.into_lists();
-    same_in(rt, "refused", &refused.len(), &0);
-    are_the_two(rt, &placed);
+    same_in(rt, "refused", &channel.refused().len(), &0);
+    are_the_two(rt, channel.placed());
 }
 
 fn are_the_two(rt: &impl Abort, placed: &Actions) {
@@ -219,7 +218,7 @@ fn prints_placed_actions(rt: HostRuntime) {
 fn reads_placed_actions(rt: HostRuntime) {
     let read = report_of(&rt, rt.alloc(), TWO_PLACED);
     same_in(&rt, "packets", &read.packets(), &9999999999);
-    let channels = read.into_channels();
+    let channels = read.channels();
     same_in(&rt, "channels", &channels.len(), &1);
     for channel in channels {
         has_placed(&rt, channel);

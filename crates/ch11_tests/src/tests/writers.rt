@@ -130,7 +130,6 @@ fn memory_and_a_writer_take_all(rt: HostRuntime) {
     are_bytes(&rt, sink.bytes(), &[1, 2, 3]);
     let held = takes_all(&rt, StdSink::make(Vec::new(rt.alloc())), &[3]);
     are_bytes(&rt, held.writer(), &[1, 2, 3]);
-    are_bytes(&rt, &held.into_writer(), &[1, 2, 3]);
 }
 
 #[test]

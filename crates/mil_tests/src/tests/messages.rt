@@ -3,8 +3,8 @@ use crate::tests::equal::{are_in, prints, same_in};
 use arrayvec::ArrayVec;
 use mil_message::Draft::{Between, BetweenAll, FromTerminal, ToAll, ToTerminal};
 use mil_message::ModeSubaddress::{ThirtyOne, Zero};
-use mil_message::{BadMessage, Draft, Due, Form, Message, ModeSubaddress, Waves};
-use mil_word::{Sync, Wave, Word};
+use mil_message::{BadMessage, Draft, Due, Form, Message, ModeSubaddress};
+use mil_word::{Sync, Wave, Word, encode};
 use std::process::Abort;
 
 mod refusals;
@@ -301,10 +301,8 @@ fn cloned(rt: &impl Abort, message: &Message) -> Message {
 
 /// Of two waves the second is that of a data word of zeros.
 fn has_second_wave(rt: &impl Abort, message: &Message) {
-    let mut room = Waves::none();
-    message.put_waves(&mut room);
-    let waves = room.as_slice();
-    let found = (waves.len(), waves.get(1).copied());
+    let words = message.controller_words();
+    let found = (words.len(), words.get(1).map(|word| encode(*word)));
     same_in(rt, "waves", &found, &(2, Some(Wave::of(0x1D_5555_5556))));
 }
 
