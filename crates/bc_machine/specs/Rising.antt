@@ -1,5 +1,5 @@
 -- Placed actions whose numbers never fall.
-use Rattle.std.specs.Prelude.{◌≡◌, ℕ, ◌<◌, ◌≤◌, List, [], ◌∷◌, length, slice_get, Some}
+use Rattle.std.specs.Prelude.{◌≡◌, ℕ, ◌<◌, ◌≤◌, List, length}
 use Rattle.std.specs.List.{AllWithin, insert}
 use Rattle.std.specs.List.Sorted.{IsNonDecreasingBy}
 use Rattle.bc_machine.specs.declared.placed.Placed.{Placed}

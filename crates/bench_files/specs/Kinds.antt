@@ -1,6 +1,6 @@
 -- How a file that a command writes is told by its beginning (own choice, but for the sync pattern of a packet:
 -- IRIG 106-17 Chapter 11, 11.2.1.1).
-use Rattle.std.specs.Prelude.{◌==◌, ◌||◌, ◌&&◌, ◌∷◌, [], ℕ, List, Bool, true, if◌then◌else◌, codes, nat_eq}
+use Rattle.std.specs.Prelude.{◌||◌, ◌&&◌, ◌∷◌, [], ℕ, List, Bool, true, codes, nat_eq}
 use Rattle.std.specs.List.{starts_with, after_first}
 use Rattle.text_lines.specs.Lines.{is_line_end}
 use Rattle.bench_files.specs.declared.kind.Kind.{Kind}

@@ -1,6 +1,6 @@
 -- What a tally says of the messages that were passed.
 use Rattle.std.specs.Prelude.{◌≡◌, ℕ, nat_eq, Bool, true, false, not, ◌&&◌, List, ◌++◌, length, map, reverse}
-use Rattle.std.specs.Prelude.{slice_get, take, ◌<◌, Option, None, Some}
+use Rattle.std.specs.Prelude.{slice_get, take, Option, None, Some}
 use Rattle.std.specs.HashMap.{get}
 use Rattle.std.specs.List.{flat_map}
 use Rattle.std.specs.Io.KnownBytes.{Appends}

@@ -1,8 +1,8 @@
 -- What a text spells: the report whose lines, from the first to the last, its lines say.
-use Rattle.std.specs.Prelude.{◌≡◌, ℕ, Bool, ◌==◌, if◌then◌else◌, List, [], ◌∷◌, ◌++◌, map, Some}
-use Rattle.std.specs.List.{slice_split, flat_map}
+use Rattle.std.specs.Prelude.{◌≡◌, List, [], ◌∷◌, ◌++◌, map, Some}
+use Rattle.std.specs.List.{flat_map}
 use Rattle.text_lines.specs.Lines.{text_lines}
-use Rattle.text_lines.specs.Words.{Text, has_bytes}
+use Rattle.text_lines.specs.Words.{Text}
 use Rattle.bench_report.specs.Reports.{ChannelPart, RunReport}
 use Rattle.bench_report.specs.Lines.{said}
 use Rattle.bench_report.specs.declared.lines.Line.{Line}

@@ -1,7 +1,7 @@
 -- A bound of a selection as it is written (own choice): the number of a message, as `7`, or a time with its unit, as
 -- `1.2s`, `350ms` or `12us`. Times are told in ticks of 0.1 µs (IRIG 106-17 Chapter 11), of which a second has 10 ^ 7,
 -- a millisecond 10 ^ 4 and a microsecond 10, and no digit stands for less than one of them.
-use Rattle.std.specs.Prelude.{ℕ, ◌+◌, ◌-◌, ◌*◌, ◌^◌, ◌==◌, Bool, if◌then◌else◌, List, [], ◌∷◌, length, take, drop}
+use Rattle.std.specs.Prelude.{ℕ, ◌+◌, ◌-◌, ◌*◌, ◌^◌, ◌==◌, Bool, if◌then◌else◌, [], ◌∷◌, length, take, drop}
 use Rattle.std.specs.Prelude.{Option, Some, None, option_map, codes}
 use Rattle.std.specs.List.{position_or_len}
 use Rattle.std.specs.Str.{bytes_eq}

@@ -1,13 +1,12 @@
 -- What a line of a session asks (own choice). Spaces alone part its words, so that a CR is part of one.
-use Rattle.std.specs.Prelude.{ℕ, nat_le, Bool, ◌&&◌, if◌then◌else◌, List, [], ◌∷◌, Option, Some, None, Result, Ok, Err}
+use Rattle.std.specs.Prelude.{ℕ, nat_le, if◌then◌else◌, List, [], ◌∷◌, Option, Some, None, Result, Ok, Err}
 use Rattle.std.specs.Prelude.{codes}
-use Rattle.std.specs.List.{before_first, after_first}
 use Rattle.std.specs.Str.{bytes_eq}
 use Rattle.mil_word.specs.Fields.{highest_address, highest_subaddress}
 use Rattle.text_lines.specs.Words.{behind_word}
 use Rattle.text_lines.specs.Words.{first_word}
 use Rattle.numerals.specs.Numerals.{spelled}
-use Rattle.text_lines.specs.Words.{Text, is_space, words}
+use Rattle.text_lines.specs.Words.{Text, words}
 use Rattle.frame_tree.specs.Tree.{Condition, condition_in}
 use Rattle.frame_text.specs.Conditions.{condition_of_text}
 use Rattle.frame_text.specs.declared.faults.Cause.{Cause}

@@ -24,7 +24,7 @@ use Rattle.bench_step.specs.HelpText.{help_text}
 use Rattle.bench_step.specs.declared.commands.Way.{Way}
 use Rattle.bench_step.specs.declared.commands.Way.TheVariants.{On, Back}
 use Rattle.bench_step.specs.declared.manners.Manner.{Manner}
-use Rattle.bench_step.specs.declared.manners.Manner.TheVariants.{Given, Typed}
+use Rattle.bench_step.specs.declared.manners.Manner.TheVariants.{Typed}
 use Rattle.bench_step.specs.declared.replies.Reply.{Reply}
 use Rattle.bench_step.specs.declared.replies.Reply.TheVariants as reply
 

@@ -1,5 +1,5 @@
 -- What reading tokens from left to right comes to: what was read and the tokens after it, or the first fault.
-use Rattle.std.specs.Prelude.{◌≡◌, ◌<◌, ℕ, nat_eq, Bool, true, false, ◌&&◌, ◌||◌, if◌then◌else◌, List, [], ◌∷◌, ◌++◌}
+use Rattle.std.specs.Prelude.{◌≡◌, ◌<◌, ℕ, Bool, false, ◌||◌, if◌then◌else◌, List, [], ◌∷◌, ◌++◌}
 use Rattle.std.specs.Prelude.{length, Result, Ok, Err, codes}
 use Rattle.frame_text.specs.Tokens.{in_word, tokens, BeginsToken}
 use Rattle.frame_text.specs.declared.faults.Cause.{Cause}

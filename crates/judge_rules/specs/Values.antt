@@ -1,5 +1,5 @@
 -- Values in the words of a rule (own choice).
-use Rattle.std.specs.Prelude.{ℕ, Bool, true, false, ◌&&◌, nat_le, ◌==◌, slice_index, List, [], ◌∷◌, drop, take, length}
+use Rattle.std.specs.Prelude.{ℕ, ◌&&◌, nat_le, ◌==◌, slice_index, List, [], ◌∷◌, drop, take, length}
 use Rattle.std.specs.Prelude.{Ok, Err, Option, Some, None, codes, if◌then◌else◌}
 use Rattle.std.proofs.Common.{zero, suc}
 use Rattle.std.specs.Str.{bytes_eq}
