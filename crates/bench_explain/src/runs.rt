@@ -111,25 +111,26 @@ pub(crate) static EXPLANATIONS: [Explanation; 23] = [
     Explanation {
         code: "E1",
         means: "a capacity of a mailbox outside 1 to 4096 posts",
-        remedy: "Only programs that use bench_run see it: choose a capacity in the range.",
+        remedy: "Only programs that use bench_mail see it: choose a capacity in the range.",
         example: "Mailbox::make",
     },
     Explanation {
         code: "E2",
         means: "memory was refused for a mailbox",
-        remedy: "Only programs that use bench_run see it: give the program more memory.",
+        remedy: "Only programs that use bench_mail see it: give the program more memory.",
         example: "Mailbox::make",
     },
     Explanation {
         code: "E3",
         means: "a post to an address at which the job has no terminal",
-        remedy: "Only programs that use bench_run see it: post to a terminal of the job.",
-        example: "Mailbox::post",
+        remedy: "Post to a terminal that the job of the channel names; a line of bench run --live has the channel, \
+            the address and the action.",
+        example: "bench: E3 line 4",
     },
     Explanation {
         code: "E4",
         means: "a post to a mailbox that is full",
-        remedy: "Only programs that use bench_run see it: post again later, or make a larger mailbox.",
+        remedy: "Only programs that use bench_mail see it: post again later, or make a larger mailbox.",
         example: "Mailbox::post",
     },
     Explanation {

@@ -1,7 +1,7 @@
 //! Files that are written beside their place, by one process at a time, and take it once they are whole, so that
 //! what was there is kept until then.
 //!
-//! It may know: no other crate. It has no tests: files are tried by `.ci/commands`. Its wrong bodies: `edits/`.
+//! It may know: lines of a text. It has no tests: files are tried by `.ci/commands`. Its wrong bodies: `edits/`.
 #![tactic(auto)]
 
 mod beginnings;

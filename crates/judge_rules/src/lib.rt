@@ -1,6 +1,7 @@
 //! Rules by which a recording is judged: what they are, and the texts that spell them.
 //!
-//! It may know: words, numbers and words of a text. Its tests: `command_tests`. Its wrong bodies: `edits/`.
+//! It may know: words, mode codes, numbers and words of a text. Its tests: `command_tests`. Its wrong bodies:
+//! `edits/`.
 #![tactic(auto)]
 
 mod channels;

@@ -2,7 +2,7 @@
 use crate::looks::equal::{reads, same_in};
 use bench_explain::{explain, groups, print_explanation, print_list};
 
-/// Every code that a crate of the house prints, and the words that stand for one.
+/// Every code that a crate below prints, and the words that stand for one.
 const CODES: [&str; 94] = [
     "S1", "S2", "S3", "S4", "S5", "S6", "S7", "S8", "S9", "S10", "S11", "M1", "M2", "M3", "M4",
     "M5", "A1", "A2", "A3", "P1", "P2", "P3", "P4", "P5", "P6", "P7", "P8", "C1", "C2", "C3", "C4",
