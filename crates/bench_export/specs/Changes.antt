@@ -38,7 +38,8 @@ driven_at n m place = record {
 
 -- a change of the line of a message
 abbrev pub change_of : Message → ℕ → ℕ → Option Driven → Change
-change_of m channel tick driven = record { tick = tick; channel = channel; on_b = is_on_line_b m.block; driven = driven }
+change_of m channel tick driven =
+    record { tick = tick; channel = channel; on_b = is_on_line_b m.block; driven = driven }
 
 -- a word begins; 200 ticks later the line is idle, unless the next word of the message begins then
 unfoldable pub changes_at : ℕ → ℕ → Message → ℕ → List Change

@@ -9,7 +9,8 @@ use Rattle.bench_files.specs.declared.kind.Kind.TheVariants.{Recording, Report, 
 -- the count of packets, or a channel with what it made (a job begins with its channel too)
 abbrev pub is_report : List ℕ → Bool
 is_report bytes = starts_with nat_eq bytes (codes "packets ")
-    || (starts_with nat_eq bytes (codes "channel ") && starts_with nat_eq (after_first is_line_end bytes) (codes "made "))
+    || (starts_with nat_eq bytes (codes "channel ")
+    && starts_with nat_eq (after_first is_line_end bytes) (codes "made "))
 
 -- an empty file is of every kind
 abbrev pub is_of_kind : Kind → List ℕ → Bool

@@ -1,5 +1,6 @@
 //! Why `bench` stops, and with which exit status.
-ghost use Rattle.bench_requests.specs.Status.{status_of, fault_of, fault_of_reading, fault_of_settings, IsOfOut, IsOfStep};
+ghost use Rattle.bench_requests.specs.Status.{status_of, fault_of, fault_of_reading, fault_of_settings};
+ghost use Rattle.bench_requests.specs.Status.{IsOfOut, IsOfStep};
 ghost use Rattle.bench_requests.specs.declared.fault.Fault.TheVariants as faults;
 ghost use Rattle.std.specs.Prelude.{◌≡◌};
 
