@@ -1,6 +1,7 @@
--- When a packet says that messages are missing (IRIG 106-17 Chapter 11, 11.2.1.1: packet flags, bit 4).
-use Rattle.std.specs.Prelude.{◌==◌, Bool, not, bit_and}
+-- When a packet says that messages are missing.
+use Rattle.std.specs.Prelude.{Bool}
+use Rattle.ch11_header.specs.Flags.{has_overflow}
 use Rattle.ch11_reader.specs.declared.packet.Packet.{Packet}
 
-abbrev pub has_overflow : Packet → Bool
-has_overflow packet = not (bit_and packet.header.flags 16 == 0)
+abbrev pub is_marked : Packet → Bool
+is_marked packet = has_overflow packet.header

@@ -1,7 +1,7 @@
 //! What the commands of `bench` make of a request: its files, its jobs, its settings, and why it is refused with
 //! which exit status.
 //!
-//! It may know: jobs, the reader, the packets of a stream, reports, the bench one step at a time, runs, rules,
+//! It may know: jobs, headers, the reader, the packets of a stream, reports, the bench one step at a time, runs, rules,
 //! files, words of a text, and the faults of `bench_one`, `bench_assemble`, `bench_dump` and `bench_step`. It has
 //! no tests: what it says is tried by `.ci/commands` and `.ci/faults`. Its wrong bodies: `edits/`.
 #![tactic(auto)]

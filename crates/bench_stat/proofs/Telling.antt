@@ -9,7 +9,7 @@ use Rattle.std.proofs.lemmas.List.{append-nil, length-append, reverse-append, re
 use Rattle.std.proofs.lemmas.List.Elements.{filter-append}
 use Rattle.std.proofs.lemmas.List.Folds.{list_any-append}
 use Rattle.std.proofs.lemmas.List.Sums.{count_by-le-length, length-filter}
-use Rattle.mil_word.specs.Fields.{has_bit}
+use Rattle.ch11_header.specs.Flags.{has_overflow}
 use Rattle.ch11_f1.specs.BodyReading.{Message}
 use Rattle.ch11_reader.specs.declared.packet.Packet.{Packet}
 use Rattle.ch11_reader.specs.Listing.{listed_behind, listing_behind, listing}
@@ -91,7 +91,7 @@ few_listed ps few = omega (arith, few, length_listing [] ps)
 losses_elsewhere : (channel : ℕ) (ps : List Found) (q : Found) (p : Packet) → p ≡ listed_behind (reverse ps) q → (p.header.channel ≡ channel → ⊥) → losses_of channel (listing (ps ++ q ∷ [])) ≡ losses_of channel (listing ps)
 losses_elsewhere channel ps q p is other =
     ap (losses_of channel) (listing_one ps q p is)
-    ∙ ap (λ (n : ℕ). losses n (length (filter (jumps channel) (listing ps ++ p ∷ [])))) (no_more (overflows channel) (listing ps) p (ap (λ (b : Bool). b && has_bit 4 p.header.flags) differs))
+    ∙ ap (λ (n : ℕ). losses n (length (filter (jumps channel) (listing ps ++ p ∷ [])))) (no_more (overflows channel) (listing ps) p (ap (λ (b : Bool). b && has_overflow p.header) differs))
     ∙ ap (losses (length (filter (overflows channel) (listing ps)))) (no_more (jumps channel) (listing ps) p (ap (λ (b : Bool). b && p.sequence_jump) differs))
   where
     differs : (p.header.channel == channel) ≡ false

@@ -3,7 +3,7 @@
 -- number).
 use Rattle.std.specs.Prelude.{ℕ, ◌==◌, Bool, ◌&&◌, List, length}
 use Rattle.std.specs.List.{filter}
-use Rattle.mil_word.specs.Fields.{has_bit}
+use Rattle.ch11_header.specs.Flags.{has_overflow}
 use Rattle.ch11_f1.specs.BodyReading.{Message}
 use Rattle.ch11_reader.specs.declared.packet.Packet.{Packet}
 use Rattle.bench_stat.specs.declared.details.Details.{Details}
@@ -14,9 +14,9 @@ use Rattle.bench_stat.specs.Replies.{replies_of}
 abbrev pub details_of : List Message → Details
 details_of history = record { flow = flow_of history; replies = replies_of history }
 
--- packets of a channel with the overflow flag, bit 4 of the flags
+-- packets of a channel with the overflow flag
 abbrev pub overflows : ℕ → Packet → Bool
-overflows channel p = (p.header.channel == channel) && has_bit 4 p.header.flags
+overflows channel p = (p.header.channel == channel) && has_overflow p.header
 
 -- those whose sequence number does not follow that of the packet before
 abbrev pub jumps : ℕ → Packet → Bool

@@ -7,11 +7,7 @@ ghost use Rattle.ch11_reader.specs.declared.packet.Packet.{Packet as PacketValue
 ghost use Rattle.std.specs.List.{filter};
 ghost use Rattle.std.specs.Prelude.{◌≡◌, ℕ, ◌+◌, ◌-◌, ◌<◌, ◌^◌, ◌++◌, ◌∷◌, [], List, length};
 
-use ch11_layout::is_set;
 use ch11_reader::{Index, Packet};
-
-/// The place of the packet flag that says that a message is missing (IRIG 106-17, 11.2.1.1).
-const OVERFLOW: u32 = 4;
 
 /// How many packets of a channel say that messages are missing.
 #[derive(Clone, Copy, Debug, PartialEq, Eq)]
@@ -87,7 +83,7 @@ fn jumps(packets: &[Packet], channel: u16) -> usize
 fn has_overflow(packet: &Packet, channel: u16) -> bool
     ensures { result ≡ spec.overflows channel packet.now }
 {
-    packet.header.channel == channel && is_set(u16::from(packet.header.flags), OVERFLOW)
+    packet.header.channel == channel && packet.header.has_overflow()
 }
 
 fn is_jump(packet: &Packet, channel: u16) -> bool

@@ -4,6 +4,7 @@ use Rattle.std.specs.Prelude.{ℕ, ◌+◌, ◌*◌, ◌-◌, ◌/◌, ◌%◌, 
 use Rattle.std.specs.Prelude.{◌++◌, length, take, map}
 use Rattle.mil_monitor.specs.declared.Record.{Record}
 use Rattle.ch11_header.specs.declared.header.Header.{Header}
+use Rattle.ch11_header.specs.Flags.{overflow}
 use Rattle.ch11_header.specs.HeaderBytes.{header_bytes}
 use Rattle.ch11_header.specs.Kinds.{bus_messages}
 use Rattle.ch11_f1.specs.BodyBytes.{words_of, body_bytes}
@@ -51,7 +52,7 @@ pub record Channel : Type 0 where
   pub limit : ℕ
 
 -- The header of the packet of the records. `place` packets of the channel stand before it, and `before` is the number
--- of the last record in them, 0 where there is none. Flag bit 4, overflow, says that a record is missing.
+-- of the last record in them, 0 where there is none. The flag overflow says that a record is missing.
 abbrev pub header_of : Channel → ℕ → ℕ → List Numbered → Header
 header_of c place before ns = record {
   channel = c.channel;
@@ -59,7 +60,7 @@ header_of c place before ns = record {
   data_length = 4 + size_of ns;
   version = c.version;
   sequence = place % 256;
-  flags = if has_gap before ns then 0x10 else 0;
+  flags = if has_gap before ns then overflow else 0;
   kind = bus_messages;
   counter = first_stamp ns;
 }

@@ -3,6 +3,7 @@ ghost use Rattle.ch11_builder.specs.Built.{State};
 ghost use Rattle.ch11_builder.specs.Cutting.{is_empty};
 ghost use Rattle.ch11_builder.specs.Held.{Held, fresh, fits, pushed, closed, with_record, packet_of, latest_number};
 ghost use Rattle.ch11_builder.specs.Packet.{packet_length};
+ghost use Rattle.ch11_header.specs.Flags.{overflow};
 ghost use Rattle.std.specs.Prelude.{if◌then◌else◌, length, vec_len, IfOk, IfErr};
 ghost use Rattle.std.specs.Prelude.{◌≡◌, [], ◌∷◌, ◌++◌, ◌+◌, ◌≤◌, ◌<◌, ◌^◌, ◌==◌, ◌||◌, true, false, not};
 
@@ -10,8 +11,8 @@ use crate::error::BuilderError;
 use crate::numbered::NumberedRecord;
 use crate::sealing::{FIRST_MESSAGE, padded, put_behind, seal};
 use ch11_f1::RECORD_HEAD;
-use ch11_header::Header;
 use ch11_header::kinds::BUS_MESSAGES;
+use ch11_header::{Header, OVERFLOW};
 use history::History;
 use mil_monitor::Record;
 use std::alloc::Global;
@@ -19,9 +20,6 @@ use std::marker::Model;
 
 /// Packets span less than this many ticks of 0.1 µs from their first stamp to their last.
 const LONGEST: u64 = 1_000_000;
-
-/// Flag bit 4.
-const OVERFLOW: u8 = 0x10;
 
 /// Two buffers: the one with the open packet, and the one with the packet that was finished last.
 #[derive(Drop)]
@@ -69,10 +67,10 @@ fn jumps(overflow: bool, last: u64, number: u64) -> bool
     overflow || number != last + 1
 }
 
-fn flags_of(overflow: bool) -> u8
-    ensures { result ≡ (if overflow then 16 else 0) }
+fn flags_of(missing: bool) -> u8
+    ensures { result ≡ (if missing then overflow else 0) }
 {
-    if overflow { OVERFLOW } else { 0 }
+    if missing { OVERFLOW } else { 0 }
 }
 
 /// A buffer of so many bytes.

@@ -3,3 +3,4 @@ pub mod HeaderReading
 pub mod Examples
 pub mod Codes
 pub mod Kinds
+pub mod Flags

@@ -1,4 +1,5 @@
 //! The header of a packet, written and read (IRIG 106-17 Chapter 11, packet header).
+ghost use Rattle.ch11_header.specs.Flags.{has_overflow};
 ghost use Rattle.ch11_header.specs.HeaderBytes.{header_bytes, header_sum};
 ghost use Rattle.ch11_header.specs.HeaderReading.{body_start, header_in, with_lawful_lengths};
 ghost use Rattle.std.specs.Prelude.{◌≡◌, ◌+◌, ◌<◌, ◌≤◌, ◌^◌, length, IfOk};
@@ -11,6 +12,9 @@ pub(crate) const SYNC: u16 = 0xEB25;
 
 /// How many bytes a header has.
 pub const HEADER_SIZE: usize = 24;
+
+/// The packet flag 'overflow', bit 4 (11.2.1.1): a message is missing.
+pub const OVERFLOW: u8 = 0x10;
 
 /// What the header of a packet says.
 #[derive(Clone, Copy, Debug, PartialEq, Eq)]
@@ -59,6 +63,13 @@ impl Header {
         ensures { result ≡ body_start self.now }
     {
         if self.flags >= 128 { 36 } else { 24 }
+    }
+
+    /// Whether the overflow flag is set: a message is missing.
+    pub fn has_overflow(&self) -> bool
+        ensures { result ≡ has_overflow self.now }
+    {
+        self.flags & OVERFLOW != 0
     }
 
     /// The header itself where its lengths are lawful.

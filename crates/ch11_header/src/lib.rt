@@ -10,5 +10,5 @@ pub mod kinds;
 mod laws;
 
 pub use error::HeaderError;
-pub use header::{HEADER_SIZE, Header, read_header, write_header};
+pub use header::{HEADER_SIZE, Header, OVERFLOW, read_header, write_header};
 pub use laws::written_is_read;
