@@ -1,5 +1,5 @@
 -- The actions placed at a message, and its exchange.
-use Rattle.std.proofs.Common.{ap, ◌≡◌, ◌≤◌, ◌+◌, ℕ, suc, List, [], ◌∷◌, refl, ap₂, max, arith}
+use Rattle.std.proofs.Common.{ap, ◌≡◌, ◌≤◌, ◌+◌, ◌∙◌, ℕ, suc, List, [], ◌∷◌, refl, sym, ap₂, max, arith}
 use Rattle.mil_word.specs.declared.Line.{Line}
 use Rattle.mil_message.specs.declared.forms.Form.{Form}
 use Rattle.mil_line.specs.declared.faults.Fault.{Fault}
@@ -37,9 +37,9 @@ unfolding ready
 ready_start placed number b = acted_start (placed_at number placed) b
 
 -- an exchange adds its talk
-pub exchanged_talks : (b : BusState) (line : Line) (message : Form) (gap : ℕ) (faults : List Fault) → (exchanged b line message gap faults).talks ≡ talk_of b line message gap faults ∷ b.talks
+pub exchanged_talks : (b after : BusState) (line : Line) (message : Form) (gap : ℕ) (faults : List Fault) (talk : Talk) → after ≡ exchanged b line message gap faults → talk ≡ talk_of b line message gap faults → after.talks ≡ talk ∷ b.talks
 unfolding exchanged
-exchanged_talks b line message gap faults = refl
+exchanged_talks b after line message gap faults talk is same = ap (λ (v : BusState). v.talks) is ∙ ap (λ t. t ∷ b.talks) (sym same)
 
 -- a talk starts where the one before has ended, or later, and ends where it starts, or later
 starts_after : (start : ℕ) (talks : List Talk) (gap : ℕ) → clock_of start talks ≤ next_start start talks gap

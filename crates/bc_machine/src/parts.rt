@@ -17,7 +17,7 @@ ghost use Rattle.std.specs.Prelude.{OnOk, OnErr};
 ghost use Rattle.std.specs.Prelude.{◌≡◌, ◌<◌, ◌≤◌, ◌+◌, ◌^◌, ◌≢◌, Some, None, if◌then◌else◌, slice_get, length, IfOk};
 
 use crate::begun::{Begun, begun_with, same};
-use crate::messages::exchange;
+use crate::messages::act_both;
 use crate::outcomes::{asks, other};
 use crate::progress::Progress;
 use crate::saved::SavedParts;
@@ -243,16 +243,16 @@ impl Parts {
             *own
         };
         self.progress.number += 1;
+        let number = self.progress.number;
+        act_both(&mut self.bus, &self.placed, &self.posted, number);
+        let faults = self.plan.faults(number);
+        let gap = self.progress.gap;
         let mut seen = TalkCounts::none();
-        let verdict = exchange(
-            &mut self.bus,
-            &self.plan,
-            &self.placed,
-            &self.posted,
-            self.progress.number,
+        let verdict = self.bus.exchange_into(
             line,
             message,
-            self.progress.gap,
+            gap,
+            faults.as_slice(),
             &mut self.talk,
             &mut seen,
         );
