@@ -12,7 +12,6 @@ mod frames;
 mod laws;
 mod lookup;
 mod machine;
-mod messages;
 mod outcomes;
 mod parts;
 mod placed;

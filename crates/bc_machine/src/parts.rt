@@ -17,11 +17,10 @@ ghost use Rattle.std.specs.Prelude.{OnOk, OnErr};
 ghost use Rattle.std.specs.Prelude.{◌≡◌, ◌<◌, ◌≤◌, ◌+◌, ◌^◌, ◌≢◌, Some, None, if◌then◌else◌, slice_get, length, IfOk};
 
 use crate::begun::{Begun, begun_with, same};
-use crate::messages::act_both;
 use crate::outcomes::{asks, other};
 use crate::progress::Progress;
 use crate::saved::SavedParts;
-use crate::schedule::Schedule;
+use crate::schedule::{Schedule, act_both};
 use crate::stack::Stack;
 use crate::{Actions, Stepped};
 use frame_code::Op;

@@ -256,3 +256,12 @@ impl Schedule {
         })
     }
 }
+
+/// The actions that are placed at a number act: those of the beginning, and then those that were placed later.
+pub fn act_both(bus: &mut Bus, placed: &Schedule, posted: &Schedule, number: u32)
+    ensures bus { bus.new ≡ ready (placed.now.actions ++ posted.now.actions) number bus.old }
+    ensures clock { now_of bus.new ≡ now_of bus.old }
+{
+    placed.act_at(bus, number);
+    posted.act_at(bus, number);
+}

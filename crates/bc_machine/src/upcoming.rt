@@ -10,9 +10,9 @@ ghost use Rattle.std.specs.Prelude.{◌≡◌, true, ◌<◌, ◌≤◌, ◌^◌
 
 use crate::laws::BusSetting;
 use crate::machine::Machine;
-use crate::messages::act_both;
 use crate::outcomes::other;
 use crate::parts::Parts;
+use crate::schedule::act_both;
 use frame_code::Op;
 use frame_load::loadable_runs;
 use mil_bus::{Bus, Talk};

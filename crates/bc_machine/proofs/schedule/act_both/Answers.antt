@@ -1,7 +1,7 @@
 use Rattle.std.proofs.Common.{ap, ◌∙◌}
 use Rattle.bc_machine.specs.Controller.{ready}
 use Rattle.bc_machine.proofs.Posted.{ready_both}
-use Rattle.bc_machine.proofs.messages.act_both.Goals as goal
+use Rattle.bc_machine.proofs.schedule.act_both.Goals as goal
 
 pub returns-clause-bus : goal.returns-clause-bus
 returns-clause-bus c =
