@@ -99,8 +99,8 @@ fn add_numbered(
     Ok(())
 }
 
-/// Prints the lines of a message, and keeps what is found.
-fn note<W: Write>(
+/// The lines of a message; what is found is kept.
+fn note(
     alloc: Global,
     job: &Job,
     filled: &Filled,
@@ -108,8 +108,7 @@ fn note<W: Write>(
     coming: &Upcoming,
     unmet: &mut Vec<(u32, Fault)>,
     told: &mut Told,
-    out: &mut W,
-) -> Result<(), WriteFault>
+) -> Result<String, AllocError>
     requires rising { IsRising filled.now }
     requires clock { now_of coming.now.bus < 2 ^ 60 }
     requires start { coming.now.talk.start ≡ talk_start coming.now.bus coming.now.gap }
@@ -126,8 +125,7 @@ fn note<W: Write>(
     put_outcome(&mut text, &coming.talk, told.bits)?;
     told.calls.note(number, &coming.talk.message);
     told.oddities.note(number, filled, &coming.talk);
-    out.write_all(text.as_bytes())?;
-    Ok(())
+    Ok(text)
 }
 
 /// The actions of a job by rising numbers, and where they put words up. It fails for want of memory alone.
@@ -195,7 +193,7 @@ impl Trial {
         match self.machine.upcoming()? {
             Some(coming) => {
                 let number = self.machine.number() + 1;
-                note(
+                let text = note(
                     alloc,
                     job,
                     filled,
@@ -203,8 +201,8 @@ impl Trial {
                     &coming,
                     &mut self.unmet,
                     &mut self.told,
-                    out,
                 )?;
+                out.write_all(text.as_bytes())?;
                 let _ = self.machine.step();
                 Ok(true)
             }
