@@ -3,6 +3,7 @@
 use Rattle.std.specs.Prelude.{◌≡◌, ℕ, ◌+◌, ◌*◌, ◌<◌, ◌==◌, ◌&&◌, Bool, false, nat_le, List, length, slice_index_or}
 use Rattle.std.specs.Prelude.{Option, Some, None}
 use Rattle.std.specs.List.{list_any}
+use Rattle.mil_word.specs.Fields.{field_values}
 use Rattle.mil_host.specs.declared.actions.Action.{Action}
 use Rattle.mil_host.specs.declared.actions.Action.TheVariants.{Transmit}
 use Rattle.bc_machine.specs.declared.placed.Placed.{Placed}
@@ -26,6 +27,7 @@ is_reached (Some first) number = nat_le first number
 
 -- for each address and subaddress the least number at which one of the actions puts words up there is kept
 pub record AreFirsts (firsts : List (Option ℕ)) (actions : List Placed) : Type 0 where
-  pub all : length firsts ≡ 1024
-  pub told : (number address sub : ℕ) → address < 32 → sub < 32
-      → is_reached (slice_index_or firsts (32 * address + sub) None) number ≡ is_filled number address sub actions
+  pub all : length firsts ≡ field_values * field_values
+  pub told : (number address sub : ℕ) → address < field_values → sub < field_values
+      → is_reached (slice_index_or firsts (field_values * address + sub) None) number
+      ≡ is_filled number address sub actions

@@ -1,23 +1,21 @@
 //! Which terminals the messages of a job call.
 use mil_message::Message;
 use mil_word::Command;
-
-/// How many addresses there are, the last of them that of all terminals.
-const ADDRESSES: usize = 32;
+use mil_word::fields::FIELD_VALUES;
 
 /// Who was called: for each address how many commands call it, and the number of the first message that does.
 #[derive(Clone, Copy, Debug)]
 pub struct Calls {
-    counts: [u32; ADDRESSES],
-    firsts: [u32; ADDRESSES],
+    counts: [u32; FIELD_VALUES],
+    firsts: [u32; FIELD_VALUES],
 }
 
 impl Calls {
     /// Nobody was called yet.
     pub(crate) fn none() -> Calls {
         Calls {
-            counts: [0; ADDRESSES],
-            firsts: [0; ADDRESSES],
+            counts: [0; FIELD_VALUES],
+            firsts: [0; FIELD_VALUES],
         }
     }
 

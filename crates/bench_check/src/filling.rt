@@ -1,17 +1,16 @@
 //! Whether a terminal has words to transmit.
 ghost use Rattle.bc_machine.specs.declared.placed.Placed.{Placed as PlacedAction};
 ghost use Rattle.bench_check.specs.Filling as spec;
+ghost use Rattle.mil_word.specs.Fields.{field_values};
 ghost use Rattle.std.specs.Prelude.{◌≡◌, ◌+◌, ◌*◌, ◌<◌, ◌++◌, ◌∷◌, [], ℕ, List, nat_le, ◌||◌};
 
 use bc_machine::{Actions, Placed};
 use mil_host::Action;
+use mil_word::fields::FIELD_VALUES;
 use std::marker::Model;
 
-/// How many addresses there are, and how many subaddresses.
-const ADDRESSES: u8 = 32;
-
 /// How many pairs of an address and a subaddress there are.
-const PAIRS: usize = 1024;
+const PAIRS: usize = FIELD_VALUES * FIELD_VALUES;
 
 /// Placed actions, and for each terminal and subaddress from which message on they have put words up there, so that a
 /// look at it takes the same time however many actions there are. Contracts see the actions alone.
@@ -57,8 +56,8 @@ impl Filled {
     /// Whether the host of a terminal put words up at a subaddress, by one of these actions, before or at the message
     /// of a number, counted from 1.
     pub fn is_filled(&self, number: u32, address: u8, sub: u8) -> bool
-        requires address { address < 32 }
-        requires sub { sub < 32 }
+        requires address { address < field_values }
+        requires sub { sub < field_values }
         ensures { result ≡ spec.is_filled number address sub self.now }
     {
         match self.firsts[pair(address, sub)] {
@@ -70,11 +69,11 @@ impl Filled {
 
 /// The place of an address and a subaddress among all pairs of these.
 fn pair(address: u8, sub: u8) -> usize
-    requires address { address < 32 }
-    requires sub { sub < 32 }
-    ensures { result ≡ 32 * address + sub }
+    requires address { address < field_values }
+    requires sub { sub < field_values }
+    ensures { result ≡ field_values * address + sub }
 {
-    32 * usize::from(address) + usize::from(sub)
+    FIELD_VALUES * usize::from(address) + usize::from(sub)
 }
 
 /// The lesser of a number and the one that was kept, if any.
@@ -94,7 +93,7 @@ fn note(firsts: &mut [Option<u32>; PAIRS], one: &Placed)
         → spec.AreFirsts firsts.new (before ++ one.now ∷ []) }
 {
     if let Action::Transmit(words) = &one.action {
-        if one.address < ADDRESSES {
+        if usize::from(one.address) < FIELD_VALUES {
             let place = pair(one.address, words.sub());
             firsts[place] = Some(earlier(firsts[place], one.number));
         }

@@ -5,10 +5,7 @@ use mil_message::Commands;
 use mil_mode::codes::{TRANSMIT_LAST_COMMAND, TRANSMIT_STATUS_WORD};
 use mil_status::StatusBit;
 use mil_word::Command;
-use mil_word::fields::WRAP_AROUND;
-
-/// How many addresses there are, and how many subaddresses.
-const PLACES: usize = 32;
+use mil_word::fields::{FIELD_VALUES, WRAP_AROUND};
 
 /// The mode codes whose status word is that of the command before (4.3.3.5.1.7.3, 4.3.3.5.1.7.13): transmit status
 /// word, transmit last command.
@@ -26,7 +23,7 @@ struct Refused {
 #[derive(Clone, Copy, Debug)]
 pub struct Oddities {
     failed: u32,
-    unfilled: [[u32; PLACES]; PLACES],
+    unfilled: [[u32; FIELD_VALUES]; FIELD_VALUES],
     refused: Option<Refused>,
     left: u32,
     first_left: u32,
@@ -37,7 +34,7 @@ impl Oddities {
     pub(crate) fn none() -> Oddities {
         Oddities {
             failed: 0,
-            unfilled: [[0; PLACES]; PLACES],
+            unfilled: [[0; FIELD_VALUES]; FIELD_VALUES],
             refused: None,
             left: 0,
             first_left: 0,

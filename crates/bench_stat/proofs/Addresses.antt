@@ -3,6 +3,7 @@ use Rattle.std.proofs.Common.{◌≡◌, inl, inr, ℕ, ◌<◌, ◌==◌, true,
 use Rattle.std.proofs.lemmas.Bool.{cases_eq, eq-eqb, ne_eqb}
 use Rattle.std.proofs.lemmas.List.{length-set, get_or-set_same, get_or-set_other}
 use Rattle.std.proofs.lemmas.List.FromFn.{length-map-range_with_len, get_or-map-range_with_len, fill_by_all}
+use Rattle.mil_word.specs.Fields.{field_values}
 use Rattle.bench_stat.specs.declared.calls.Call.{Call}
 use Rattle.bench_stat.specs.declared.terminals.TerminalFigures.{TerminalFigures}
 use Rattle.bench_stat.specs.Figures.{figures_of, calls_to, terminals_of}
@@ -19,25 +20,25 @@ own_call address c cs own = rw own refl
 abbrev figures_at : List Call → ℕ → TerminalFigures
 figures_at cs address = figures_of (calls_to address cs)
 
-pub many : (cs : List Call) → length (terminals_of cs) ≡ 32
+pub many : (cs : List Call) → length (terminals_of cs) ≡ field_values
 unfolding terminals_of
-many cs = length-map-range_with_len (figures_at cs) 0 32
+many cs = length-map-range_with_len (figures_at cs) 0 field_values
 
-pub at_address : (cs : List Call) (address : ℕ) (d : TerminalFigures) → address < 32 → get_or (terminals_of cs) address d ≡ figures_at cs address
+pub at_address : (cs : List Call) (address : ℕ) (d : TerminalFigures) → address < field_values → get_or (terminals_of cs) address d ≡ figures_at cs address
 unfolding terminals_of
-at_address cs address d within = get_or-map-range_with_len (figures_at cs) 0 32 address address d within (omega arith)
+at_address cs address d within = get_or-map-range_with_len (figures_at cs) 0 field_values address address d within (omega arith)
 
-pub all_addresses : (cs : List Call) (xs : List TerminalFigures) (d : TerminalFigures) → length xs ≡ 32 → ((k : ℕ) → k < 32 → get_or xs k d ≡ figures_at cs k) → xs ≡ terminals_of cs
+pub all_addresses : (cs : List Call) (xs : List TerminalFigures) (d : TerminalFigures) → length xs ≡ field_values → ((k : ℕ) → k < field_values → get_or xs k d ≡ figures_at cs k) → xs ≡ terminals_of cs
 unfolding terminals_of
-all_addresses cs xs d long same = fill_by_all (figures_at cs) xs 32 d long same
+all_addresses cs xs d long same = fill_by_all (figures_at cs) xs field_values d long same
 
-pub one_more_call : (c : Call) (cs : List Call) (d : TerminalFigures) → c.address < 32 → set (terminals_of cs) c.address (with_call c (get_or (terminals_of cs) c.address d)) ≡ terminals_of (c ∷ cs)
+pub one_more_call : (c : Call) (cs : List Call) (d : TerminalFigures) → c.address < field_values → set (terminals_of cs) c.address (with_call c (get_or (terminals_of cs) c.address d)) ≡ terminals_of (c ∷ cs)
 one_more_call c cs d within = all_addresses (c ∷ cs) (set (terminals_of cs) c.address new) d (length-set (terminals_of cs) c.address new ∙ many cs) each
   where
     new : TerminalFigures
     new = with_call c (get_or (terminals_of cs) c.address d)
 
-    each : (k : ℕ) → k < 32 → get_or (set (terminals_of cs) c.address new) k d ≡ figures_at (c ∷ cs) k
+    each : (k : ℕ) → k < field_values → get_or (set (terminals_of cs) c.address new) k d ≡ figures_at (c ∷ cs) k
     each k below = elim (cases_eq k c.address) [
       | inl e ↦
           ap (λ (j : ℕ). get_or (set (terminals_of cs) c.address new) j d) e ∙ get_or-set_same (terminals_of cs) c.address new d (omega (arith, many cs)) ∙ ap (with_call c) (at_address cs c.address d within)

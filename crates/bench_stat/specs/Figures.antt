@@ -3,6 +3,7 @@
 use Rattle.std.specs.Prelude.{ℕ, ◌+◌, ◌*◌, ◌-◌, ◌^◌, ◌==◌, Bool, true, false, not, ◌&&◌, ◌||◌}
 use Rattle.std.specs.Prelude.{if◌then◌else◌, List, [], ◌∷◌, length, map, min, max}
 use Rattle.std.specs.List.{sum_by, count_by, filter, list_any, range_with_len}
+use Rattle.mil_word.specs.Fields.{field_values}
 use Rattle.mil_word.specs.Timing.{word_time, contiguous_gap}
 use Rattle.ch11_header.specs.declared.header.Header.{Header}
 use Rattle.ch11_f1.specs.BodyReading.{Message}
@@ -114,7 +115,7 @@ calls_to address cs = filter (λ (c : Call). c.address == address) cs
 
 -- the figures of each address, 0 to 31
 unfoldable pub terminals_of : List Call → List TerminalFigures
-terminals_of cs = map (λ address. figures_of (calls_to address cs)) (range_with_len 0 32)
+terminals_of cs = map (λ address. figures_of (calls_to address cs)) (range_with_len 0 field_values)
 
 -- how many messages are a retry on the other line of the one before
 abbrev pub retries : List Message → ℕ

@@ -1,5 +1,6 @@
 //! Commands to terminals.
 ghost use Rattle.bench_stat.specs.Sendings.{call_by, kind_of};
+ghost use Rattle.mil_word.specs.Fields.{field_values};
 ghost use Rattle.std.specs.Prelude.{◌≡◌, ◌<◌};
 
 use mil_word::Command;
@@ -32,7 +33,7 @@ impl Call {
     /// The call of a command word.
     pub fn by(command: u16, failed: bool, response: u8) -> Call
         ensures same { result ≡ call_by command failed response }
-        ensures range { result.address < 32 }
+        ensures range { result.address < field_values }
     {
         let command = Command::of(command);
         Call {

@@ -10,6 +10,7 @@ use crate::terminals::TerminalFigures;
 use crate::traffic::Traffic;
 use bench_select::Selection;
 use ch11_reader::Index;
+use mil_word::fields::FIELD_VALUES;
 
 /// What is counted of a channel.
 #[derive(Clone, Copy, Debug, PartialEq, Eq)]
@@ -24,7 +25,7 @@ pub struct ChannelFigures {
     /// error.
     pub retries: u64,
     /// The terminals by their address, 0 to 31; 31 is that of all terminals.
-    pub terminals: [TerminalFigures; 32],
+    pub terminals: [TerminalFigures; FIELD_VALUES],
 }
 
 /// The figures of the selected messages of a channel: one pass over its messages.

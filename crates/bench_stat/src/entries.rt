@@ -1,4 +1,5 @@
 //! Messages by terminal, direction and subaddress.
+ghost use Rattle.bench_stat.specs.Entries as spec;
 ghost use Rattle.bench_stat.specs.Entries.{AreEntries, is_same as are_same, with_choice};
 ghost use Rattle.ch11_f1.specs.BodyReading.{Message};
 ghost use Rattle.ch11_f1.specs.Views.{message_of};
@@ -7,13 +8,11 @@ ghost use Rattle.std.specs.Prelude.{◌≡◌, ◌∷◌, [], List, length, IfOk
 use crate::flows::Flow;
 use crate::sendings::Sending;
 use ch11_f1::Seen;
+use mil_word::fields::FIELD_VALUES;
 use std::alloc::{AllocError, Global};
 
 /// How many entries there are: command words without their last field have 11 bits.
 pub(crate) const ENTRIES: usize = 2048;
-
-/// How many command words are of one entry.
-const COMMANDS: u16 = 32;
 
 /// A flow for each entry, of no messages.
 pub(crate) fn no_entries(alloc: Global) -> Result<Vec<Flow>, AllocError>
@@ -23,13 +22,20 @@ pub(crate) fn no_entries(alloc: Global) -> Result<Vec<Flow>, AllocError>
     Ok(entries)
 }
 
+/// The entry of a command: those of one entry differ in the last field alone.
+fn entry_of(command: u16) -> usize
+    ensures { result ≡ spec.entry_of command }
+{
+    usize::from(command) / FIELD_VALUES
+}
+
 /// One more message for the entry of a command, where there is one.
 fn note_choice(entries: &mut [Flow], command: Option<u16>, seen: &Seen<'_>)
     requires { length entries.old ≡ ENTRIES }
     ensures { entries.new ≡ with_choice command (message_of seen.now) entries.old }
 {
     if let Some(command) = command {
-        let place = usize::from(command / COMMANDS);
+        let place = entry_of(command);
         let mut flow = entries[place];
         flow.note(seen);
         entries[place] = flow;
@@ -41,7 +47,7 @@ fn is_same(first: Option<u16>, second: Option<u16>) -> bool
     ensures { result ≡ are_same first second }
 {
     match (first, second) {
-        (Some(first), Some(second)) => first / COMMANDS == second / COMMANDS,
+        (Some(first), Some(second)) => entry_of(first) == entry_of(second),
         _ => false,
     }
 }

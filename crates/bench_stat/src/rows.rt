@@ -9,6 +9,7 @@ use crate::tells::Tells;
 use crate::times::Times;
 use crate::units::{rate, write_hundredths, write_time_of_day, write_us};
 use bench_clock::{Clock, UtcTime};
+use mil_word::fields::FIELD_VALUES;
 use std::alloc::Global;
 use std::io;
 use std::io::Write;
@@ -198,8 +199,12 @@ fn write_flow<W: Write>(
     flow: &Flow,
     span: u64,
 ) -> io::Result<()> {
-    let (address, subaddress) = (entry / 64, entry % 32);
-    let direction = if entry / 32 % 2 == 1 { "T" } else { "R" };
+    let (address, subaddress) = (entry / (2 * FIELD_VALUES), entry % FIELD_VALUES);
+    let direction = if entry / FIELD_VALUES % 2 == 1 {
+        "T"
+    } else {
+        "R"
+    };
     let (messages, errors) = (flow.messages, flow.errors);
     write!(
         out,

@@ -5,6 +5,7 @@ ghost use Rattle.bench_stat.specs.Steps.{tally_of};
 ghost use Rattle.bench_stat.specs.declared.calls.Call.{Call as CallValue};
 ghost use Rattle.ch11_f1.specs.BodyReading.{Message};
 ghost use Rattle.ch11_f1.specs.Views.{message_of};
+ghost use Rattle.mil_word.specs.Fields.{field_values};
 ghost use Rattle.std.specs.Prelude.{◌≡◌, ℕ, ◌∷◌, ◌++◌, [], List, length};
 
 use crate::calls::Call;
@@ -75,7 +76,7 @@ fn is_retry(latest: &Option<Sending>, now: &Sending) -> bool
 
 /// The calls of one more message.
 fn note_calls(terminals: &mut [TerminalFigures], sending: &Sending, first_gap: u8, second_gap: u8)
-    requires { length terminals.old ≡ 32 }
+    requires { length terminals.old ≡ field_values }
     ensures { (calls : List CallValue) → terminals.old ≡ terminals_of calls
         → terminals.new ≡ terminals_of (calls_sent sending.now first_gap second_gap ++ calls) }
 {

@@ -2,13 +2,12 @@
 ghost use Rattle.bench_stat.specs.Figures.{figures_of, terminals_of, is_receive_call, is_transmit_call, is_mode_call};
 ghost use Rattle.bench_stat.specs.Steps.{with_kind, with_response, with_call};
 ghost use Rattle.bench_stat.specs.declared.calls.Call.{Call as CallValue};
+ghost use Rattle.mil_word.specs.Fields.{field_values};
 ghost use Rattle.std.specs.Prelude.{◌≡◌, ◌<◌, ◌∷◌, [], List, length};
 
 use crate::calls::{Call, CallKind};
 use crate::counts::{counted, more};
-
-/// How many terminal addresses there are, that of all terminals among them.
-pub(crate) const ADDRESSES: usize = 32;
+use mil_word::fields::FIELD_VALUES;
 
 /// What is counted of a terminal address. Counts go as far as 64 bits count.
 #[derive(Clone, Copy, Debug, PartialEq, Eq)]
@@ -121,19 +120,19 @@ fn is_mode(call: &Call) -> bool
 }
 
 /// The figures of all addresses before any call.
-pub(crate) fn no_calls() -> [TerminalFigures; 32]
+pub(crate) fn no_calls() -> [TerminalFigures; FIELD_VALUES]
     ensures { result ≡ terminals_of [] }
 {
-    [TerminalFigures::none(); 32]
+    [TerminalFigures::none(); FIELD_VALUES]
 }
 
 /// One more call, for the address that it calls.
 pub(crate) fn note_call(terminals: &mut [TerminalFigures], call: &Call)
-    requires many { length terminals.old ≡ 32 }
-    requires range { call.now.address < 32 }
+    requires many { length terminals.old ≡ field_values }
+    requires range { call.now.address < field_values }
     ensures noted { (calls : List CallValue) → terminals.old ≡ terminals_of calls
         → terminals.new ≡ terminals_of (call.now ∷ calls) }
-    ensures many { length terminals.new ≡ 32 }
+    ensures many { length terminals.new ≡ field_values }
 {
     let place = usize::from(call.address);
     let mut figures = terminals[place];

@@ -3,6 +3,7 @@ use Rattle.std.proofs.Common.{◌≡◌, ℕ, ◌<◌, ◌≤◌, List, [], map,
 use Rattle.std.specs.Prelude.{Bool, true, false, if◌then◌else◌}
 use Rattle.std.proofs.lemmas.List.{get_or-map, length-map}
 use Rattle.mil_word.specs.declared.Line.{Line}
+use Rattle.mil_word.specs.Fields.{field_values}
 use Rattle.mil_terminal.specs.declared.events.Event.TheVariants.{Heard, Quiet}
 use Rattle.mil_terminal.specs.Station.{Station, after}
 use Rattle.mil_bus.specs.declared.talks.Sent.{Sent}
@@ -37,7 +38,7 @@ index-map f places xs same is =
       stands = λ k d lt. let here : k < length xs = omega (arith, length-map xs f) in ap (slice_index places) (at k d here) ∙ is.stands k d here;
     }
 
-pub index-none : (places : List ℕ) → length places ≡ 32 → IsIndexBelow 0 places []
+pub index-none : (places : List ℕ) → length places ≡ field_values → IsIndexBelow 0 places []
 index-none places long = record {
   long = long;
   few = omega arith;

@@ -6,7 +6,7 @@ use Rattle.std.specs.Int.{bit_at}
 use Rattle.mil_word.specs.declared.Line.{Line}
 use Rattle.mil_word.specs.declared.Word.{Word}
 use Rattle.mil_word.specs.Words.{is_command_sync}
-use Rattle.mil_word.specs.Fields.{address_of, all_terminals, is_broadcast}
+use Rattle.mil_word.specs.Fields.{address_of, all_terminals, field_values, is_broadcast}
 use Rattle.mil_terminal.specs.Station.{Station}
 use Rattle.mil_terminal.specs.Windows.{is_listening}
 use Rattle.mil_bus.specs.Exchange.{Offer}
@@ -22,9 +22,9 @@ AreClosed opened stations = (k : ℕ) (d : Station) → k < length stations → 
 
 -- under each address stands the place of its station
 pub record IsAddressIndex (places : List ℕ) (stations : List Station) : Type 0 where
-  pub long : length places ≡ 32
+  pub long : length places ≡ field_values
   pub few : length stations ≤ all_terminals
-  pub low : (k : ℕ) (d : Station) → k < length stations → (get_or stations k d).own < 32
+  pub low : (k : ℕ) (d : Station) → k < length stations → (get_or stations k d).own < field_values
   pub stands : (k : ℕ) (d : Station) → k < length stations → slice_index places (get_or stations k d).own ≡ k
 
 -- an event that makes f of a station has come to those before a place
@@ -46,7 +46,7 @@ is_command_to own (Some word) = is_command_sync word.sync && (address_of word.va
 
 -- the same of stations whose addresses are all below a bound
 pub record IsIndexBelow (bound : ℕ) (places : List ℕ) (stations : List Station) : Type 0 where
-  pub long : length places ≡ 32
+  pub long : length places ≡ field_values
   pub few : length stations ≤ bound
   pub low : (k : ℕ) (d : Station) → k < length stations → (get_or stations k d).own < bound
   pub stands : (k : ℕ) (d : Station) → k < length stations → slice_index places (get_or stations k d).own ≡ k

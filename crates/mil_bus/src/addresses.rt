@@ -6,7 +6,7 @@ ghost use Rattle.std.specs.List.{list_any};
 ghost use Rattle.std.specs.Prelude.{◌≡◌, ◌+◌, ◌≤◌, ◌==◌, ◌++◌, ◌∷◌, [], if◌then◌else◌, IfOk, OnOk};
 
 use mil_terminal::Terminal;
-use mil_word::fields::{ALL_TERMINALS, HIGHEST_ADDRESS};
+use mil_word::fields::{ALL_TERMINALS, FIELD_VALUES, HIGHEST_ADDRESS};
 use std::alloc::{AllocError, Global};
 
 /// Whether an address is among those given.
@@ -44,7 +44,7 @@ fn terminal(alloc: Global, own: u8) -> Result<Terminal, AllocError>
 fn add(
     alloc: Global,
     terminals: &mut Vec<Terminal>,
-    places: &mut [u8; 32],
+    places: &mut [u8; FIELD_VALUES],
     own: u8,
     wanted: bool,
 ) -> Result<(), AllocError>
@@ -68,7 +68,7 @@ fn add(
 pub fn fresh(
     alloc: Global,
     addresses: &[u8],
-    places: &mut [u8; 32],
+    places: &mut [u8; FIELD_VALUES],
 ) -> Result<Vec<Terminal>, AllocError>
     ensures stations { IfOk result (λ v. v.items ≡ stations_of addresses.now) }
     ensures index { IfOk result (λ v. IsAddressIndex places.new v.items) }

@@ -3,6 +3,7 @@ ghost use Rattle.mil_bus.specs.Exchange.{hearing, sends, misses};
 ghost use Rattle.mil_bus.specs.Index.{IsClosed, is_command_to};
 ghost use Rattle.mil_terminal.specs.Windows.{opens};
 ghost use Rattle.mil_terminal.specs.declared.events.Event.TheVariants.{Heard};
+ghost use Rattle.mil_word.specs.Fields.{field_values};
 ghost use Rattle.mil_word.specs.Wave.{word_of};
 ghost use Rattle.std.specs.Int.{bit_at};
 ghost use Rattle.std.specs.Prelude.{◌≡◌, ℕ, ◌<◌, false, slice_index};
@@ -11,12 +12,13 @@ use crate::counts::is_command;
 use crate::telling::Coming;
 use crate::{Sent, Source};
 use mil_terminal::Terminal;
+use mil_word::fields::FIELD_VALUES;
 use mil_word::{Command, Line, Word};
 
 /// The places that a word may concern: those that are open, and that of the terminal that it commands, or all.
-pub fn concerned(places: &[u8; 32], opened: u32, decoded: Option<Word>) -> u32
+pub fn concerned(places: &[u8; FIELD_VALUES], opened: u32, decoded: Option<Word>) -> u32
     ensures kept { (k : ℕ) → k < 32 → bit_at result k ≡ 0 → bit_at opened k ≡ 0 }
-    ensures commanded { (own : ℕ) → own < 32 → slice_index places.now own < 32
+    ensures commanded { (own : ℕ) → own < field_values → slice_index places.now own < 32
         → bit_at result (slice_index places.now own) ≡ 0 → is_command_to own decoded ≡ false }
 {
     match decoded {

@@ -3,6 +3,7 @@ ghost use Rattle.std.specs.Prelude.{◌≡◌, length, IfOk, OnOk, OnErr};
 
 use crate::terminals::Terminals;
 use mil_terminal::{SavedTerminal, Terminal};
+use mil_word::fields::FIELD_VALUES;
 use std::alloc::{AllocError, Global};
 use std::marker::Model;
 
@@ -10,7 +11,7 @@ use std::marker::Model;
 #[derive(Drop)]
 pub struct SavedTerminals {
     list: Vec<SavedTerminal>,
-    places: [u8; 32],
+    places: [u8; FIELD_VALUES],
     opened: u32,
 }
 

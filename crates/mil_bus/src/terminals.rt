@@ -24,6 +24,7 @@ use mil_host::Action;
 use mil_line::Gap;
 use mil_message::Values;
 use mil_terminal::Terminal;
+use mil_word::fields::FIELD_VALUES;
 use mil_word::{Line, Wave, Word, decode};
 use std::alloc::{AllocError, Global};
 use std::marker::Model;
@@ -34,7 +35,7 @@ use std::marker::Model;
 pub struct Terminals {
     pub(crate) list: Vec<Terminal>,
     /// Under each address the place of its terminal in the list.
-    pub(crate) places: [u8; 32],
+    pub(crate) places: [u8; FIELD_VALUES],
     /// A bit for each place, clear only where no window is open.
     pub(crate) opened: u32,
 }
@@ -56,7 +57,7 @@ impl Terminals {
     pub fn make(alloc: Global, addresses: &[u8]) -> Result<Terminals, AllocError>
         ensures { IfOk result (λ t. t ≡ stations_of addresses.now) }
     {
-        let mut places = [0; 32];
+        let mut places = [0; FIELD_VALUES];
         let list = fresh(alloc, addresses, &mut places)?;
         Ok(Terminals {
             list,

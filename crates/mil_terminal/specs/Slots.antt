@@ -1,6 +1,10 @@
 -- Lists of at most as many words as a message has, in one flat list (inside the terminal).
 use Rattle.std.specs.Prelude.{◌≡◌, ℕ, ◌+◌, ◌*◌, ◌≤◌, List, [], ◌∷◌, ◌++◌, length, take, drop, slice_index_or}
-use Rattle.mil_word.specs.Fields.{most_words}
+use Rattle.mil_word.specs.Fields.{field_values, most_words}
+
+-- for each subaddress one list of the words received, one of those received from all, and one of those put up
+abbrev pub slot_count : ℕ
+slot_count = 3 * field_values
 
 -- the lists with these counts, each in as many places as a message has words at most
 abbrev pub slots : List ℕ → List ℕ → List (List ℕ)
@@ -20,5 +24,5 @@ entries slot (words ∷ lists) = entry slot words ++ entries (slot + 1) lists
 -- the words are what is kept of a block
 pub record IsPacked (words : List ℕ) (lists : List (List ℕ)) : Type 0 where
   pub whole : words ≡ entries 0 lists
-  pub long : length lists ≡ 96
+  pub long : length lists ≡ slot_count
   pub few : (slot : ℕ) → length (slice_index_or lists slot []) ≤ most_words

@@ -1,8 +1,9 @@
 -- Which histories the registers of a terminal stand for (inside the terminal).
-use Rattle.std.specs.Prelude.{◌≡◌, ℕ, ◌+◌, ◌<◌, ◌≤◌, Bool, not, List, [], Option, Some, None, slice_index_or, length}
+use Rattle.std.specs.Prelude.{◌≡◌, ℕ, ◌+◌, ◌*◌, ◌<◌, ◌≤◌, Bool, not, List, [], Option, Some, None, slice_index_or}
+use Rattle.std.specs.Prelude.{length}
 use Rattle.mil_word.specs.declared.Line.{Line}
 use Rattle.mil_word.specs.declared.Line.TheVariants.{A, B}
-use Rattle.mil_word.specs.Fields.{most_words}
+use Rattle.mil_word.specs.Fields.{field_values, most_words}
 use Rattle.mil_terminal.specs.declared.events.Event.{Event}
 use Rattle.mil_terminal.specs.History.{History}
 use Rattle.mil_terminal.specs.Host.{is_busy, requests_service, has_subsystem_fault, has_fault, accepts_control}
@@ -10,6 +11,7 @@ use Rattle.mil_terminal.specs.Host.{self_test, response_gap, words_put_up, is_ma
 use Rattle.mil_terminal.specs.Windows.{latest_window, undecided}
 use Rattle.mil_terminal.specs.Registers.{last_command, received, received_from_all, sync_word, bit_word, vector}
 use Rattle.mil_terminal.specs.Registers.{is_transmitter_on, is_flag_inhibited}
+use Rattle.mil_terminal.specs.Slots.{slot_count}
 use Rattle.mil_terminal.specs.Status.{conditions}
 use Rattle.mil_terminal.specs.Marking.{is_set}
 use Rattle.mil_terminal.specs.ByLines.{on_line}
@@ -30,7 +32,7 @@ pub record AreSettings (s : Settings) (h : History) : Type 0 where
   pub vector : s.vector ≡ vector h
   pub self_test : s.self_test ≡ self_test h
   pub response : s.response ≡ response_gap h
-  pub marks : (t : Bool) (sub n : ℕ) → sub < 32 → 1 ≤ n → n ≤ most_words
+  pub marks : (t : Bool) (sub n : ℕ) → sub < field_values → 1 ≤ n → n ≤ most_words
       → is_set s.marks t sub n ≡ is_marked_illegal t sub n h
   pub deaf : (line : Line) → on_line s.deaf line ≡ is_deaf line h
   pub mute : (line : Line) → on_line s.mute line ≡ is_mute line h
@@ -48,13 +50,14 @@ pub record AreSynced (own : ℕ) (s : Synced) (h : History) : Type 0 where
 
 -- the words that were received
 pub record AreReceived (own : ℕ) (block : List (List ℕ)) (h : History) : Type 0 where
-  pub addressed : (sub : ℕ) → sub < 32 → slice_index_or block sub [] ≡ received own sub h
-  pub from_all : (sub : ℕ) → sub < 32 → slice_index_or block (32 + sub) [] ≡ received_from_all own sub h
+  pub addressed : (sub : ℕ) → sub < field_values → slice_index_or block sub [] ≡ received own sub h
+  pub from_all : (sub : ℕ) → sub < field_values
+      → slice_index_or block (field_values + sub) [] ≡ received_from_all own sub h
 
 -- the words that the host put up
 pub record ArePutUp (block : List (List ℕ)) (h : History) : Type 0 where
-  pub long : length block ≡ 96
-  pub words : (sub : ℕ) → sub < 32 → slice_index_or block (64 + sub) [] ≡ words_put_up sub h
+  pub long : length block ≡ slot_count
+  pub words : (sub : ℕ) → sub < field_values → slice_index_or block (2 * field_values + sub) [] ≡ words_put_up sub h
 
 -- the window that is not decided yet
 abbrev pub IsOpen : ℕ → Option Pending → History → Type 0

@@ -1,11 +1,11 @@
 -- What each window does to the registers (inside the terminal).
-use Rattle.std.specs.Prelude.{ℕ, ◌+◌, ◌==◌, Bool, true, false, ◌&&◌, ◌||◌, not, List, [], ◌∷◌, slice_set}
+use Rattle.std.specs.Prelude.{ℕ, ◌+◌, ◌*◌, ◌==◌, Bool, true, false, ◌&&◌, ◌||◌, not, List, [], ◌∷◌, slice_set}
 use Rattle.std.specs.Prelude.{slice_index_or, if◌then◌else◌, Option, Some, None}
 use Rattle.mil_word.specs.declared.Line.{Line}
 use Rattle.mil_word.specs.declared.Line.TheVariants.{A, B}
 use Rattle.mil_word.specs.Words.{same_line}
 use Rattle.mil_word.specs.Fields.{is_broadcast, is_transmit, sub_of, code_of, count_of, is_mode, is_receive}
-use Rattle.mil_word.specs.Fields.{wrap_around}
+use Rattle.mil_word.specs.Fields.{field_values, wrap_around}
 use Rattle.mil_mode.specs.Codes.{dynamic_bus_control, synchronize, initiate_self_test, transmitter_shutdown}
 use Rattle.mil_mode.specs.Codes.{override_shutdown, inhibit_terminal_flag, override_inhibit, reset_remote_terminal}
 use Rattle.mil_mode.specs.Codes.{transmit_vector_word, synchronize_with_word, transmit_last_command, transmit_bit_word}
@@ -67,7 +67,7 @@ synchronized s c words self_test = record {
 
 -- the slot of a receive command's words
 abbrev pub slot_of : ℕ → ℕ
-slot_of c = if is_broadcast c then 32 + sub_of c else sub_of c
+slot_of c = if is_broadcast c then field_values + sub_of c else sub_of c
 
 abbrev pub stored : List (List ℕ) → ℕ → Bool → List ℕ → List (List ℕ)
 stored block c busy words = if is_receive c && not busy then slice_set block (slot_of c) words else block
@@ -118,7 +118,7 @@ with_open_window r line c = record (cut r.window r) {
 
 abbrev pub put_up_at : Registers → ℕ → List ℕ
 put_up_at r sub = if sub == wrap_around then slice_index_or r.block wrap_around []
-    else slice_index_or r.block (64 + sub) []
+    else slice_index_or r.block (2 * field_values + sub) []
 
 abbrev pub mode_data_now : Registers → ℕ → List ℕ
 mode_data_now r code =

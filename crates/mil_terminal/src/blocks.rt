@@ -1,20 +1,25 @@
 //! The words that a terminal keeps, in one flat block.
+ghost use Rattle.mil_terminal.specs.Slots.{slot_count};
 ghost use Rattle.mil_word.specs.Fields.{most_words};
 ghost use Rattle.std.specs.Prelude.{◌≡◌, ℕ, ◌<◌, ◌≤◌, List, [], IfOk, length, replicate, slice_set, slice_index_or};
 
+use mil_word::fields::FIELD_VALUES;
 use std::alloc::{AllocError, Global};
 use std::marker::Model;
 
-/// 96 lists of at most 32 words each, in one block of memory: for each of 32 subaddresses those received, those
-/// received from all, and those put up.
+/// How many lists there are: three for each subaddress.
+pub(crate) const SLOTS: usize = 3 * FIELD_VALUES;
+
+/// Lists of at most 32 words each, in one block of memory: for each subaddress those received, behind them for each
+/// those received from all, and then for each those put up.
 #[derive(Drop)]
 pub struct Block {
     pub(crate) words: Vec<u16>,
-    pub(crate) counts: [u8; 96],
+    pub(crate) counts: [u8; SLOTS],
 }
 
 impl Model for Block {
-    ghost use Rattle.mil_terminal.specs.Slots.{slots};
+    ghost use Rattle.mil_terminal.specs.Slots.{slot_count, slots};
     ghost use Rattle.mil_word.specs.Fields.{most_words};
     ghost use Rattle.std.specs.Prelude.{◌≡◌, ℕ, ◌≤◌, ◌<◌, List, length, vec_len, slice_index};
 
@@ -22,25 +27,25 @@ impl Model for Block {
 
     ghost view = { λ b. slots b.counts b.words.items };
 
-    ghost invariant = { λ b. (vec_len b.words ≡ 3072) × (length b.counts ≡ 96)
-        × ((i : ℕ) → i < 96 → slice_index b.counts i ≤ most_words) };
+    ghost invariant = { λ b. (vec_len b.words ≡ 3072) × (length b.counts ≡ slot_count)
+        × ((i : ℕ) → i < slot_count → slice_index b.counts i ≤ most_words) };
 }
 
 impl Block {
     /// A block of empty lists. All its memory is taken here.
     pub fn empty(alloc: Global) -> Result<Block, AllocError>
-        ensures { IfOk result (λ b. b ≡ replicate 96 []) }
+        ensures { IfOk result (λ b. b ≡ replicate slot_count []) }
     {
         let words = vec![in alloc; 0u16; 3072]?;
         Ok(Block {
             words,
-            counts: [0; 96],
+            counts: [0; SLOTS],
         })
     }
 
     /// The words of a slot.
     pub fn at(&self, slot: usize) -> &[u16]
-        requires { slot < 96 }
+        requires { slot < slot_count }
         ensures value { result.now ≡ slice_index_or self.now slot [] }
         ensures few { length result.now ≤ most_words }
     {
@@ -50,7 +55,7 @@ impl Block {
 
     /// Puts words into a slot, in place of those that were there.
     pub fn store(&mut self, slot: usize, words: &[u16])
-        requires slot { slot < 96 }
+        requires slot { slot < slot_count }
         requires few { length words.now ≤ most_words }
         ensures { self.new ≡ slice_set self.old slot words.now }
     {
@@ -61,9 +66,9 @@ impl Block {
 
     /// Empties all slots.
     pub fn clear(&mut self)
-        ensures { self.new ≡ replicate 96 [] }
+        ensures { self.new ≡ replicate slot_count [] }
     {
-        self.counts = [0; 96];
+        self.counts = [0; SLOTS];
     }
 
     /// The same words, in a block of their own.

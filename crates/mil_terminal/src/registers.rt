@@ -6,7 +6,7 @@ ghost use Rattle.mil_terminal.specs.Replies as replies;
 ghost use Rattle.mil_terminal.specs.Status.{status};
 ghost use Rattle.mil_terminal.specs.Windows.{is_listening};
 ghost use Rattle.mil_terminal.specs.declared.events.Event.TheVariants.{Heard, Quiet, Host};
-ghost use Rattle.mil_word.specs.Fields.{address_of, most_words};
+ghost use Rattle.mil_word.specs.Fields.{address_of, field_values, most_words};
 ghost use Rattle.std.specs.Option.{option_to_list};
 ghost use Rattle.std.specs.Prelude.{None, if◌then◌else◌};
 ghost use Rattle.std.specs.Prelude.{◌≡◌, ◌+◌, ◌≤◌, ◌<◌, ◌==◌, ◌&&◌, not, [], ◌∷◌, IfOk, length, Some};
@@ -26,7 +26,7 @@ use arrayvec::ArrayVec;
 use mil_host::Action;
 use mil_line::Gap;
 use mil_mode::codes::{TRANSMIT_BIT_WORD, TRANSMIT_LAST_COMMAND, TRANSMIT_VECTOR_WORD};
-use mil_word::fields::WRAP_AROUND;
+use mil_word::fields::{FIELD_VALUES, WRAP_AROUND};
 use mil_word::{Command, Line};
 use std::alloc::{AllocError, Global};
 
@@ -192,7 +192,7 @@ impl Registers {
         if command.is_receive() && !self.host.busy {
             let sub = command.subaddress() as usize;
             if command.is_broadcast() {
-                self.block.store(32 + sub, words);
+                self.block.store(FIELD_VALUES + sub, words);
             } else {
                 self.block.store(sub, words);
             }
@@ -238,14 +238,14 @@ impl Registers {
 
     /// The words that a transmit command at the subaddress sends.
     fn put_up(&self, sub: u8) -> &[u16]
-        requires { sub < 32 }
+        requires { sub < field_values }
         ensures value { result.now ≡ put_up_at self.now sub }
         ensures few { length result.now ≤ most_words }
     {
         if sub == WRAP_AROUND {
             self.block.at(usize::from(WRAP_AROUND))
         } else {
-            self.block.at(64 + sub as usize)
+            self.block.at(2 * FIELD_VALUES + sub as usize)
         }
     }
 
@@ -256,7 +256,8 @@ impl Registers {
     {
         self.host.set(action);
         if let Action::Transmit(put) = action {
-            self.block.store(64 + put.sub() as usize, put.words());
+            self.block
+                .store(2 * FIELD_VALUES + put.sub() as usize, put.words());
         }
     }
 
@@ -337,7 +338,7 @@ impl Registers {
 
     /// The words that were received at the subaddress.
     pub fn received(&self, sub: u8) -> &[u16]
-        requires { sub < 32 }
+        requires { sub < field_values }
         ensures { (h : History) → StandsFor self.now h → result.now ≡ registers.received self.now.own sub h }
     {
         self.block.at(sub as usize)
@@ -345,15 +346,15 @@ impl Registers {
 
     /// The words that were received there from all.
     pub fn received_from_all(&self, sub: u8) -> &[u16]
-        requires { sub < 32 }
+        requires { sub < field_values }
         ensures { (h : History) → StandsFor self.now h → result.now ≡ registers.received_from_all self.now.own sub h }
     {
-        self.block.at(32 + sub as usize)
+        self.block.at(FIELD_VALUES + sub as usize)
     }
 
     /// The words that a transmit command there sends.
     pub fn transmit_words(&self, sub: u8) -> &[u16]
-        requires { sub < 32 }
+        requires { sub < field_values }
         ensures { (h : History) → StandsFor self.now h → result.now ≡ registers.transmit_words self.now.own sub h }
     {
         self.put_up(sub)

@@ -1,9 +1,9 @@
 //! The words of a terminal, packed.
-ghost use Rattle.mil_terminal.specs.Slots.{entry, entries};
+ghost use Rattle.mil_terminal.specs.Slots.{entry, entries, slot_count};
 ghost use Rattle.mil_word.specs.Fields.{most_words};
 ghost use Rattle.std.specs.Prelude.{◌≡◌, ◌≤◌, ◌<◌, ◌++◌, IfOk, OnOk, length};
 
-use crate::blocks::Block;
+use crate::blocks::{Block, SLOTS};
 use std::alloc::{AllocError, Global};
 use std::marker::Model;
 use std::snapshot::Snapshot;
@@ -30,7 +30,7 @@ impl Model for SavedBlock {
 /// Puts what is kept of a slot behind what is kept of those before it.
 #[inline]
 fn put_entry(kept: &mut Vec<u16>, slot: usize, words: &[u16]) -> Result<(), AllocError>
-    requires slot { slot < 96 }
+    requires slot { slot < slot_count }
     requires few { length words.now ≤ most_words }
     ensures { OnOk result (kept.new.items ≡ kept.old.items ++ entry slot words.now) }
 {
@@ -66,7 +66,7 @@ impl Block {
         ensures { IfOk result (λ b. b ≡ self.now) }
     {
         let mut words = Vec::with_capacity(*self.words.allocator(), self.kept_len())?;
-        for slot in 0..96 {
+        for slot in 0..SLOTS {
             put_entry(&mut words, slot, self.at(slot))?;
         }
         Ok(SavedBlock {

@@ -9,6 +9,10 @@ has_bit place value = value / 2 ^ place % 2 == 1
 abbrev pub greatest_field : ℕ
 greatest_field = 31
 
+-- how many values a field of five bits has (4.3.3.5.1)
+abbrev pub field_values : ℕ
+field_values = 32
+
 -- the terminal address, the first five bits of a command word and of a status word (4.3.3.5.1.2, 4.3.3.5.3.2)
 abbrev pub address_of : ℕ → ℕ
 address_of value = value / 2 ^ 11

@@ -1,6 +1,6 @@
 //! The fields of a command word (MIL-STD-1553B 4.3.3.5.1).
 ghost use Rattle.mil_word.specs.Fields.{address_of, is_transmit, sub_of, code_of, count_of, is_mode, is_receive};
-ghost use Rattle.mil_word.specs.Fields.{is_broadcast, most_words};
+ghost use Rattle.mil_word.specs.Fields.{field_values, is_broadcast, most_words};
 ghost use Rattle.std.specs.Prelude.{◌≡◌, ◌≤◌, ◌<◌, ◌^◌};
 
 use crate::fields::{ALL_TERMINALS, MODE_SUBADDRESS_OF_ONES, MODE_SUBADDRESS_OF_ZEROS, MOST_WORDS};
@@ -45,7 +45,7 @@ impl Command {
     #[inline]
     pub fn address(self) -> u8
         ensures field { result ≡ address_of self }
-        ensures range { result < 32 }
+        ensures range { result < field_values }
     {
         (self.value >> 11) as u8
     }
@@ -70,7 +70,7 @@ impl Command {
     #[inline]
     pub fn subaddress(self) -> u8
         ensures field { result ≡ sub_of self }
-        ensures range { result < 32 }
+        ensures range { result < field_values }
     {
         (self.value >> 5 & 31) as u8
     }
@@ -88,7 +88,7 @@ impl Command {
     #[inline]
     pub fn code(self) -> u8
         ensures field { result ≡ code_of self }
-        ensures range { result < 32 }
+        ensures range { result < field_values }
     {
         (self.value & 31) as u8
     }

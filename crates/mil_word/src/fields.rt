@@ -1,5 +1,8 @@
 //! The numbers of the fields of command and status words (MIL-STD-1553B 4.3.3.5.1).
 
+/// How many values a field of five bits has: how many addresses there are, and how many subaddresses (4.3.3.5.1).
+pub const FIELD_VALUES: usize = 32;
+
 /// The address of all terminals (4.3.3.5.1.2).
 pub const ALL_TERMINALS: u8 = 31;
 

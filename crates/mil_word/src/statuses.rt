@@ -1,7 +1,7 @@
 //! The fields of a status word (MIL-STD-1553B 4.3.3.5.3).
 ghost use Rattle.mil_word.specs.Fields.{address_of, has_message_error, has_instrumentation, has_service_request};
 ghost use Rattle.mil_word.specs.Fields.{has_broadcast_received, has_busy, has_subsystem_flag, has_control_acceptance};
-ghost use Rattle.mil_word.specs.Fields.{has_terminal_flag};
+ghost use Rattle.mil_word.specs.Fields.{field_values, has_terminal_flag};
 ghost use Rattle.std.specs.Prelude.{◌≡◌, ◌<◌};
 
 use std::marker::Model;
@@ -45,7 +45,7 @@ impl Status {
     #[inline]
     pub fn address(self) -> u8
         ensures field { result ≡ address_of self }
-        ensures range { result < 32 }
+        ensures range { result < field_values }
     {
         (self.value >> 11) as u8
     }
