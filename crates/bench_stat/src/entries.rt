@@ -29,6 +29,13 @@ fn entry_of(command: u16) -> usize
     usize::from(command) / FIELD_VALUES
 }
 
+/// The terminal address, the direction as the letter of a command (T or R), and the subaddress of an entry.
+pub(crate) fn parts_of(entry: usize) -> (usize, &'static str, usize) {
+    let transmits = entry / FIELD_VALUES % 2 == 1;
+    let direction = if transmits { "T" } else { "R" };
+    (entry / (2 * FIELD_VALUES), direction, entry % FIELD_VALUES)
+}
+
 /// One more message for the entry of a command, where there is one.
 fn note_choice(entries: &mut [Flow], command: Option<u16>, seen: &Seen<'_>)
     requires { length entries.old ≡ ENTRIES }

@@ -1,6 +1,7 @@
 //! The figures as rows of comma-separated values, a table for each that is asked for.
 
 use crate::channels::ChannelFigures;
+use crate::entries::parts_of;
 use crate::flows::Flow;
 use crate::printing::{NAMES, TIMES, end_row, print_rows};
 use crate::shown::Shown;
@@ -9,7 +10,6 @@ use crate::tells::Tells;
 use crate::times::Times;
 use crate::units::{rate, write_hundredths, write_time_of_day, write_us};
 use bench_clock::{Clock, UtcTime};
-use mil_word::fields::FIELD_VALUES;
 use std::alloc::Global;
 use std::io;
 use std::io::Write;
@@ -199,12 +199,7 @@ fn write_flow<W: Write>(
     flow: &Flow,
     span: u64,
 ) -> io::Result<()> {
-    let (address, subaddress) = (entry / (2 * FIELD_VALUES), entry % FIELD_VALUES);
-    let direction = if entry / FIELD_VALUES % 2 == 1 {
-        "T"
-    } else {
-        "R"
-    };
+    let (address, direction, subaddress) = parts_of(entry);
     let (messages, errors) = (flow.messages, flow.errors);
     write!(
         out,

@@ -1,11 +1,10 @@
 //! The tables of a page: messages by terminal, direction and subaddress, and the load over time.
 
+use crate::entries::parts_of;
 use crate::flows::Flow;
 use crate::slices::Slice;
 use crate::units::{hundredths, rate, tenths};
-use mil_word::fields::{
-    ALL_TERMINALS, FIELD_VALUES, MODE_SUBADDRESS_OF_ONES, MODE_SUBADDRESS_OF_ZEROS,
-};
+use mil_word::fields::{ALL_TERMINALS, MODE_SUBADDRESS_OF_ONES, MODE_SUBADDRESS_OF_ZEROS};
 use std::io;
 use std::io::Write;
 
@@ -44,18 +43,12 @@ pub(crate) fn print_subaddresses<W: Write>(
 /// Writes the line of an entry, which is a terminal, a direction and a subaddress. The address of all terminals is
 /// 'all', a mode command's subaddress is 'mode 0' or 'mode 31', and the rate is '-' where no time passed.
 fn print_entry<W: Write>(out: &mut W, entry: usize, flow: &Flow, span: u64) -> io::Result<()> {
-    let address = entry / (2 * FIELD_VALUES);
+    let (address, direction, subaddress) = parts_of(entry);
     if address == usize::from(ALL_TERMINALS) {
         write!(out, "       all")?;
     } else {
         write!(out, "{address:>10}")?;
     }
-    let direction = if entry / FIELD_VALUES % 2 == 1 {
-        "T"
-    } else {
-        "R"
-    };
-    let subaddress = entry % FIELD_VALUES;
     let (messages, errors) = (flow.messages, flow.errors);
     write!(out, "{direction:>5}")?;
     if subaddress == usize::from(MODE_SUBADDRESS_OF_ZEROS)
