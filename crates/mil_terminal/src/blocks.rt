@@ -3,12 +3,15 @@ ghost use Rattle.mil_terminal.specs.Slots.{slot_count};
 ghost use Rattle.mil_word.specs.Fields.{most_words};
 ghost use Rattle.std.specs.Prelude.{◌≡◌, ℕ, ◌<◌, ◌≤◌, List, [], IfOk, length, replicate, slice_set, slice_index_or};
 
-use mil_word::fields::FIELD_VALUES;
+use mil_word::fields::{FIELD_VALUES, MOST_WORDS};
 use std::alloc::{AllocError, Global};
 use std::marker::Model;
 
 /// How many lists there are: three for each subaddress.
 pub(crate) const SLOTS: usize = 3 * FIELD_VALUES;
+
+/// How many words there is room for in a list.
+const ROOM: usize = MOST_WORDS as usize;
 
 /// Lists of at most 32 words each, in one block of memory: for each subaddress those received, behind them for each
 /// those received from all, and then for each those put up.
@@ -21,13 +24,13 @@ pub struct Block {
 impl Model for Block {
     ghost use Rattle.mil_terminal.specs.Slots.{slot_count, slots};
     ghost use Rattle.mil_word.specs.Fields.{most_words};
-    ghost use Rattle.std.specs.Prelude.{◌≡◌, ℕ, ◌≤◌, ◌<◌, List, length, vec_len, slice_index};
+    ghost use Rattle.std.specs.Prelude.{◌≡◌, ℕ, ◌≤◌, ◌<◌, ◌*◌, List, length, vec_len, slice_index};
 
     ghost Value = { List (List ℕ) };
 
     ghost view = { λ b. slots b.counts b.words.items };
 
-    ghost invariant = { λ b. (vec_len b.words ≡ 3072) × (length b.counts ≡ slot_count)
+    ghost invariant = { λ b. (vec_len b.words ≡ most_words * slot_count) × (length b.counts ≡ slot_count)
         × ((i : ℕ) → i < slot_count → slice_index b.counts i ≤ most_words) };
 }
 
@@ -36,7 +39,7 @@ impl Block {
     pub fn empty(alloc: Global) -> Result<Block, AllocError>
         ensures { IfOk result (λ b. b ≡ replicate slot_count []) }
     {
-        let words = vec![in alloc; 0u16; 3072]?;
+        let words = vec![in alloc; 0u16; ROOM * SLOTS]?;
         Ok(Block {
             words,
             counts: [0; SLOTS],
@@ -49,7 +52,7 @@ impl Block {
         ensures value { result.now ≡ slice_index_or self.now slot [] }
         ensures few { length result.now ≤ most_words }
     {
-        let start = 32 * slot;
+        let start = ROOM * slot;
         &self.words[start..start + self.counts[slot] as usize]
     }
 
@@ -59,7 +62,7 @@ impl Block {
         requires few { length words.now ≤ most_words }
         ensures { self.new ≡ slice_set self.old slot words.now }
     {
-        let start = 32 * slot;
+        let start = ROOM * slot;
         self.words[start..start + words.len()].copy_from_slice(words);
         self.counts[slot] = words.len() as u8;
     }
