@@ -12,15 +12,15 @@ use Rattle.bench_check.proofs.Noted.{one_more, no_more}
 use Rattle.bench_check.proofs.Overruns.{one_more_step, all_there}
 use Rattle.bench_check.proofs.trying.Trial.step.Goals as goal
 
-pub returns-in_ok-note-in-Some-clause-on : goal.returns-in_ok-note-in-Some-clause-on
-returns-in_ok-note-in-Some-clause-on g c = λ yes.
+pub returns-in_ok-write_all-in-Some-clause-on : goal.returns-in_ok-write_all-in-Some-clause-on
+returns-in_ok-write_all-in-Some-clause-on g c = λ yes.
     let job = c.args.job.now in
     let h : IsComing c.args.self.now.machine c.in-Some.coming = rw c.in-Some.is at c.in_ok-coming.ensures in
     let next : IsOf (job_in c.args.job.now) c.args.job.now.actions c.step.new.self = next_of c.job_runs.ensures.goes_on (job_in job) job.actions c.args.self.now.machine c.step.new.self c.step.ensures.value c.requires.tried.of c.step.ensures.under_way in
     record {
       tried = record {
         of = next;
-        unmet = one_more c.job_runs.ensures.bus job c.args.self.now.machine c.step.new.self c.in-Some.coming (c.number-number.result + 1) c.args.self.now.unmet.items c.note.new.unmet.items c.program-sound.ensures.sound c.requires.tried.of next c.step.ensures.value h (ap (λ i. i + 1) c.number-number.ensures.value) c.requires.tried.unmet c.in_ok-note-in-Some.ensures;
+        unmet = one_more c.job_runs.ensures.bus job c.args.self.now.machine c.step.new.self c.in-Some.coming (c.number-number.result + 1) c.args.self.now.unmet.items c.note.new.unmet.items c.program-sound.ensures.sound c.requires.tried.of next c.step.ensures.value h (ap (λ i. i + 1) c.number-number.ensures.value) c.requires.tried.unmet c.in_ok-text-in-Some.ensures;
         overruns = one_more_step c.args.self.now.overruns.items c.close.new.overruns.items (overruns job) c.args.self.now.machine c.step.new.self c.step.ensures.value (ap (λ (z : MachineState). z.taken) c.step.ensures.value ∙ h.taken) c.step.ensures.under_way c.in_ok-close.ensures c.requires.tried.overruns;
       };
       smaller = smaller c.args.self.now.machine c.step.new.self c.step.ensures.value (ap (λ (z : MachineState). z.taken) c.step.ensures.value ∙ h.taken) c.step.ensures.under_way;
