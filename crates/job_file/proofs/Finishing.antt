@@ -14,8 +14,8 @@ use Rattle.job_file.specs.HeadLines.{Head, is_none_yet}
 use Rattle.job_file.specs.Drafts.{shown}
 use Rattle.job_file.specs.Spelled.{ChannelJob, job_with, job_of, first_of, spelled}
 use Rattle.job_file.specs.Scripts.{tree_or_nothing, tree_spelled, IsProgramOf}
-use Rattle.job_file.specs.Reading.{IsCodeRefusal, IsJobRefusal, HasProgram}
-use Rattle.job_file.specs.Faults.{IsJobHead, IsFirstFault}
+use Rattle.job_file.specs.Reading.{IsCodeRefusal, IsScriptRefusal, IsJobRefusal, HasProgram}
+use Rattle.job_file.specs.Faults.{IsJobHead, IsFirstFault, IsScriptRefused, IsPlacedBelow}
 use Rattle.job_file.specs.Jobs.{JobState, tree_in, job_in}
 use Rattle.job_file.specs.Texts.{IsAccepted}
 use Rattle.job_file.specs.declared.drafts.Draft.{Draft}
@@ -83,3 +83,12 @@ pub room_wanted : (text : Text) (head : Head) (n : ℕ) (behind : Text) (r : Res
     → IfOk r (λ _. IsFirstFault text error.Memory)
 room_wanted text head n behind (Ok j) h is = script_refused text head n behind error.Memory h (named head.channels _ (job_in j) is)
 room_wanted text head n behind (Err e) h is = tt
+
+-- a script that is refused below a head that names the channel
+pub script_at_fault : (head : Head) (line : ℕ) (below : Text) (e : JobError) → is_none_yet head.channels ≡ false → IsScriptRefusal (tree_of_text below) e → IsPlacedBelow line below e
+    → IsScriptRefused head line below e
+script_at_fault head line below (error.Line n why) named r p = absurd r
+script_at_fault head line below (error.Script cause place) named r p = (named, r, p)
+script_at_fault head line below (error.Assembly n why) named r p = absurd r
+script_at_fault head line below (error.Loading n why) named r p = absurd r
+script_at_fault head line below error.Memory named r p = named

@@ -221,7 +221,7 @@ script_refused text head n behind (error.Line m why) h is =
     let none : is_none_yet (head_of h.at.above).channels ≡ true = rw h.says at is.0 in
     record { at = h.at; counted = h.counted ∙ sym is.1; fault = at_last text head n behind h ∙ (rw (none, is.2) refl) }
 script_refused text head n behind (error.Script cause place) h is =
-    record { line = n; below = behind; reached = record { head = head; is = h; named = is.0 }; fault = is.1 }
+    record { line = n; below = behind; reached = record { head = head; is = h; named = is.0 }; fault = is.1; stands = is.2 }
 script_refused text head n behind (error.Assembly m why) h is =
     let i = is.2 in
     record { below = behind; reached = rw is.1 (record { head = head; is = h; named = is.0 }); tree = i.tree; spells = i.spells; fault = i.fault }

@@ -1,6 +1,7 @@
 -- The first fault of a job's text (own choice): its lines in their order, and in a line first its words, then its
 -- numbers, then its place behind the lines above it; then the script.
-use Rattle.std.specs.Prelude.{◌≡◌, ℕ, ◌+◌, nat_lt, Bool, true, false, ◌&&◌, if◌then◌else◌, List, [], ◌∷◌, ◌++◌, length}
+use Rattle.std.specs.Prelude.{◌≡◌, ℕ, ◌+◌, ◌-◌, ◌^◌, nat_lt, min, Bool, true, false, ◌&&◌, if◌then◌else◌, List, [], ◌∷◌}
+use Rattle.std.specs.Prelude.{◌++◌, length}
 use Rattle.std.specs.Prelude.{map, Option, Some, None, Result, Ok, Err}
 use Rattle.std.specs.Option.{is_some}
 use Rattle.text_lines.specs.Words.{Text, words, has_bytes, is_comment}
@@ -13,7 +14,9 @@ use Rattle.mil_line.specs.declared.faults.Fault.{Fault as PlannedFault}
 use Rattle.mil_line.specs.declared.error.LineError.TheVariants.{TooMany, OutOfRange}
 use Rattle.frame_tree.specs.Tree.{Tree}
 use Rattle.frame_text.specs.Frames.{tree_of_text}
+use Rattle.frame_text.specs.Places.{IsPlaceOf}
 use Rattle.frame_text.specs.declared.faults.Cause.{Cause}
+use Rattle.frame_text.specs.declared.faults.Place.{Place}
 use Rattle.frame_code.specs.Table.{Code}
 use Rattle.frame_asm.specs.Shapes.{code_of_tree}
 use Rattle.job_file.specs.Lines.{Said, blank, script, channel, start, terminal, action, fault, faults, series}
@@ -172,11 +175,20 @@ pub record IsScriptReached (text : Text) (line : ℕ) (below : Text) : Type 0 wh
   pub is : IsJobHead text head line below
   pub named : is_none_yet head.channels ≡ false
 
-pub record IsScriptFault (text : Text) (cause : Cause) : Type 0 where
+-- a place of a script, told by the lines of the whole text, of which this is the one in front of the script; lines are
+-- counted as far as 64 bits count
+pub record IsPlaceBelow (line : ℕ) (below : Text) (place : Place) : Type 0 where
+  pub inside : Place
+  pub stands : IsPlaceOf below inside
+  pub lines : place.line ≡ min (line + inside.line) (2 ^ 64 - 1)
+  pub column : place.column ≡ inside.column
+
+pub record IsScriptFault (text : Text) (cause : Cause) (place : Place) : Type 0 where
   pub line : ℕ
   pub below : Text
   pub reached : IsScriptReached text line below
   pub fault : tree_of_text below ≡ Err cause
+  pub stands : IsPlaceBelow line below place
 
 -- the image of the script is refused for this
 pub record IsImageFault (text : Text) (line : ℕ) (IsRefused : Code → Type 0) : Type 0 where
@@ -190,7 +202,7 @@ pub record IsImageFault (text : Text) (line : ℕ) (IsRefused : Code → Type 0)
 -- above the one at which memory was wanted, and none of that line.
 abbrev pub IsFirstFault : Text → JobError → Type 0
 IsFirstFault text (error.Line line why) = IsLineFault text line why
-IsFirstFault text (error.Script cause place) = IsScriptFault text cause
+IsFirstFault text (error.Script cause place) = IsScriptFault text cause place
 IsFirstFault text (error.Assembly line why) = IsImageFault text line (λ code. IsTooLong code why)
 IsFirstFault text (error.Loading line why) = IsImageFault text line (λ code. IsTooMuch code why)
 IsFirstFault text error.Memory = IsRoomRefused text
@@ -221,12 +233,20 @@ pub record HasImageFault (below : Text) (IsRefused : Code → Type 0) : Type 0 w
 abbrev pub IsScriptRefused : Head → ℕ → Text → JobError → Type 0
 IsScriptRefused head line below (error.Line n why) = (is_none_yet head.channels ≡ true) × (n ≡ line) × (why ≡ Order)
 IsScriptRefused head line below (error.Script cause place) = (is_none_yet head.channels ≡ false)
-    × (tree_of_text below ≡ Err cause)
+    × (tree_of_text below ≡ Err cause) × IsPlaceBelow line below place
 IsScriptRefused head line below (error.Assembly n why) = (is_none_yet head.channels ≡ false) × (n ≡ line)
     × HasImageFault below (λ code. IsTooLong code why)
 IsScriptRefused head line below (error.Loading n why) = (is_none_yet head.channels ≡ false) × (n ≡ line)
     × HasImageFault below (λ code. IsTooMuch code why)
 IsScriptRefused head line below error.Memory = is_none_yet head.channels ≡ false
+
+-- a fault of the script stands at a place of it, whose line in front is this
+abbrev pub IsPlacedBelow : ℕ → Text → JobError → Type 0
+IsPlacedBelow line below (error.Line n why) = ⊥
+IsPlacedBelow line below (error.Script cause place) = IsPlaceBelow line below place
+IsPlacedBelow line below (error.Assembly n why) = ⊥
+IsPlacedBelow line below (error.Loading n why) = ⊥
+IsPlacedBelow line below error.Memory = Unit {0}
 
 -- a fault of the image stands at this line
 abbrev pub IsLineOf : ℕ → JobError → Type 0

@@ -4,13 +4,13 @@ ghost use Rattle.frame_text.specs.Frames.{tree_of_text};
 ghost use Rattle.frame_tree.specs.Bounds.{IsSound};
 ghost use Rattle.frame_tree.specs.Tree.{tree_of};
 ghost use Rattle.job_file.specs.Drafts.{shown};
-ghost use Rattle.job_file.specs.Faults.{IsJobHead, IsFirstFault, IsScriptRefused, IsLineOf};
+ghost use Rattle.job_file.specs.Faults.{IsJobHead, IsFirstFault, IsScriptRefused, IsLineOf, IsPlacedBelow};
 ghost use Rattle.job_file.specs.JobRanges.{IsFit};
 ghost use Rattle.job_file.specs.Jobs.{tree_in, job_in};
 ghost use Rattle.job_file.specs.Reading.{IsJobRefusal, IsScriptRefusal, IsCodeRefusal, HasProgram};
 ghost use Rattle.job_file.specs.Spelled.{spelled, job_of};
 ghost use Rattle.job_file.specs.Texts.{IsAccepted};
-ghost use Rattle.std.specs.Prelude.{◌≡◌, Ok, Some, MatchResult, IfOk, IfErr};
+ghost use Rattle.std.specs.Prelude.{◌≡◌, ◌+◌, ◌-◌, ◌^◌, min, Ok, Some, MatchResult, IfOk, IfErr};
 
 use crate::drafts::{Draft, Taken};
 use crate::error::{JobError, LineFault};
@@ -66,7 +66,10 @@ fn read_head(alloc: Global, text: &[u8]) -> Result<Head<'_>, JobError>
 }
 
 /// A place of the script in the whole text, where the script begins behind this line.
-fn placed(line: u64, place: Place) -> Place {
+fn placed(line: u64, place: Place) -> Place
+    ensures line { result.line ≡ min (line + place.line) (2 ^ 64 - 1) }
+    ensures column { result.column ≡ place.column }
+{
     Place {
         line: line.saturating_add(place.line),
         column: place.column,
@@ -77,6 +80,7 @@ fn placed(line: u64, place: Place) -> Place {
 fn read_script<'a>(arena: &'a Bump, line: u64, text: &[u8]) -> Result<Frame<&'a Bump>, JobError>
     ensures tree { IfOk result (λ f. tree_of_text text.now ≡ Ok (tree_of f)) }
     ensures refused { IfErr result (IsScriptRefusal (tree_of_text text.now)) }
+    ensures place { IfErr result (IsPlacedBelow line text.now) }
     ensures sound { IfOk result (λ f. IsSound (tree_of f)) }
 {
     match parse(arena, text) {
