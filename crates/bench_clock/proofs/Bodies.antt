@@ -1,11 +1,11 @@
 -- The bodies of time packets are read as they are written.
-use Rattle.std.proofs.Common.{◌≡◌, ℕ, zero, suc, ◌/◌, ◌%◌, ◌<◌, ◌≤◌, Bool, true, false, cond, List, get_or, inl, inr, refl, sym, ap, ◌∙◌, arith}
+use Rattle.std.proofs.Common.{◌≡◌, ℕ, zero, suc, ◌+◌, ◌/◌, ◌%◌, ◌<◌, ◌≤◌, Bool, true, false, cond, List, get_or, inl, inr, refl, sym, ap, ◌∙◌, arith}
 use Rattle.std.specs.Prelude.{Option, None, Some}
 use Rattle.std.specs.Str.{bytes_eq}
 use Rattle.std.proofs.lemmas.Bool.{cases_lt}
 use Rattle.std.proofs.lemmas.Slice.Eq.{bytes_eq-Decides}
 use Rattle.bench_clock.specs.Calendar.{day_numbered}
-use Rattle.bench_clock.specs.TimeBody.{two_digits, body_of, second_below}
+use Rattle.bench_clock.specs.TimeBody.{two_digits, body_of, year_body, year_seconds, second_below}
 use Rattle.bench_clock.proofs.Days.{small_parts, same_day}
 
 same_number : (m n : ℕ) → m < 100 → n < 100 → two_digits m ≡ two_digits n → m ≡ n
@@ -47,29 +47,57 @@ same_body a b few most same =
     let second = same_second (a % 86400) (b % 86400) (omega arith) (omega arith) (byte 5) (byte 6) (byte 7) in
     omega (arith, day, second)
 
-passed_over : (n : ℕ) (body : List ℕ) (rest : Option ℕ) → (body ≡ body_of n → ⊥) → (same : Bool) → bytes_eq body (body_of n) ≡ same → cond same (Some n) rest ≡ rest
-passed_over n body rest other true is = absurd (other ((bytes_eq-Decides body (body_of n)).0 is))
-passed_over n body rest other false is = refl
+-- ---- the body of a second of a year
 
-hit : (n : ℕ) (body : List ℕ) (rest : Option ℕ) → body ≡ body_of n → cond (bytes_eq body (body_of n)) (Some n) rest ≡ Some n
-hit n body rest is = rw ((bytes_eq-Decides body (body_of n)).1 is) refl
+pub same_year_body : (leap : Bool) (a b : ℕ) → a < 31622400 → b < 31622400 → year_body leap a ≡ year_body leap b → a ≡ b
+same_year_body leap a b few most same =
+    let byte : (k : ℕ) → get_or (year_body leap a) k 0 ≡ get_or (year_body leap b) k 0 = λ k. ap (λ (xs : List ℕ). get_or xs k 0) same in
+    let second = same_number (a % 60) (b % 60) (omega arith) (omega arith) (byte 5) in
+    let minute = same_number (a / 60 % 60) (b / 60 % 60) (omega arith) (omega arith) (byte 6) in
+    let hour = same_number (a % 86400 / 3600) (b % 86400 / 3600) (omega arith) (omega arith) (byte 7) in
+    let day = same_number ((a / 86400 + 1) % 100) ((b / 86400 + 1) % 100) (omega arith) (omega arith) (byte 8) in
+    let hundreds : (a / 86400 + 1) / 100 ≡ (b / 86400 + 1) / 100 = byte 9 in
+    let days : a / 86400 ≡ b / 86400 = omega (arith, day, hundreds) in
+    omega (arith, days, second, minute, hour)
+
+pub year_short : (leap : Bool) → year_seconds leap ≤ 31622400
+year_short true = omega arith
+year_short false = omega arith
+
+-- ---- the second of a body
+
+passed_over : (n : ℕ) (body other : List ℕ) (rest : Option ℕ) → (body ≡ other → ⊥) → (same : Bool) → bytes_eq body other ≡ same → cond same (Some n) rest ≡ rest
+passed_over n body other rest differs true is = absurd (differs ((bytes_eq-Decides body other).0 is))
+passed_over n body other rest differs false is = refl
+
+hit : (n : ℕ) (body other : List ℕ) (rest : Option ℕ) → body ≡ other → cond (bytes_eq body other) (Some n) rest ≡ Some n
+hit n body other rest is = rw ((bytes_eq-Decides body other).1 is) refl
 
 -- bytes that are the body of no second
-pub no_second : (n : ℕ) (body : List ℕ) → ((t : ℕ) → t < n → body ≡ body_of t → ⊥) → second_below n body ≡ None
+pub no_second : (f : ℕ → List ℕ) (n : ℕ) (body : List ℕ) → ((t : ℕ) → t < n → body ≡ f t → ⊥) → second_below f n body ≡ None
 unfolding second_below
-no_second zero body none = refl
-no_second (suc n) body none =
-    passed_over n body (second_below n body) (none n (omega arith)) _ refl ∙ no_second n body (λ t lt. none t (omega (arith, lt)))
+no_second f zero body none = refl
+no_second f (suc n) body none =
+    passed_over n body (f n) (second_below f n body) (none n (omega arith)) _ refl ∙ no_second f n body (λ t lt. none t (omega (arith, lt)))
+
+-- no two seconds below a limit have the same body
+abbrev pub AreApart : (ℕ → List ℕ) → ℕ → Type 0
+AreApart f limit = (a b : ℕ) → a < limit → b < limit → f a ≡ f b → a ≡ b
 
 -- the body of a second
-pub one_second : (n t : ℕ) (body : List ℕ) → n ≤ 253402300800 → t < n → body ≡ body_of t → second_below n body ≡ Some t
+pub one_second : (f : ℕ → List ℕ) (limit : ℕ) → AreApart f limit → (n t : ℕ) (body : List ℕ) → n ≤ limit → t < n → body ≡ f t → second_below f n body ≡ Some t
 unfolding second_below
-one_second zero t body most lt is = absurd (omega (arith, lt))
-one_second (suc n) t body most lt is = elim (cases_lt t n) [
+one_second f limit apart zero t body most lt is = absurd (omega (arith, lt))
+one_second f limit apart (suc n) t body most lt is = elim (cases_lt t n) [
   | inl less ↦
-      let other : body ≡ body_of n → ⊥ = λ same. absurd (omega (arith, less, same_body n t (omega (arith, most)) (omega (arith, most, less)) (sym same ∙ is))) in
-      passed_over n body (second_below n body) other _ refl ∙ one_second n t body (omega (arith, most)) less is
+      let other : body ≡ f n → ⊥ = λ same. absurd (omega (arith, less, apart n t (omega (arith, most)) (omega (arith, most, less)) (sym same ∙ is))) in
+      passed_over n body (f n) (second_below f n body) other _ refl ∙ one_second f limit apart n t body (omega (arith, most)) less is
   | inr rest ↦
       let last : t ≡ n = omega (arith, lt, rest) in
-      hit n body (second_below n body) (is ∙ ap body_of last) ∙ ap (λ (k : ℕ). Some k) (sym last)
+      hit n body (f n) (second_below f n body) (is ∙ ap f last) ∙ ap (λ (k : ℕ). Some k) (sym last)
 ]
+
+pub year_apart : (leap : Bool) → AreApart (year_body leap) (year_seconds leap)
+year_apart leap a b few most same =
+    let short = year_short leap in
+    same_year_body leap a b (omega (arith, few, short)) (omega (arith, most, short)) same

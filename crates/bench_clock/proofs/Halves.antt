@@ -4,6 +4,7 @@ use Rattle.std.specs.Prelude.{slice_get}
 use Rattle.std.specs.List.Sorted.{IsPartitionedBy, IsPartitionPoint}
 use Rattle.std.proofs.lemmas.Option.{slice_get_within, slice_get-get_or}
 use Rattle.bench_clock.specs.declared.clock.Mark.{Mark}
+use Rattle.bench_clock.specs.declared.told.PacketTime.TheVariants.{Utc}
 use Rattle.bench_clock.specs.Rising.{IsRising}
 
 -- where no counter falls, no mark at or before the stamp comes after one that is behind it
@@ -24,7 +25,7 @@ module _ (ms : List Mark) (stamp n : ℕ)
   pub some_before : 0 < length ms → ((m : Mark) → slice_get ms 0 ≡ Some m → m.counter ≤ stamp) → 0 < n
   some_before some first = elim n as (λ k. n ≡ k → 0 < k) [
     | zero ↦ λ is.
-        let d : Mark = record { counter = 0; second = 0 } in
+        let d : Mark = record { counter = 0; time = Utc 0 } in
         let low = first (get_or ms 0 d) (slice_get-get_or ms 0 d some) in
         let high = leb-false _ _ (point.1 0 d (omega (arith, is)) some) in
         absurd (omega (arith, low, high))

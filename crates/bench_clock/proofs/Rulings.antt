@@ -3,7 +3,8 @@ use Rattle.std.proofs.Common.{◌≡◌, ℕ, zero, suc, ◌+◌, ◌-◌, ◌*�
 use Rattle.std.specs.Prelude.{slice_get, Option, None, Some}
 use Rattle.std.proofs.lemmas.Bool.{lt-ltb, le-ltb}
 use Rattle.bench_clock.specs.declared.clock.Mark.{Mark}
-use Rattle.bench_clock.specs.Clock.{ruling, within_years, time_at}
+use Rattle.bench_clock.specs.Time.{Time}
+use Rattle.bench_clock.specs.Clock.{ruling, within_years, time_behind, time_at}
 
 -- all marks stand behind the stamp
 pub none_rules : (ms : List Mark) (stamp : ℕ) → ((j : ℕ) (m : Mark) → slice_get ms j ≡ Some m → stamp < m.counter) → ruling stamp ms ≡ None
@@ -27,9 +28,9 @@ one_rules (x ∷ xs) (suc i) m stamp there from last =
     rw rest refl
 
 -- the time at a stamp, by the mark that rules it
-pub time_is : (ms : List Mark) (i : ℕ) (m : Mark) (stamp : ℕ) (answer : Option ℕ) → slice_get ms i ≡ Some m → m.counter ≤ stamp
+pub time_is : (ms : List Mark) (i : ℕ) (m : Mark) (stamp : ℕ) (answer : Option Time) → slice_get ms i ≡ Some m → m.counter ≤ stamp
     → ((j : ℕ) (x : Mark) → i < j → slice_get ms j ≡ Some x → stamp < x.counter)
-    → answer ≡ within_years (m.second * 10000000 + (stamp - m.counter)) → answer ≡ time_at ms stamp
+    → answer ≡ time_behind m.time (stamp - m.counter) → answer ≡ time_at ms stamp
 time_is ms i m stamp answer there from last is = rw (one_rules ms i m stamp there from last) is
 
 -- in front of the first mark there is no time

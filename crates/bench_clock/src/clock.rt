@@ -1,24 +1,27 @@
 //! The time of day at the stamps of a recording.
 ghost use Rattle.bench_clock.specs.Clock as spec;
+ghost use Rattle.bench_clock.specs.Rising.{IsRising};
+ghost use Rattle.bench_clock.specs.Time.{time_of};
 ghost use Rattle.ch11_reader.specs.Listing.{listing};
 ghost use Rattle.ch11_stream.specs.Folding.{FoldsPackets};
-ghost use Rattle.std.specs.Prelude.{◌≡◌, ℕ, List, Some, IfOk, option_map};
+ghost use Rattle.std.specs.Prelude.{◌≡◌, ◌&&◌, ℕ, List, Some, IfOk, option_map};
 
-use crate::marks::marks_of;
+use crate::marks::{has_time_packets, marks_of};
+use crate::passing::time_behind;
 use crate::ruling::place_of;
-use crate::streaming::marks_from;
-use crate::time::{SECOND, UtcTime};
+use crate::streaming::{TimePackets, marks_from};
+use crate::time::TimeOfDay;
+use crate::told::PacketTime;
 use ch11_reader::Packet;
 use ch11_stream::{Advance, StreamFault};
 use std::alloc::{AllocError, Global};
 use std::marker::Model;
 
-/// A time packet that counts: its relative time counter in ticks of 0.1 µs, and the UTC second at it, counted from
-/// 1970-01-01T00:00:00.
+/// A time packet that counts: its relative time counter in ticks of 0.1 µs, and the time at it.
 #[derive(Clone, Copy, Debug)]
 pub struct Mark {
     pub counter: u64,
-    pub second: u64,
+    pub time: PacketTime,
 }
 
 /// The time packets of a recording, which tell the time of day at its stamps.
@@ -39,13 +42,18 @@ impl Model for Clock {
     ghost invariant = { λ c. IsRising c.marks.items };
 }
 
-/// The end of the year 9999, in ticks behind 1970-01-01T00:00:00.
-const END: u64 = 2_534_023_008_000_000_000;
+/// The clock of a recording that was read for its times of day.
+#[derive(Drop)]
+pub struct ReadClock {
+    pub clock: Clock,
+    /// Whether the recording has packets of type 11 of which none can be read, so that it has no time of day.
+    pub unread: bool,
+}
 
 impl Clock {
     /// The clock of a recording: its bytes, and its packets as an index has them (`index.packets()`). Time packets are
-    /// packets of type 11 in the layout of `body_of`; one whose counter is not above those of all before it does not
-    /// count.
+    /// packets of type 11 with a body that `read_time` reads; one whose counter is not above those of all before it
+    /// does not count.
     pub fn of(alloc: Global, file: &[u8], packets: &[Packet]) -> Result<Clock, AllocError>
         ensures { IfOk result (λ c. c ≡ spec.marks_in file.now packets.now) }
     {
@@ -61,34 +69,62 @@ impl Clock {
         self.marks.is_empty()
     }
 
-    /// The time of day at a stamp in ticks of 0.1 µs: that of the last time packet at or before it, and what has passed
-    /// since. None in front of the first time packet, and behind the year 9999.
-    pub fn at(&self, stamp: u64) -> Option<UtcTime>
-        ensures { option_map (λ t. t.ticks) result ≡ spec.time_at self.now stamp }
+    /// The time of day at a stamp in ticks of 0.1 µs: that of the last time packet at or before it, of either form, and
+    /// what has passed since. None in front of the first time packet, and behind the year 9999; behind the end of a
+    /// year that is not named begins the next.
+    pub fn at(&self, stamp: u64) -> Option<TimeOfDay>
+        ensures { option_map (λ t. time_of t) result ≡ spec.time_at self.now stamp }
     {
         let first = self.marks.first()?;
         if stamp < first.counter {
             return None;
         }
         let mark = self.marks[place_of(self.marks.as_slice(), stamp)];
-        let ticks = (mark.second * SECOND).saturating_add(stamp - mark.counter);
-        if ticks < END {
-            Some(UtcTime { ticks })
-        } else {
-            None
-        }
+        let passed = stamp - mark.counter;
+        time_behind(mark.time, passed)
     }
 }
 
-/// The clock that `Clock::of` makes of all bytes that a reader has left, in one pass over their packets, in memory for
-/// the largest packet of messages or of time, and 16 bytes for each time packet that counts. A recording that can't be
+impl ReadClock {
+    /// The clock that `Clock::of` makes, and whether there are time packets and none of them can be read.
+    pub fn of(alloc: Global, file: &[u8], packets: &[Packet]) -> Result<ReadClock, AllocError>
+        ensures clock { IfOk result (λ r. r.clock ≡ spec.marks_in file.now packets.now) }
+        ensures unread { IfOk result (λ r. r.unread ≡ spec.is_unread file.now packets.now) }
+    {
+        let clock = Clock::of(alloc, file, packets)?;
+        let unread = both(has_time_packets(packets), clock.is_empty());
+        Ok(ReadClock { clock, unread })
+    }
+}
+
+/// Whether both are so.
+fn both(any: bool, unset: bool) -> bool
+    ensures { result ≡ (any && unset) }
+{
+    any && unset
+}
+
+/// The clock of the time packets of a recording.
+fn read_of(found: TimePackets) -> ReadClock
+    requires { IsRising found.marks.items }
+    ensures clock { result.clock ≡ found.marks.items }
+    ensures unread { result.unread ≡ (found.any && spec.is_unset found.marks.items) }
+{
+    let TimePackets { marks, any } = found;
+    let clock = Clock { marks };
+    let unread = both(any, clock.is_empty());
+    ReadClock { clock, unread }
+}
+
+/// What `ReadClock::of` tells of all bytes that a reader has left, in one pass over their packets, in memory for the
+/// largest packet of messages or of time, and 24 bytes for each time packet that counts. A recording that can't be
 /// read is refused with its first fault, K1 to K5, N2 or F1 to F3; want of memory and the reader's failure are the
 /// others.
-pub fn clock_from<R: Advance + Drop>(alloc: Global, input: R) -> Result<Clock, StreamFault>
-    ensures { (file : List ℕ) → R.remaining input ≡ Some file
-        → FoldsPackets (λ ps clock. clock ≡ spec.marks_in file (listing ps)) result file }
+pub fn clock_from<R: Advance + Drop>(alloc: Global, input: R) -> Result<ReadClock, StreamFault>
+    ensures clock { (file : List ℕ) → R.remaining input ≡ Some file
+        → FoldsPackets (λ ps r. r.clock ≡ spec.marks_in file (listing ps)) result file }
+    ensures unread { (file : List ℕ) → R.remaining input ≡ Some file
+        → FoldsPackets (λ ps r. r.unread ≡ spec.is_unread file (listing ps)) result file }
 {
-    Ok(Clock {
-        marks: marks_from(alloc, input)?,
-    })
+    Ok(read_of(marks_from(alloc, input)?))
 }

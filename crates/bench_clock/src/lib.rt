@@ -8,13 +8,20 @@
 mod bcd;
 mod body;
 mod clock;
+mod day_text;
 mod marks;
+mod passing;
 mod reading;
 mod ruling;
 mod streaming;
 mod time;
+mod told;
+mod utc_text;
+mod year_reading;
+mod year_text;
 
 pub use body::body_of;
-pub use clock::{Clock, Mark, clock_from};
-pub use reading::read_second;
-pub use time::UtcTime;
+pub use clock::{Clock, Mark, ReadClock, clock_from};
+pub use day_text::TimeText;
+pub use time::{TimeOfDay, UtcTime, YearTime};
+pub use told::{PacketTime, is_time_body, read_time};

@@ -1,33 +1,39 @@
 //! What the packets of a recording tell of the time.
 ghost use Rattle.bench_clock.specs.Clock as spec;
 ghost use Rattle.ch11_header.specs.HeaderReading.{body_start};
-ghost use Rattle.std.specs.Prelude.{◌≡◌, ◌<◌, ◌++◌, take, drop, IfSome, IfOk, OnOk};
+ghost use Rattle.ch11_reader.specs.Recording.{body_of};
+ghost use Rattle.std.specs.Prelude.{◌≡◌, ◌++◌, take, drop, IfOk, OnOk};
 
 use crate::clock::Mark;
-use crate::reading::read_second;
+use crate::told::{PacketTime, read_time};
 use ch11_header::Header;
 use ch11_header::kinds::TIME_DATA;
 use ch11_reader::Packet;
 use std::alloc::{AllocError, Global};
 
-/// The UTC second that the packet tells that has this header and begins these bytes; None for a packet that is no time
-/// packet, or one of another layout.
-pub(crate) fn told_in(header: &Header, bytes: &[u8]) -> Option<u64>
-    ensures second { result ≡ spec.told_in header.now bytes.now }
-    ensures small { IfSome result (λ t. t < 253402300800) }
+/// The body of the packet that has this header and begins these bytes.
+fn body_in<'a>(header: &Header, bytes: &'a [u8]) -> &'a [u8]
+    ensures { result.now ≡ body_of header.now bytes.now }
+{
+    let behind = bytes.get(header.body_start()..).unwrap_or(&[]);
+    let size = behind.len().min(header.data_length as usize);
+    &behind[..size]
+}
+
+/// The time that the packet tells that has this header and begins these bytes; None for a packet that is no time
+/// packet, or one that can't be read.
+pub(crate) fn told_in(header: &Header, bytes: &[u8]) -> Option<PacketTime>
+    ensures { result ≡ spec.told_in header.now bytes.now }
 {
     if header.kind != TIME_DATA {
         return None;
     }
-    let behind = bytes.get(header.body_start()..).unwrap_or(&[]);
-    let size = behind.len().min(header.data_length as usize);
-    read_second(&behind[..size])
+    read_time(body_in(header, bytes))
 }
 
-/// The UTC second that a packet of a file tells.
-fn told_by(file: &[u8], packet: &Packet) -> Option<u64>
-    ensures second { result ≡ spec.told_by file.now packet.now }
-    ensures small { IfSome result (λ t. t < 253402300800) }
+/// The time that a packet of a file tells.
+fn told_by(file: &[u8], packet: &Packet) -> Option<PacketTime>
+    ensures { result ≡ spec.told_by file.now packet.now }
 {
     let behind = file.get(packet.offset..).unwrap_or(&[]);
     told_in(&packet.header, behind)
@@ -38,18 +44,18 @@ pub(crate) fn keep(
     marks: &mut Vec<Mark>,
     last: Option<u64>,
     counter: u64,
-    told: Option<u64>,
+    told: Option<PacketTime>,
 ) -> Result<Option<u64>, AllocError>
     ensures marks { OnOk result (marks.new.items ≡ marks.old.items ++ spec.mark_of last counter told) }
     ensures last { IfOk result (λ l. l ≡ spec.last_behind last counter told) }
 {
-    let Some(second) = told else {
+    let Some(time) = told else {
         return Ok(last);
     };
     if last.is_some_and(|last| counter <= last) {
         return Ok(last);
     }
-    marks.push(Mark { counter, second })?;
+    marks.push(Mark { counter, time })?;
     Ok(Some(counter))
 }
 
@@ -72,4 +78,16 @@ pub(crate) fn marks_of(
         )?;
     }
     Ok(marks)
+}
+
+/// Whether there are packets of type 11.
+pub(crate) fn has_time_packets(packets: &[Packet]) -> bool
+    ensures { result ≡ spec.has_time_packets packets.now }
+{
+    'packets: for packet in packets {
+        if packet.header.kind == TIME_DATA {
+            return true;
+        }
+    }
+    false
 }

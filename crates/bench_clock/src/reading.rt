@@ -64,7 +64,7 @@ fn is_body_of(body: &[u8], second: u64) -> bool
 
 /// The UTC second of the body of a time packet, counted from 1970-01-01T00:00:00: the one for which `body_of` writes
 /// these bytes. None for any other bytes, as those of another format.
-pub fn read_second(body: &[u8]) -> Option<u64>
+pub(crate) fn read_second(body: &[u8]) -> Option<u64>
     ensures second { result ≡ spec.second_of body.now }
     ensures small { IfSome result (λ t. t < 253402300800) }
 {

@@ -1,9 +1,5 @@
-//! A time of day.
-ghost use Rattle.bench_clock.specs.Calendar.{day_numbered};
-ghost use Rattle.bench_clock.specs.TimeText as spec;
-ghost use Rattle.std.specs.Prelude.{◌≡◌, ◌<◌, ◌≤◌};
-
-use crate::body::{DAY, date_of};
+//! Times of day.
+ghost use Rattle.std.specs.Prelude.{◌<◌};
 
 /// How many ticks of 0.1 µs a second has.
 pub(crate) const SECOND: u64 = 10_000_000;
@@ -15,62 +11,18 @@ pub struct UtcTime {
     pub ghost in_range: { ticks < 2534023008000000000 },
 }
 
-/// The last decimal digit of a number.
-fn digit(number: u32) -> u8
-    ensures { result ≡ spec.digit number }
-{
-    b'0' + (number % 10) as u8
+/// A time of a year that no packet names, in ticks of 0.1 µs behind its begin.
+#[derive(Clone, Copy, Debug)]
+pub struct YearTime {
+    pub ticks: u64,
+    pub ghost in_range: { ticks < 316224000000000 },
 }
 
-/// A day, a second of it, and ticks of that second.
-fn text_of(day: u64, second: u32, ticks: u32) -> [u8; 27]
-    requires { day ≤ 2932896 }
-    ensures { result ≡ spec.time_of_day_text (day_numbered day) second ticks }
-{
-    let date = date_of(day);
-    let (year, month, day) = (date.year as u32, u32::from(date.month), u32::from(date.day));
-    let (minutes, seconds) = (second / 60 % 60, second % 60);
-    [
-        digit(year / 1000),
-        digit(year / 100),
-        digit(year / 10),
-        digit(year),
-        b'-',
-        digit(month / 10),
-        digit(month),
-        b'-',
-        digit(day / 10),
-        digit(day),
-        b'T',
-        digit(second / 36_000),
-        digit(second / 3600),
-        b':',
-        digit(minutes / 10),
-        digit(minutes),
-        b':',
-        digit(seconds / 10),
-        digit(seconds),
-        b'.',
-        digit(ticks / 1_000_000),
-        digit(ticks / 100_000),
-        digit(ticks / 10_000),
-        digit(ticks / 1000),
-        digit(ticks / 100),
-        digit(ticks / 10),
-        digit(ticks),
-    ]
-}
-
-impl UtcTime {
-    /// The time as text, YYYY-MM-DDTHH:MM:SS and seven digits of a second behind a point. No memory is taken.
-    pub fn text(&self) -> [u8; 27]
-        ensures { result ≡ spec.time_text self.now.ticks }
-    {
-        let second = self.ticks / SECOND;
-        text_of(
-            second / DAY,
-            (second % DAY) as u32,
-            (self.ticks % SECOND) as u32,
-        )
-    }
+/// A time of day.
+#[derive(Clone, Copy, Debug)]
+pub enum TimeOfDay {
+    /// With its date, in UTC.
+    Utc(UtcTime),
+    /// Of a year that no packet names.
+    OfYear(YearTime),
 }

@@ -10,16 +10,17 @@ use Rattle.ch11_reader.specs.Indexed.{found_in}
 use Rattle.ch11_reader.specs.Skipping.{packets_read, skips_in}
 use Rattle.bench_clock.specs.declared.clock.Mark.{Mark}
 use Rattle.bench_clock.specs.Clock.{marks_in, time_at}
-use Rattle.bench_clock.specs.TimeText.{time_text}
+use Rattle.bench_clock.specs.Time.{Time}
+use Rattle.bench_clock.specs.TimeText.{text_of}
 use Rattle.bench_dump.specs.DumpText.{bus_words, packet_line, word_digits}
 use Rattle.bench_dump.specs.SkippingText.{skip_lines, skips_before, skips_behind, file_text}
 
-abbrev pub time_words : Option ℕ → List ℕ
+abbrev pub time_words : Option Time → List ℕ
 time_words None = []
-time_words (Some ticks) = codes " time " ++ time_text ticks
+time_words (Some time) = codes " time " ++ text_of time
 
 -- the line of message n on a channel, with a time of day
-unfoldable pub timed_line : Option ℕ → ℕ → ℕ → Message → List ℕ
+unfoldable pub timed_line : Option Time → ℕ → ℕ → Message → List ℕ
 timed_line time n channel m =
     (codes "message " ++ decimal n)
     ++ ((codes " channel " ++ decimal channel)

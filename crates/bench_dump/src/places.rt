@@ -1,4 +1,6 @@
 //! The parts of a message's line, written one behind the other into a buffer that has room for all of them.
+ghost use Rattle.bench_clock.specs.Time.{time_of};
+ghost use Rattle.bench_clock.specs.TimeText.{text_of};
 ghost use Rattle.bench_dump.specs.DumpText.{bus_words, byte_digits, word_digits};
 ghost use Rattle.bench_dump.specs.Places.{IsPutInBuffer};
 ghost use Rattle.bench_dump.specs.TimedText.{time_words, timed_line};
@@ -6,7 +8,7 @@ ghost use Rattle.ch11_f1.specs.Views.{message_of};
 ghost use Rattle.std.specs.Prelude.{◌≡◌, ◌+◌, ◌*◌, ◌/◌, ◌≤◌, ◌∷◌, ◌++◌, length, decimal, option_map};
 
 use crate::digits::{place_byte, place_decimal};
-use bench_clock::UtcTime;
+use bench_clock::TimeOfDay;
 use ch11_f1::Seen;
 
 /// How many bytes a message's line has at most beside its bus words: 50 of labels, three numbers of up to 20, two words
@@ -87,18 +89,31 @@ pub fn place_bus_words(buffer: &mut [u8], start: usize, words: &[u8]) -> usize
     at
 }
 
+/// Places a time of day.
+#[inline(always)]
+fn place_day(buffer: &mut [u8], at: usize, time: TimeOfDay) -> usize
+    requires { at + 27 ≤ length buffer.old }
+    ensures placed { IsPutInBuffer buffer.old buffer.new at (text_of (time_of time)) result }
+    ensures few { result ≤ at + 27 }
+{
+    match time {
+        TimeOfDay::Utc(time) => place_label(buffer, at, &time.text()),
+        TimeOfDay::OfYear(time) => place_label(buffer, at, &time.text()),
+    }
+}
+
 /// Places a time of day behind its label, where there is one.
 #[inline(always)]
-fn place_time(buffer: &mut [u8], at: usize, time: Option<UtcTime>) -> usize
+fn place_time(buffer: &mut [u8], at: usize, time: Option<TimeOfDay>) -> usize
     requires { at + 33 ≤ length buffer.old }
-    ensures placed { IsPutInBuffer buffer.old buffer.new at (time_words (option_map (λ t. t.ticks) time)) result }
+    ensures placed { IsPutInBuffer buffer.old buffer.new at (time_words (option_map (λ t. time_of t) time)) result }
     ensures few { result ≤ at + 33 }
 {
     match time {
         None => at,
         Some(time) => {
             let middle = place_label(buffer, at, b" time ");
-            place_label(buffer, middle, &time.text())
+            place_day(buffer, middle, time)
         }
     }
 }
@@ -111,12 +126,12 @@ pub(crate) fn place_message(
     start: usize,
     number: u64,
     channel: u16,
-    time: Option<UtcTime>,
+    time: Option<TimeOfDay>,
     seen: &Seen<'_>,
 ) -> usize
     requires { start + (MESSAGE_HEAD + 5 * (length seen.now.words.now / 2)) ≤ length buffer.old }
     ensures { IsPutInBuffer buffer.old buffer.new start
-        (timed_line (option_map (λ t. t.ticks) time) number channel (message_of seen.now)) result }
+        (timed_line (option_map (λ t. time_of t) time) number channel (message_of seen.now)) result }
 {
     let at = place_number(buffer, start, b"message ", number);
     let at = place_number(buffer, at, b" channel ", channel as u64);

@@ -1,4 +1,5 @@
 //! Text on its way to a writer.
+ghost use Rattle.bench_clock.specs.Time.{time_of};
 ghost use Rattle.bench_dump.specs.TimedText.{timed_line};
 ghost use Rattle.ch11_f1.specs.Views.{message_of};
 ghost use Rattle.ch11_stream.specs.Feeding.{IsOther};
@@ -6,7 +7,7 @@ ghost use Rattle.std.specs.Io.KnownBytes.{Appends};
 ghost use Rattle.std.specs.Prelude.{◌≡◌, ◌+◌, ◌≤◌, ◌++◌, [], length, take, vec_len, option_map, OnOk, IfErr};
 
 use crate::places::{MESSAGE_HEAD, place_bytes, place_message};
-use bench_clock::UtcTime;
+use bench_clock::TimeOfDay;
 use ch11_f1::Seen;
 use ch11_stream::StreamFault;
 use std::alloc::{AllocError, Global};
@@ -119,11 +120,11 @@ impl Text {
         &mut self,
         number: u64,
         channel: u16,
-        time: Option<UtcTime>,
+        time: Option<TimeOfDay>,
         seen: &Seen<'_>,
     ) -> Result<(), AllocError>
         ensures { OnOk result (self.new
-            ≡ self.old ++ timed_line (option_map (λ t. t.ticks) time) number channel (message_of seen.now)) }
+            ≡ self.old ++ timed_line (option_map (λ t. time_of t) time) number channel (message_of seen.now)) }
     {
         let words = seen.word_count().saturating_mul(5);
         make_room(

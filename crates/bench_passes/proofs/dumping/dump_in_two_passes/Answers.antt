@@ -9,7 +9,7 @@ pub returns-in-Ok-clause-dumped : goal.returns-in-Ok-clause-dumped
 returns-in-Ok-clause-dumped g c file other is then read = c.dump_from.ensures other then
 
 pub returns-in-Err-clause-refused : goal.returns-in-Err-clause-refused
-returns-in-Err-clause-refused g c file r is refused = (refl, first_fault file r c.in-Err.fault (c.in-Err.ensures file is) refused)
+returns-in-Err-clause-refused g c file r is refused = (refl, first_fault (Unit {0}) file r c.in-Err.fault (c.in-Err.ensures file is) refused)
 
 pub returns-in-Err-clause-dumped : goal.returns-in-Err-clause-dumped
 returns-in-Err-clause-dumped g c file other is then read = other_fault file other _ c.in-Err.fault (c.in-Err.ensures file is) read

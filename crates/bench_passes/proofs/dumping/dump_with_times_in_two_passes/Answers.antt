@@ -1,4 +1,5 @@
-use Rattle.std.proofs.Common.{refl}
+use Rattle.std.proofs.Common.{◌≡◌, Bool, refl, subst}
+use Rattle.std.specs.Prelude.{IfOk}
 use Rattle.ch11_reader.specs.Indexed.{found_in}
 use Rattle.ch11_reader.specs.Listing.{listing}
 use Rattle.bench_clock.specs.Clock.{marks_in}
@@ -6,14 +7,18 @@ use Rattle.bench_passes.proofs.Passes.{first_fault, not_both, other_timed, same_
 use Rattle.bench_passes.proofs.dumping.dump_with_times_in_two_passes.Goals as goal
 
 pub returns-in-Ok-clause-refused : goal.returns-in-Ok-clause-refused
-returns-in-Ok-clause-refused g c file r is refused = absurd (not_both file _ r (c.in-Ok.ensures file is).0 refused)
+returns-in-Ok-clause-refused g c file r is refused = absurd (not_both file _ r (c.in-Ok.ensures.clock file is).0 refused)
+
+pub returns-in-Ok-clause-unread : goal.returns-in-Ok-clause-unread
+returns-in-Ok-clause-unread g c file is = subst (λ (b : Bool). IfOk c.telling.result (λ told. told ≡ b)) (c.in-Ok.ensures.unread file is).1 c.telling.ensures.unread
 
 pub returns-in-Ok-clause-dumped : goal.returns-in-Ok-clause-dumped
 returns-in-Ok-clause-dumped g c file other is then read =
-    same_clock _ (marks_in file (listing (found_in file))) c.dump_with_times_from.result other _ _ (c.in-Ok.ensures file is).1 (c.dump_with_times_from.ensures other then)
+    c.telling.ensures.dumped (marks_in file (listing (found_in file))) other _ _
+    (same_clock _ (marks_in file (listing (found_in file))) c.dump_with_times_from-printed.result other _ _ (c.in-Ok.ensures.clock file is).1 (c.dump_with_times_from-printed.ensures other then))
 
 pub returns-in-Err-clause-refused : goal.returns-in-Err-clause-refused
-returns-in-Err-clause-refused g c file r is refused = (refl, first_fault file r c.in-Err.fault (c.in-Err.ensures file is) refused)
+returns-in-Err-clause-refused g c file r is refused = (refl, first_fault Bool file r c.in-Err.fault (c.in-Err.ensures.clock file is) refused)
 
 pub returns-in-Err-clause-dumped : goal.returns-in-Err-clause-dumped
-returns-in-Err-clause-dumped g c file other is then read = other_timed (marks_in file (listing (found_in file))) file other _ c.in-Err.fault (c.in-Err.ensures file is) read
+returns-in-Err-clause-dumped g c file other is then read = other_timed (marks_in file (listing (found_in file))) file other _ c.in-Err.fault (c.in-Err.ensures.clock file is) read
