@@ -42,7 +42,7 @@ time_read t second small channel version =
 pub times_whole : (t : Times) (count second : ℕ) → second + count ≤ 28147498 → t.channel < 2 ^ 16 → t.version < 2 ^ 8 → AreWhole (times_from t count second)
 times_whole t zero second le channel version = tt
 times_whole t (suc count) second le channel version =
-    (record { size = time_size t second; read = time_read t second (omega (arith, le)) channel version }, times_whole t count (second + 1) (omega (arith, le)) channel version)
+    (record { over = refl; size = time_size t second; read = time_read t second (omega (arith, le)) channel version }, times_whole t count (second + 1) (omega (arith, le)) channel version)
 
 -- ---- the setup record
 
@@ -92,4 +92,4 @@ setup_read version counter text small low few =
     rw (header, all) refl
 
 pub setup_whole : (version counter : ℕ) (text : List ℕ) → version < 2 ^ 8 → counter < 2 ^ 48 → length text ≤ 524000 → IsWhole (setup_piece version counter text)
-setup_whole version counter text small low few = record { size = setup_size version counter text; read = setup_read version counter text small low few }
+setup_whole version counter text small low few = record { over = refl; size = setup_size version counter text; read = setup_read version counter text small low few }

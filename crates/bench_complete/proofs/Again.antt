@@ -1,5 +1,6 @@
 -- The packets that were written are read again.
 use Rattle.std.proofs.Common.{◌≡◌, ℕ, ◌+◌, Bool, true, false, not, eqb, List, [], ◌∷◌, ◌++◌, length, map, drop, Ok, refl, sym, ap, ◌∙◌, arith}
+use Rattle.std.specs.List.{AllByRecursion}
 use Rattle.std.proofs.lemmas.Bool.{eqb-true}
 use Rattle.ch11_f1.specs.BodyReading.{Message}
 use Rattle.ch11_reader.specs.Recording.{Found, holds_messages, packet_messages, packet_at, packets_from, packets_in}
@@ -11,14 +12,14 @@ use Rattle.bench_complete.specs.Merging.{of_channel}
 use Rattle.bench_complete.specs.Judging.{ReadsAt, AllReadAt}
 use Rattle.bench_complete.proofs.Alone.{one_packet, own_size, own_packet, own_messages}
 
--- a packet that is read by itself
+-- a packet that goes over and is read by itself
 pub record IsWhole (p : Piece) : Type 0 where
+  pub over : goes_over p.header ≡ true
   pub size : length p.bytes ≡ p.header.packet_length
   pub read : packet_at p.bytes ≡ Ok p.header
 
 abbrev pub AreWhole : List Piece → Type 0
-AreWhole [] = Unit {0}
-AreWhole (p ∷ ps) = IsWhole p × AreWhole ps
+AreWhole ps = AllByRecursion IsWhole ps
 
 -- what packets are read as, from an offset on
 abbrev pub found_from : ℕ → List Piece → List Found
@@ -63,11 +64,11 @@ heard channel offset (p ∷ ps) = heard_by channel offset p ps (eqb p.header.cha
 
 -- ---- the packets of a recording
 
-pub whole_at : (file : List ℕ) (p : Found) → ReadsAt file p → IsWhole (piece_at file p.offset p.header)
-whole_at file p r = record { size = own_size (drop p.offset file) p.header r.packet; read = own_packet (drop p.offset file) p.header r.packet }
+pub whole_at : (file : List ℕ) (p : Found) → goes_over p.header ≡ true → ReadsAt file p → IsWhole (piece_at file p.offset p.header)
+whole_at file p o r = record { over = o; size = own_size (drop p.offset file) p.header r.packet; read = own_packet (drop p.offset file) p.header r.packet }
 
 whole_by : (file : List ℕ) (p : Found) (ps : List Found) (over : Bool) → goes_over p.header ≡ over → ReadsAt file p → AreWhole (kept_packets file ps) → AreWhole (kept_packets file (p ∷ ps))
-whole_by file p ps true o r all = rw o (whole_at file p r, all)
+whole_by file p ps true o r all = rw o (whole_at file p o r, all)
 whole_by file p ps false o r all = rw o all
 
 pub kept_whole : (file : List ℕ) (ps : List Found) → AllReadAt file ps → AreWhole (kept_packets file ps)

@@ -1,4 +1,6 @@
 pub mod Merged
+pub mod Channels
+pub mod Front
 pub mod Heads
 pub mod Linked
 pub mod Standing
@@ -11,5 +13,7 @@ pub mod Alone
 pub mod Again
 pub mod Added
 pub mod Readable
+pub mod Stays
+pub mod Equal
 pub mod Written
 pub mod Spelled

@@ -14,8 +14,8 @@ use Rattle.bench_complete.specs.declared.times.Times.{Times}
 use Rattle.bench_complete.specs.Pieces.{Piece, goes_over, kept_packets}
 use Rattle.bench_complete.specs.Merging.{of_channel}
 use Rattle.bench_complete.specs.TimePackets.{times_from, times_in}
-use Rattle.bench_complete.specs.Complete.{Plan, plan_for, extent_of, low_of, low_by, times_between}
-use Rattle.bench_complete.specs.Judging.{AllReadAt, IsPlanned, has_kind, has_channel, is_setup, misuse, misuse_of, misuse_by, is_too_long}
+use Rattle.bench_complete.specs.Complete.{Plan, plan_of, plan_for, extent_of, low_of, low_by, times_between}
+use Rattle.bench_complete.specs.Judging.{AllReadAt, IsPlanned, has_kind, has_channel, is_setup, misuse, misuse_of, misuse_by, is_timed_twice, is_too_long, tells_time, has_time}
 use Rattle.bench_complete.specs.Lanes.{IsSmall}
 use Rattle.bench_complete.proofs.Extents.{low_with_times, high_below}
 use Rattle.bench_complete.proofs.Sound.{any_is}
@@ -45,7 +45,7 @@ version_is a None (Some e) = refl
 version_is a (Some s) (Some e) = refl
 
 abbrev pub planned_by : List ℕ → List Found → Additions → ℕ → Times → Plan
-planned_by file ps a version t = record { setup = option_map (λ text. text.now) a.setup; version = version; parts = times_in t ++ kept_packets file ps }
+planned_by file ps a version t = plan_of (option_map (λ text. text.now) a.setup) version (times_in t) (kept_packets file ps)
 
 kept_by : (file : List ℕ) (p : Found) (ps : List Found) (over : Bool) → goes_over p.header ≡ over → p.header.counter < 2 ^ 48
     → AllByRecursion (λ (q : Piece). q.header.counter < 2 ^ 48) (kept_packets file ps) → AllByRecursion (λ (q : Piece). q.header.counter < 2 ^ 48) (kept_packets file (p ∷ ps))
@@ -104,10 +104,11 @@ no_channel file channel (p ∷ ps) none =
     none_by file channel p ps (goes_over p.header) parts.0 refl (no_channel file channel ps parts.1)
 
 -- where nothing is misused, the channel of the time packets is free
-passed_by : (twice taken : Bool) (others : Option CompleteFault) (f g : CompleteFault) → cond twice (Some f) (cond taken (Some g) others) ≡ None → taken ≡ false
-passed_by true taken others f g is = cc
-passed_by false true others f g is = cc
-passed_by false false others f g is = refl
+passed_by : (setup time taken long : Bool) → misuse_of setup time taken long ≡ None → taken ≡ false
+passed_by true time taken long is = cc
+passed_by false true taken long is = cc
+passed_by false false true long is = cc
+passed_by false false false long is = refl
 
 free_by : (a : Additions) (start : Option UtcSecond) (x : Option Extent) (taken : Bool) → (is_some start && taken) ≡ false → (times_between a start x).first < (times_between a start x).end
     → (taken ≡ false) × ((times_between a start x).channel ≡ a.time_channel)
@@ -119,7 +120,9 @@ free_by a (Some s) (Some e) taken free some = (free, refl)
 pub free_channel : (file : List ℕ) (ps : List Found) (a : Additions) (x : Option Extent) → misuse file ps a ≡ None → (times_between a a.start x).first < (times_between a a.start x).end
     → of_channel (times_between a a.start x).channel (kept_packets file ps) ≡ []
 free_channel file ps a x none some =
-    let free = passed_by _ (is_some a.start && has_channel a.time_channel ps) _ _ _ none in
+    let free =
+    passed_by (is_some a.setup && has_kind 1 ps) (is_timed_twice a (has_time file ps)) (is_some a.start && has_channel a.time_channel ps)
+    (is_some a.start && is_too_long (extent_of (kept_packets file ps))) none in
     let f = free_by a a.start x (has_channel a.time_channel ps) free some in
     ap (λ (k : ℕ). of_channel k (kept_packets file ps)) f.1 ∙ no_channel file a.time_channel ps f.0
 
@@ -131,15 +134,18 @@ plan_is file ps a x t is times =
     ∙ ap (λ (y : Option Extent). planned_by file ps a a.version (times_between a a.start y)) is
 
 -- the faults by the entries of an index are those by the packets
-pub misuse_same : (file : List ℕ) (ps : List Found) (es : List Packet) (a : Additions) (x : Option Extent) → es ≡ listing ps → x ≡ extent_of (kept_packets file ps) → misuse_by es a x ≡ misuse file ps a
+pub misuse_same : (file : List ℕ) (ps : List Found) (es : List Packet) (a : Additions) (x : Option Extent) → es ≡ listing ps → x ≡ extent_of (kept_packets file ps) → misuse_by file es a x ≡ misuse file ps a
 misuse_same file ps es a x listed is =
-    let kinds : list_any (λ (e : Packet). eqb e.header.kind 1) es ≡ has_kind 1 ps =
-    ap (list_any (λ (e : Packet). eqb e.header.kind 1)) listed ∙ any_is (λ (h : Header). eqb h.kind 1) [] ps in
-    let channels : list_any (λ (e : Packet). eqb e.header.channel a.time_channel) es ≡ has_channel a.time_channel ps =
-    ap (list_any (λ (e : Packet). eqb e.header.channel a.time_channel)) listed ∙ any_is (λ (h : Header). eqb h.channel a.time_channel) [] ps in
-    ap (λ (b : Bool). misuse_of (is_some a.setup && b) (is_some a.start && list_any (λ (e : Packet). eqb e.header.channel a.time_channel) es) (is_some a.start && is_too_long x)) kinds
-    ∙ ap (λ (b : Bool). misuse_of (is_some a.setup && has_kind 1 ps) (is_some a.start && b) (is_some a.start && is_too_long x)) channels
-    ∙ ap (λ (y : Option Extent). misuse_of (is_some a.setup && has_kind 1 ps) (is_some a.start && has_channel a.time_channel ps) (is_some a.start && is_too_long y)) is
+    ap (λ (l : List Packet). misuse_by file l a x) listed
+    ∙ ap (λ (y : Option Extent). misuse_by file (listing ps) a y) is
+    ∙ ap (λ (b : Bool). misuse_of (is_some a.setup && b) (is_timed_twice a (list_any (λ (e : Packet). tells_time file e.offset e.header) (listing ps)))
+    (is_some a.start && list_any (λ (e : Packet). eqb e.header.channel a.time_channel) (listing ps)) (is_some a.start && is_too_long (extent_of (kept_packets file ps))))
+    (any_is (λ (offset : ℕ) (h : Header). eqb h.kind 1) [] ps)
+    ∙ ap (λ (b : Bool). misuse_of (is_some a.setup && has_kind 1 ps) (is_timed_twice a b)
+    (is_some a.start && list_any (λ (e : Packet). eqb e.header.channel a.time_channel) (listing ps)) (is_some a.start && is_too_long (extent_of (kept_packets file ps))))
+    (any_is (tells_time file) [] ps)
+    ∙ ap (λ (b : Bool). misuse_of (is_some a.setup && has_kind 1 ps) (is_timed_twice a (has_time file ps)) (is_some a.start && b) (is_some a.start && is_too_long (extent_of (kept_packets file ps))))
+    (any_is (λ (offset : ℕ) (h : Header). eqb h.channel a.time_channel) [] ps)
 
 pub planned : (file : List ℕ) (ps : List Found) (a : Additions) (x : Option Extent) (t : Times) (low : ℕ) → AllReadAt file ps → x ≡ extent_of (kept_packets file ps) → misuse file ps a ≡ None
     → t ≡ times_between a a.start x → low ≡ low_by t x → is_setup (option_map (λ text. text.now) a.setup) ≡ true → IsPlanned file ps t low (option_map (λ text. text.now) a.setup)

@@ -1,5 +1,5 @@
 -- The complete file of a recording is read as the recording.
-use Rattle.std.proofs.Common.{◌≡◌, ◌⊎◌, inl, inr, ℕ, zero, suc, ◌+◌, ◌-◌, ◌<◌, ◌≤◌, ◌^◌, Bool, true, false, cond, ltb, ◌&&◌, List, [], ◌∷◌, ◌++◌, length, get_or, Option, None, Some, option_map, Result, Ok, Err, refl, sym, ap, subst, ◌∙◌, append_assoc, arith}
+use Rattle.std.proofs.Common.{◌≡◌, ◌⊎◌, inl, inr, ℕ, zero, suc, ◌+◌, ◌-◌, ◌<◌, ◌≤◌, ◌^◌, Bool, true, false, cond, eqb, ltb, ◌&&◌, List, [], ◌∷◌, ◌++◌, length, get_or, Option, None, Some, option_map, Result, Ok, Err, refl, sym, ap, subst, ◌∙◌, append_assoc, arith}
 use Rattle.std.proofs.lemmas.Bool.{cases_eq, ltb-true}
 use Rattle.std.proofs.lemmas.List.Elements.{filter-append}
 use Rattle.ch11_f1.specs.BodyReading.{Message}
@@ -10,7 +10,7 @@ use Rattle.bench_complete.specs.declared.additions.UtcSecond.{UtcSecond}
 use Rattle.bench_complete.specs.declared.extent.Extent.{Extent}
 use Rattle.bench_complete.specs.declared.fault.CompleteFault.{CompleteFault}
 use Rattle.bench_complete.specs.declared.times.Times.{Times}
-use Rattle.bench_complete.specs.Pieces.{Piece, kept_packets}
+use Rattle.bench_complete.specs.Pieces.{Piece, kept_packets, leading, behind_leading}
 use Rattle.bench_complete.specs.Merging.{of_channel, IsMerge}
 use Rattle.bench_complete.specs.TimePackets.{time_piece, times_from, times_in}
 use Rattle.bench_complete.specs.SetupRecord.{setup_piece}
@@ -20,38 +20,10 @@ use Rattle.bench_complete.specs.Laws.{AreOptions, ReadingStays}
 use Rattle.bench_complete.proofs.Merged.{of_channel-same, of_channel-other}
 use Rattle.bench_complete.proofs.Sound.{all_read}
 use Rattle.bench_complete.proofs.Planned.{planned, first_small, small}
-use Rattle.bench_complete.proofs.Again.{AreWhole, messages_in, found_from, read_again, heard, kept_whole, kept_heard}
+use Rattle.bench_complete.proofs.Channels.{all_append, all_merged}
+use Rattle.bench_complete.proofs.Front.{channel_all}
+use Rattle.bench_complete.proofs.Again.{IsWhole, AreWhole, messages_in, found_from, read_again, heard, kept_whole, kept_heard}
 use Rattle.bench_complete.proofs.Added.{times_whole, setup_whole}
-
--- ---- packets that are read by themselves
-
-whole_append : (ps qs : List Piece) → AreWhole ps → AreWhole qs → AreWhole (ps ++ qs)
-whole_append [] qs a b = b
-whole_append (p ∷ ps) qs a b = (a.0, whole_append ps qs a.1 b)
-
-whole_on_by : (channel : ℕ) (p : Piece) (ps : List Piece) → AreWhole (p ∷ ps) → AreWhole (of_channel channel ps) → (p.header.channel ≡ channel) ⊎ (p.header.channel ≡ channel → ⊥)
-    → AreWhole (of_channel channel (p ∷ ps))
-whole_on_by channel p ps all rest (inl same) = subst AreWhole (sym (of_channel-same channel p ps same)) (all.0, rest)
-whole_on_by channel p ps all rest (inr ne) = subst AreWhole (sym (of_channel-other channel p ps ne)) rest
-
-whole_on : (channel : ℕ) (ps : List Piece) → AreWhole ps → AreWhole (of_channel channel ps)
-whole_on channel [] all = tt
-whole_on channel (p ∷ ps) all = whole_on_by channel p ps all (whole_on channel ps all.1) (cases_eq p.header.channel channel)
-
-rest_on_by : (channel : ℕ) (p : Piece) (ps : List Piece) → AreWhole (of_channel channel (p ∷ ps)) → (p.header.channel ≡ channel) ⊎ (p.header.channel ≡ channel → ⊥) → AreWhole (of_channel channel ps)
-rest_on_by channel p ps all (inl same) =
-    let both : AreWhole (p ∷ of_channel channel ps) = subst AreWhole (of_channel-same channel p ps same) all in
-    both.1
-rest_on_by channel p ps all (inr ne) = subst AreWhole (of_channel-other channel p ps ne) all
-
-whole_by_channels : (ps : List Piece) → ((channel : ℕ) → AreWhole (of_channel channel ps)) → AreWhole ps
-whole_by_channels [] all = tt
-whole_by_channels (p ∷ ps) all =
-    let own : AreWhole (p ∷ of_channel p.header.channel ps) = subst AreWhole (of_channel-same p.header.channel p ps refl) (all p.header.channel) in
-    (own.0, whole_by_channels ps (λ channel. rest_on_by channel p ps (all channel) (cases_eq p.header.channel channel)))
-
-merged_whole : (parts merged : List Piece) → IsMerge parts merged → AreWhole parts → AreWhole merged
-merged_whole parts merged m all = whole_by_channels merged (λ channel. subst AreWhole (sym (m.channels channel)) (whole_on channel parts all))
 
 -- ---- what is added holds no message
 
@@ -108,6 +80,16 @@ front_whole : (setup : Option (List ℕ)) (version counter : ℕ) → is_setup s
 front_whole None version counter is small low = tt
 front_whole (Some text) version counter is small low = (setup_whole version counter text small low (shorter (length text) is), tt)
 
+whole_by : (p : Piece) (ps : List Piece) (setup : Bool) → eqb p.header.kind 1 ≡ setup → AreWhole (p ∷ ps) → AreWhole (leading ps) × AreWhole (behind_leading ps)
+    → AreWhole (leading (p ∷ ps)) × AreWhole (behind_leading (p ∷ ps))
+whole_by p ps true s all rest = rw s ((all.0, rest.0), rest.1)
+whole_by p ps false s all rest = rw s (tt, all)
+
+-- those that lead and those that stand behind them
+whole_parts : (ps : List Piece) → AreWhole ps → AreWhole (leading ps) × AreWhole (behind_leading ps)
+whole_parts [] all = (tt, tt)
+whole_parts (p ∷ ps) all = whole_by p ps (eqb p.header.kind 1) refl all (whole_parts ps all.1)
+
 -- ---- the law
 
 module _ (file bytes : List ℕ) (a : Additions) (ps : List Found) (small_bytes : (k : ℕ) → get_or file k 0 < 256) (options : AreOptions a) (read : packets_in file ≡ Ok ps)
@@ -141,39 +123,65 @@ module _ (file bytes : List ℕ) (a : Additions) (ps : List Found) (small_bytes 
       let f = first_small file ps a extent all refl in
       omega (arith, s.end, f)
 
-  parts_whole : AreWhole parts
+  abbrev kept : List Piece
+  kept = kept_packets file ps
+
+  abbrev lead : List Piece
+  lead = leading kept
+
+  abbrev rest : List Piece
+  rest = behind_leading kept
+
+  both_whole : AreWhole lead × AreWhole rest
+  both_whole = whole_parts kept (kept_whole file ps all)
+
+  parts_whole : AreWhole (times_in times ++ rest)
   parts_whole =
-      whole_append (times_in times) (kept_packets file ps)
+      all_append IsWhole (times_in times) rest
       (times_whole times (times.end - times.first) times.first times_end
       (subst (λ (k : ℕ). k < 2 ^ 16) (sym (channel_is a a.start extent)) options.channel)
-      (subst (λ (k : ℕ). k < 2 ^ 8) (sym (version_of a a.start extent)) options.version)) (kept_whole file ps all)
+      (subst (λ (k : ℕ). k < 2 ^ 8) (sym (version_of a a.start extent)) options.version)) both_whole.1
 
-  abbrev front : List Piece
-  front = front_of setup a.version (low_of (extent_of parts))
+  abbrev added : List Piece
+  added = front_of setup a.version (low_of (extent_of parts))
 
-  all_whole : AreWhole (front ++ complete.merged)
+  abbrev pub whole_file : List Piece
+  whole_file = (added ++ lead) ++ complete.merged
+
+  pub all_whole : AreWhole whole_file
   all_whole =
-      whole_append front complete.merged (front_whole setup a.version (low_of (extent_of parts)) judgement.0 options.version low_below)
-      (merged_whole parts complete.merged complete.merge parts_whole)
+      all_append IsWhole (added ++ lead) complete.merged
+      (all_append IsWhole added lead (front_whole setup a.version (low_of (extent_of parts)) judgement.0 options.version low_below) both_whole.0)
+      (all_merged IsWhole (times_in times ++ rest) complete.merged complete.merge parts_whole)
 
-  parts_heard : (channel : ℕ) → messages_in (of_channel channel parts) ≡ reading ps channel
-  parts_heard channel =
-      ap messages_in (filter-append _ (times_in times) (kept_packets file ps))
-      ∙ heard_append (of_channel channel (times_in times)) (of_channel channel (kept_packets file ps))
-      ∙ ap (λ (l : List Message). l ++ messages_in (of_channel channel (kept_packets file ps))) (times_silent times channel (times.end - times.first) times.first)
+  front_heard : (channel : ℕ) → messages_in (of_channel channel (added ++ lead)) ≡ messages_in (of_channel channel lead)
+  front_heard channel =
+      ap messages_in (filter-append _ added lead)
+      ∙ heard_append (of_channel channel added) (of_channel channel lead)
+      ∙ ap (λ (l : List Message). l ++ messages_in (of_channel channel lead)) (front_silent setup a.version (low_of (extent_of parts)) channel)
+
+  merged_heard : (channel : ℕ) → messages_in (of_channel channel complete.merged) ≡ messages_in (of_channel channel rest)
+  merged_heard channel =
+      ap messages_in (complete.merge.channels channel ∙ filter-append _ (times_in times) rest)
+      ∙ heard_append (of_channel channel (times_in times)) (of_channel channel rest)
+      ∙ ap (λ (l : List Message). l ++ messages_in (of_channel channel rest)) (times_silent times channel (times.end - times.first) times.first)
+
+  all_heard : (channel : ℕ) → reading (found_from 0 whole_file) channel ≡ reading ps channel
+  all_heard channel =
+      heard channel 0 whole_file
+      ∙ ap messages_in (filter-append _ (added ++ lead) complete.merged)
+      ∙ heard_append (of_channel channel (added ++ lead)) (of_channel channel complete.merged)
+      ∙ ap (λ (l : List Message). l ++ messages_in (of_channel channel complete.merged)) (front_heard channel)
+      ∙ ap (λ (l : List Message). messages_in (of_channel channel lead) ++ l) (merged_heard channel)
+      ∙ sym (heard_append (of_channel channel lead) (of_channel channel rest))
+      ∙ ap messages_in (channel_all channel kept)
       ∙ kept_heard file channel ps all
 
-  all_heard : (channel : ℕ) → reading (found_from 0 (front ++ complete.merged)) channel ≡ reading ps channel
-  all_heard channel =
-      heard channel 0 (front ++ complete.merged)
-      ∙ ap messages_in (filter-append _ front complete.merged)
-      ∙ heard_append (of_channel channel front) (of_channel channel complete.merged)
-      ∙ ap (λ (l : List Message). l ++ messages_in (of_channel channel complete.merged)) (front_silent setup a.version (low_of (extent_of parts)) channel)
-      ∙ ap messages_in (complete.merge.channels channel)
-      ∙ parts_heard channel
+  pub file_read : packets_in bytes ≡ Ok (found_from 0 whole_file)
+  file_read = ap packets_in complete.is ∙ read_again whole_file all_whole
 
   stays : (qs : List Found) × (packets_in bytes ≡ Ok qs) × ((channel : ℕ) → reading qs channel ≡ reading ps channel)
-  stays = (found_from 0 (front ++ complete.merged), ap packets_in complete.is ∙ read_again (front ++ complete.merged) all_whole, all_heard)
+  stays = (found_from 0 whole_file, file_read, all_heard)
 
 pub reading_stays : ReadingStays
 reading_stays file bytes a ps small_bytes options read sound complete = stays file bytes a ps small_bytes options read sound complete

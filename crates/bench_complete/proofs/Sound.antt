@@ -138,9 +138,9 @@ pub kept_is : (file : List ℕ) (earlier ps : List Found) → kept_entries file 
 kept_is file earlier [] = refl
 kept_is file earlier (p ∷ ps) = ap (λ (l : List Piece). cond (goes_over p.header) (piece_at file p.offset p.header ∷ l) l) (kept_is file (p ∷ earlier) ps)
 
-pub any_is : (test : Header → Bool) (earlier ps : List Found) → list_any (λ (e : Packet). test e.header) (listing_behind earlier ps) ≡ list_any (λ (p : Found). test p.header) ps
+pub any_is : (test : ℕ → Header → Bool) (earlier ps : List Found) → list_any (λ (e : Packet). test e.offset e.header) (listing_behind earlier ps) ≡ list_any (λ (p : Found). test p.offset p.header) ps
 any_is test earlier [] = refl
-any_is test earlier (p ∷ ps) = ap (λ (b : Bool). test p.header || b) (any_is test (p ∷ earlier) ps)
+any_is test earlier (p ∷ ps) = ap (λ (b : Bool). test p.offset p.header || b) (any_is test (p ∷ earlier) ps)
 
 pub in_file : (file : List ℕ) (earlier ps : List Found) → AllReadAt file ps → AreInFile file (listing_behind earlier ps)
 in_file file earlier [] all i e is = absurd (cc)

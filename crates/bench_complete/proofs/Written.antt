@@ -3,27 +3,34 @@ use Rattle.std.proofs.Common.{◌≡◌, ℕ, zero, suc, ◌≤◌, List, [], �
 use Rattle.std.specs.Result.{OnOk}
 use Rattle.std.specs.Io.KnownBytes.{Appends}
 use Rattle.bench_complete.specs.declared.fault.CompleteFault.{CompleteFault}
-use Rattle.bench_complete.specs.Pieces.{Piece, bytes_of}
+use Rattle.bench_complete.specs.Pieces.{Piece, bytes_of, leading, behind_leading}
 use Rattle.bench_complete.specs.Merging.{of_channel}
 use Rattle.bench_complete.specs.Lanes.{Merges}
-use Rattle.bench_complete.specs.Complete.{Completes, extent_of, low_of, front_of}
+use Rattle.bench_complete.specs.Complete.{Completes, plan_of, extent_of, low_of, front_of, setup_pieces}
 use Rattle.bench_complete.proofs.Merged.{bytes_of-append}
 use Rattle.bench_complete.proofs.Running.{appends_both}
 
-pub completed : (setup : Option (List ℕ)) (version low : ℕ) (parts other : List Piece) (got mid gets : Option (List ℕ)) → low ≡ low_of (extent_of parts) → other ≡ parts
-    → Appends got mid (bytes_of (front_of setup version low)) → Merges other mid gets → Completes (record { setup = setup; version = version; parts = parts }) got gets
-completed setup version low parts other got mid gets is same front m = record {
-  bytes = bytes_of (front_of setup version (low_of (extent_of parts)) ++ m.merged);
-  complete = record { merged = m.merged; merge = record { channels = λ k. m.merge.channels k ∙ ap (of_channel k) same; order = m.merge.order }; is = refl };
-  taken = subst (Appends got gets) (sym (bytes_of-append (front_of setup version (low_of (extent_of parts))) m.merged))
-      (appends_both got mid gets (bytes_of (front_of setup version (low_of (extent_of parts)))) (bytes_of m.merged) (subst (λ (k : ℕ). Appends got mid (bytes_of (front_of setup version k))) is front) m.taken);
-}
+pub completed : (setup : Option (List ℕ)) (version low : ℕ) (times kept front other : List Piece) (got one two gets : Option (List ℕ)) → low ≡ low_of (extent_of (times ++ kept)) → leading kept ≡ front
+    → other ≡ times ++ behind_leading kept → Appends got one (bytes_of (front_of setup version low)) → Appends one two (bytes_of front) → Merges other two gets
+    → Completes (plan_of setup version times kept) got gets
+completed setup version low times kept front other got one two gets is leads same added led m =
+    let setups : List Piece = setup_pieces setup version (times ++ kept) in
+    let whole : bytes_of (setups ++ leading kept) ≡ bytes_of (front_of setup version low) ++ bytes_of front =
+    ap (λ (l : List Piece). bytes_of (setups ++ l)) leads ∙ bytes_of-append setups front ∙ ap (λ (k : ℕ). bytes_of (front_of setup version k) ++ bytes_of front) (sym is) in
+    let both : Appends got two (bytes_of (setups ++ leading kept)) =
+    subst (Appends got two) (sym whole) (appends_both got one two (bytes_of (front_of setup version low)) (bytes_of front) added led) in
+    record {
+      bytes = bytes_of ((setups ++ leading kept) ++ m.merged);
+      complete = record { merged = m.merged; merge = record { channels = λ k. m.merge.channels k ∙ ap (of_channel k) same; order = m.merge.order }; is = refl };
+      taken = subst (Appends got gets) (sym (bytes_of-append (setups ++ leading kept) m.merged)) (appends_both got two gets (bytes_of (setups ++ leading kept)) (bytes_of m.merged) both m.taken);
+    }
 
 -- the same where the writer may have failed
-pub completed_if : (setup : Option (List ℕ)) (version low : ℕ) (parts other : List Piece) (got mid gets : Option (List ℕ)) (r : Result (Unit {0}) CompleteFault) → low ≡ low_of (extent_of parts) → other ≡ parts
-    → Appends got mid (bytes_of (front_of setup version low)) → OnOk r (Merges other mid gets) → OnOk r (Completes (record { setup = setup; version = version; parts = parts }) got gets)
-completed_if setup version low parts other got mid gets (Ok u) is same front m = completed setup version low parts other got mid gets is same front m
-completed_if setup version low parts other got mid gets (Err f) is same front m = m
+pub completed_if : (setup : Option (List ℕ)) (version low : ℕ) (times kept front other : List Piece) (got one two gets : Option (List ℕ)) (r : Result (Unit {0}) CompleteFault)
+    → low ≡ low_of (extent_of (times ++ kept)) → leading kept ≡ front → other ≡ times ++ behind_leading kept → Appends got one (bytes_of (front_of setup version low)) → Appends one two (bytes_of front)
+    → OnOk r (Merges other two gets) → OnOk r (Completes (plan_of setup version times kept) got gets)
+completed_if setup version low times kept front other got one two gets (Ok u) is leads same added led m = completed setup version low times kept front other got one two gets is leads same added led m
+completed_if setup version low times kept front other got one two gets (Err f) is leads same added led m = m
 
 -- a writer that got bytes four times
 pub four_written : (one two three four five : Option (List ℕ)) (a b c d : List ℕ) → Appends one two a → Appends two three b → Appends three four c → Appends four five d → Appends one five (a ++ (b ++ (c ++ d)))

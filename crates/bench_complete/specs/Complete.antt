@@ -7,7 +7,7 @@ use Rattle.bench_complete.specs.declared.additions.Additions.{Additions}
 use Rattle.bench_complete.specs.declared.additions.UtcSecond.{UtcSecond}
 use Rattle.bench_complete.specs.declared.extent.Extent.{Extent}
 use Rattle.bench_complete.specs.declared.times.Times.{Times}
-use Rattle.bench_complete.specs.Pieces.{Piece, bytes_of, kept_packets}
+use Rattle.bench_complete.specs.Pieces.{Piece, bytes_of, kept_packets, leading, behind_leading}
 use Rattle.bench_complete.specs.Merging.{IsMerge}
 use Rattle.bench_complete.specs.TimePackets.{times_in}
 use Rattle.bench_complete.specs.SetupRecord.{setup_piece}
@@ -47,34 +47,38 @@ abbrev pub low_by : Times → Option Extent → ℕ
 low_by t None = 0
 low_by t (Some e) = if nat_lt t.first t.end then t.first * 10000000 else e.low
 
--- what is made of a recording: the text and version of a setup record, and the packets that are merged behind it
-pub record Plan : Type 0 where
-  pub setup : Option (List ℕ)
-  pub version : ℕ
-  pub parts : List Piece
-
--- the plan for the packets of a file and what is to be added
-abbrev pub plan_for : List ℕ → List Found → Additions → Plan
-plan_for file ps a = record {
-  setup = option_map (λ text. text.now) a.setup;
-  version = a.version;
-  parts = times_in (times_between a a.start (extent_of (kept_packets file ps))) ++ kept_packets file ps;
-}
-
 -- the setup record of a text, where there is one
 abbrev pub front_of : Option (List ℕ) → ℕ → ℕ → List Piece
 front_of None version counter = []
 front_of (Some text) version counter = setup_piece version counter text ∷ []
 
--- the setup record of a plan, where it has one; its counter is the lowest of all packets behind it
+-- the setup record of a text, where there is one, in front of packets; its counter is the lowest of theirs
 abbrev pub setup_pieces : Option (List ℕ) → ℕ → List Piece → List Piece
-setup_pieces setup version parts = front_of setup version (low_of (extent_of parts))
+setup_pieces setup version ps = front_of setup version (low_of (extent_of ps))
 
--- the file of a plan: the setup record, and behind it the merge
+-- what is made of a recording: the packets that stand in front, and those that are merged behind them
+pub record Plan : Type 0 where
+  pub front : List Piece
+  pub parts : List Piece
+
+-- time packets and the packets of a recording planned: in front stands a setup record that is added, whose counter is
+-- the lowest of all packets, and then those that lead the recording; all others are merged
+abbrev pub plan_of : Option (List ℕ) → ℕ → List Piece → List Piece → Plan
+plan_of setup version times kept = record {
+  front = setup_pieces setup version (times ++ kept) ++ leading kept;
+  parts = times ++ behind_leading kept;
+}
+
+-- the plan for the packets of a file and what is to be added
+abbrev pub plan_for : List ℕ → List Found → Additions → Plan
+plan_for file ps a = plan_of (option_map (λ text. text.now) a.setup) a.version
+    (times_in (times_between a a.start (extent_of (kept_packets file ps)))) (kept_packets file ps)
+
+-- the file of a plan: what stands in front, and behind it the merge
 pub record IsComplete (plan : Plan) (bytes : List ℕ) : Type 0 where
   pub merged : List Piece
   pub merge : IsMerge plan.parts merged
-  pub is : bytes ≡ bytes_of (setup_pieces plan.setup plan.version plan.parts ++ merged)
+  pub is : bytes ≡ bytes_of (plan.front ++ merged)
 
 -- a writer got the file of a plan
 pub record Completes (plan : Plan) (got gets : Option (List ℕ)) : Type 0 where

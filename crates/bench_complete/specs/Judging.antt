@@ -1,12 +1,14 @@
 -- What is refused (own choice).
-use Rattle.std.specs.Prelude.{◌≡◌, ◌⊎◌, ℕ, ◌+◌, ◌-◌, ◌/◌, ◌<◌, ◌≤◌, ◌^◌, ◌++◌, drop, ◌==◌, ◌&&◌, Bool, true, false}
+use Rattle.std.specs.Prelude.{◌≡◌, ◌⊎◌, ℕ, ◌+◌, ◌-◌, ◌/◌, ◌<◌, ◌≤◌, ◌^◌, ◌++◌, drop, ◌==◌, ◌&&◌, not, Bool, true, false}
 use Rattle.std.specs.Prelude.{nat_lt, is_some, if◌then◌else◌, List, [], length, Option, None, Some, option_map, Result}
 use Rattle.std.specs.Prelude.{Ok, Err}
 use Rattle.std.specs.List.{list_any, AllByRecursion}
-use Rattle.ch11_header.specs.Kinds.{setup_record}
+use Rattle.ch11_header.specs.Kinds.{setup_record, time_data}
+use Rattle.ch11_header.specs.declared.header.Header.{Header}
 use Rattle.ch11_reader.specs.declared.error.Refusal.{Refusal}
 use Rattle.ch11_reader.specs.declared.packet.Packet.{Packet}
-use Rattle.ch11_reader.specs.Recording.{Found, found_or_none, packet_messages, packet_at}
+use Rattle.ch11_reader.specs.Recording.{Found, body_of, found_or_none, packet_messages, packet_at}
+use Rattle.bench_clock.specs.TimeBody.{is_time_body}
 use Rattle.bench_complete.specs.declared.additions.Additions.{Additions}
 use Rattle.bench_complete.specs.declared.extent.Extent.{Extent}
 use Rattle.bench_complete.specs.declared.fault.CompleteFault.{CompleteFault}
@@ -26,6 +28,15 @@ has_kind kind ps = list_any (λ (p : Found). p.header.kind == kind) ps
 abbrev pub has_channel : ℕ → List Found → Bool
 has_channel channel ps = list_any (λ (p : Found). p.header.channel == channel) ps
 
+-- the packet with this header at an offset of a file tells the time of day: it is of type 11, and its body that of a
+-- time packet
+abbrev pub tells_time : List ℕ → ℕ → Header → Bool
+tells_time file offset h = (h.kind == time_data) && is_time_body (body_of h (drop offset file))
+
+-- a time packet is among them
+abbrev pub has_time : List ℕ → List Found → Bool
+has_time file ps = list_any (λ (p : Found). tells_time file p.offset p.header) ps
+
 -- the text of a setup record has 1 to 524,000 bytes
 abbrev pub is_setup : Option (List ℕ) → Bool
 is_setup None = true
@@ -36,22 +47,29 @@ abbrev pub is_too_long : Option Extent → Bool
 is_too_long None = false
 is_too_long (Some e) = nat_lt 1000000 (e.high / 10000000 - e.low / 10000000 + 1)
 
--- the first usage fault that hangs on the recording: a second setup record, time packets on a channel that is taken, or
--- too many
-abbrev pub misuse_of : Bool → Bool → Bool → Option CompleteFault
-misuse_of twice taken long =
-    if twice then Some faults.SetupTwice
-    else (if taken then Some faults.ChannelTaken else (if long then Some faults.TooLong else None))
+-- time packets are asked for beside those of a recording, and not as second ones
+abbrev pub is_timed_twice : Additions → Bool → Bool
+is_timed_twice a timed = is_some a.start && (not a.second_time && timed)
+
+-- the first usage fault that hangs on the recording: a second setup record, second time packets, time packets on a
+-- channel that is taken, or too many
+abbrev pub misuse_of : Bool → Bool → Bool → Bool → Option CompleteFault
+misuse_of setup_twice time_twice taken long =
+    if setup_twice then Some faults.SetupTwice
+    else (if time_twice then Some faults.TimeTwice
+    else (if taken then Some faults.ChannelTaken else (if long then Some faults.TooLong else None)))
 
 abbrev pub misuse : List ℕ → List Found → Additions → Option CompleteFault
 misuse file ps a = misuse_of (is_some a.setup && has_kind setup_record ps)
+    (is_timed_twice a (has_time file ps))
     (is_some a.start && has_channel a.time_channel ps)
     (is_some a.start && is_too_long (extent_of (kept_packets file ps)))
 
 -- the same by the entries of an index
-abbrev pub misuse_by : List Packet → Additions → Option Extent → Option CompleteFault
-misuse_by es a x =
+abbrev pub misuse_by : List ℕ → List Packet → Additions → Option Extent → Option CompleteFault
+misuse_by file es a x =
     misuse_of (is_some a.setup && list_any (λ (e : Packet). e.header.kind == setup_record) es)
+    (is_timed_twice a (list_any (λ (e : Packet). tells_time file e.offset e.header) es))
     (is_some a.start && list_any (λ (e : Packet). e.header.channel == a.time_channel) es)
     (is_some a.start && is_too_long x)
 
@@ -77,6 +95,7 @@ RefusesCompletion file read a faults.Memory = (is_setup (option_map (λ text. te
 RefusesCompletion file read a faults.SetupSize = judged_additions file read a ≡ Err faults.SetupSize
 RefusesCompletion file read a (faults.Refused r) = judged_additions file read a ≡ Err (faults.Refused r)
 RefusesCompletion file read a faults.SetupTwice = judged_additions file read a ≡ Err faults.SetupTwice
+RefusesCompletion file read a faults.TimeTwice = judged_additions file read a ≡ Err faults.TimeTwice
 RefusesCompletion file read a faults.ChannelTaken = judged_additions file read a ≡ Err faults.ChannelTaken
 RefusesCompletion file read a faults.TooLong = judged_additions file read a ≡ Err faults.TooLong
 RefusesCompletion file read a faults.Device = ⊥

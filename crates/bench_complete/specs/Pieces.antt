@@ -1,7 +1,7 @@
 -- Packets on their way into a file.
-use Rattle.std.specs.Prelude.{ℕ, ◌==◌, Bool, not, if◌then◌else◌, List, [], ◌∷◌, ◌++◌, take, drop}
+use Rattle.std.specs.Prelude.{ℕ, ◌==◌, ◌&&◌, Bool, not, if◌then◌else◌, List, [], ◌∷◌, ◌++◌, take, drop}
 use Rattle.ch11_header.specs.declared.header.Header.{Header}
-use Rattle.ch11_header.specs.Kinds.{recording_index}
+use Rattle.ch11_header.specs.Kinds.{recording_index, setup_record}
 use Rattle.ch11_reader.specs.declared.packet.Packet.{Packet}
 use Rattle.ch11_reader.specs.Recording.{Found}
 
@@ -34,3 +34,17 @@ abbrev pub kept_entries : List ℕ → List Packet → List Piece
 kept_entries file [] = []
 kept_entries file (e ∷ es) = if goes_over e.header then piece_at file e.offset e.header ∷ kept_entries file es
     else kept_entries file es
+
+-- a packet goes over and is no setup record (type 01)
+abbrev pub ends_leading : Header → Bool
+ends_leading h = goes_over h && not (h.kind == setup_record)
+
+-- the setup records (type 01) that stand in front of all other packets
+abbrev pub leading : List Piece → List Piece
+leading [] = []
+leading (p ∷ ps) = if p.header.kind == setup_record then p ∷ leading ps else []
+
+-- the packets that stand behind them
+abbrev pub behind_leading : List Piece → List Piece
+behind_leading [] = []
+behind_leading (p ∷ ps) = if p.header.kind == setup_record then behind_leading ps else p ∷ ps

@@ -20,6 +20,8 @@ pub struct Additions<'a> {
     pub start: Option<UtcSecond>,
     /// The channel of the time packets, which has no packet in the recording.
     pub time_channel: u16,
+    /// Whether time packets are added to a recording that has some already.
+    pub second_time: bool,
     /// The data type version in the headers of what is added.
     pub version: u8,
 }

@@ -12,6 +12,7 @@ use crate::extent::{Extent, extent_of};
 use crate::fault::CompleteFault;
 use crate::judging::{is_setup, judge};
 use crate::lanes::Lanes;
+use crate::leading::{leading, write_packets};
 use crate::links::link;
 use crate::merge::merge;
 use crate::setup::write_front;
@@ -32,19 +33,16 @@ pub struct Completion<'a> {
 }
 
 impl<'a> Model for Completion<'a> {
-    ghost use Rattle.bench_complete.specs.Complete.{Plan};
+    ghost use Rattle.bench_complete.specs.Complete.{Plan, plan_of};
     ghost use Rattle.bench_complete.specs.Judging.{IsPlanned};
     ghost use Rattle.bench_complete.specs.Pieces.{kept_packets};
     ghost use Rattle.bench_complete.specs.TimePackets.{times_in};
-    ghost use Rattle.std.specs.Prelude.{◌++◌, option_map};
+    ghost use Rattle.std.specs.Prelude.{option_map};
 
     ghost Value = { Plan };
 
-    ghost view = { λ c. record {
-      setup = option_map (λ text. text.now) c.setup;
-      version = c.times.version;
-      parts = times_in c.times ++ kept_packets c.file.now c.index;
-    } };
+    ghost view = { λ c. plan_of (option_map (λ text. text.now) c.setup) c.times.version (times_in c.times)
+        (kept_packets c.file.now c.index) };
 
     ghost invariant = { λ c. IsPlanned c.file.now c.index c.times c.low (option_map (λ text. text.now) c.setup) };
 }
@@ -107,7 +105,7 @@ impl<'a> Completion<'a> {
             (λ f. misuse file.now index.entry additions.now ≡ Some f) }
     {
         let extent = extent_of(index.packets());
-        if let Err(fault) = judge(additions, index.packets(), extent) {
+        if let Err(fault) = judge(file, additions, index.packets(), extent) {
             return Err(fault);
         }
         let times = times_of(additions, extent);
@@ -158,20 +156,24 @@ impl<'a> Completion<'a> {
         Ok((completion, skips))
     }
 
-    /// Writes the complete file: the setup record, and behind it all packets, merged. Where it fails, it answers Memory
+    /// Writes the complete file: the setup record that is added, those that stand in front of the recording, and behind
+    /// them all other packets, merged. Where it fails, it answers Memory
     /// or Device, and the writer may have got some of the file.
     pub fn write<W: Write>(&self, alloc: Global, out: &mut W) -> Result<(), CompleteFault>
         ensures written { OnOk result (Completes self.now (W.contents out.old) (W.contents out.new)) }
         ensures stopped { IfErr result StopsWriting }
     {
+        let packets = self.index.packets();
+        let (front, others) = packets.split_at(leading(packets));
         let lanes = Lanes {
             file: self.file,
-            packets: self.index.packets(),
+            packets: others,
             times: self.times,
         };
         let links = link(alloc, lanes.packets)?;
         let heads = lanes.heads(alloc, &links)?;
         write_front(self.times.version, self.low, self.setup, out)?;
+        write_packets(self.file, front, out)?;
         merge(&lanes, &links, heads, out)
     }
 }

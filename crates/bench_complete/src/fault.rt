@@ -19,6 +19,9 @@ pub enum CompleteFault {
     /// A usage fault: the recording has computer generated data of Format 1 (type 01), as a setup record is, already.
     SetupTwice,
 
+    /// A usage fault: the recording has a time packet already, and second ones are not asked for.
+    TimeTwice,
+
     /// A usage fault: the channel of the time packets has packets in the recording.
     ChannelTaken,
 

@@ -1,12 +1,15 @@
 //! Usage faults.
-ghost use Rattle.bench_complete.specs.Judging.{is_setup, is_too_long, misuse_by, misuse_of};
+ghost use Rattle.bench_complete.specs.Judging.{is_setup, is_timed_twice, is_too_long, misuse_by, misuse_of};
+ghost use Rattle.bench_complete.specs.Judging.{tells_time};
+ghost use Rattle.ch11_reader.specs.Recording.{body_of};
 ghost use Rattle.std.specs.List.{list_any};
-ghost use Rattle.std.specs.Prelude.{◌≡◌, ◌==◌, ◌&&◌, MatchResult, None, Some, option_map};
+ghost use Rattle.std.specs.Prelude.{◌≡◌, ◌==◌, ◌&&◌, MatchResult, None, Some, drop, option_map};
 
 use crate::additions::{Additions, MOST_SETUP};
 use crate::extent::Extent;
 use crate::fault::CompleteFault;
-use ch11_header::kinds::SETUP_RECORD;
+use bench_clock::is_time_body;
+use ch11_header::kinds::{SETUP_RECORD, TIME_DATA};
 use ch11_reader::Packet;
 
 /// The most time packets of a file.
@@ -38,6 +41,33 @@ fn has_channel(packets: &[Packet], channel: u16) -> bool
         .any(|packet| packet.header.channel == channel)
 }
 
+/// The body of a packet of a file.
+fn body_in<'a>(file: &'a [u8], packet: &Packet) -> &'a [u8]
+    ensures { result.now ≡ body_of packet.now.header (drop packet.now.offset file.now) }
+{
+    let from = file.get(packet.offset..).unwrap_or(&[]);
+    let behind = from.get(packet.header.body_start()..).unwrap_or(&[]);
+    let size = behind.len().min(packet.header.data_length as usize);
+    &behind[..size]
+}
+
+/// Whether a packet of a file is a time packet.
+fn tells_time(file: &[u8], packet: &Packet) -> bool
+    ensures { result ≡ tells_time file.now packet.now.offset packet.now.header }
+{
+    if packet.header.kind != TIME_DATA {
+        return false;
+    }
+    is_time_body(body_in(file, packet))
+}
+
+/// Whether a time packet is among the packets of a file.
+fn has_time(file: &[u8], packets: &[Packet]) -> bool
+    ensures { result ≡ list_any (λ e. tells_time file.now e.offset e.header) packets.now }
+{
+    packets.iter().any(|packet| tells_time(file, packet))
+}
+
 /// Whether there would be more than 1,000,000 time packets.
 fn is_too_long(extent: Option<Extent>) -> bool
     ensures { result ≡ is_too_long extent }
@@ -48,12 +78,20 @@ fn is_too_long(extent: Option<Extent>) -> bool
     }
 }
 
-/// The first of three faults.
-fn first_fault(twice: bool, taken: bool, long: bool) -> Result<(), CompleteFault>
-    ensures { MatchResult result (λ _. misuse_of twice taken long ≡ None) (λ f. misuse_of twice taken long ≡ Some f) }
+/// The first of four faults.
+fn first_fault(
+    setup_twice: bool,
+    time_twice: bool,
+    taken: bool,
+    long: bool,
+) -> Result<(), CompleteFault>
+    ensures { MatchResult result (λ _. misuse_of setup_twice time_twice taken long ≡ None)
+        (λ f. misuse_of setup_twice time_twice taken long ≡ Some f) }
 {
-    if twice {
+    if setup_twice {
         Err(CompleteFault::SetupTwice)
+    } else if time_twice {
+        Err(CompleteFault::TimeTwice)
     } else if taken {
         Err(CompleteFault::ChannelTaken)
     } else if long {
@@ -70,18 +108,30 @@ fn both(one: bool, other: bool) -> bool
     one && other
 }
 
-/// Judges what is to be added to the packets of a recording.
+/// Whether time packets are asked for beside those of a recording, and not as second ones.
+fn is_timed_twice(additions: &Additions<'_>, timed: bool) -> bool
+    ensures { result ≡ is_timed_twice additions.now timed }
+{
+    both(
+        additions.start.is_some(),
+        both(!additions.second_time, timed),
+    )
+}
+
+/// Judges what is to be added to the packets of a file.
 pub(crate) fn judge(
+    file: &[u8],
     additions: &Additions<'_>,
     packets: &[Packet],
     extent: Option<Extent>,
 ) -> Result<(), CompleteFault>
-    ensures { MatchResult result (λ _. misuse_by packets.now additions.now extent ≡ None)
-        (λ f. misuse_by packets.now additions.now extent ≡ Some f) }
+    ensures { MatchResult result (λ _. misuse_by file.now packets.now additions.now extent ≡ None)
+        (λ f. misuse_by file.now packets.now additions.now extent ≡ Some f) }
 {
     let timed = additions.start.is_some();
     first_fault(
         both(additions.setup.is_some(), has_kind(packets, SETUP_RECORD)),
+        is_timed_twice(additions, has_time(file, packets)),
         both(timed, has_channel(packets, additions.time_channel)),
         both(timed, is_too_long(extent)),
     )

@@ -8,6 +8,7 @@ ghost use Rattle.std.specs.Prelude.{◌≡◌, ◌<◌, ◌≤◌, List, [], ◌
 
 use crate::fault::CompleteFault;
 use crate::head::{Head, Source, turn};
+use crate::leading::write_packet;
 use crate::links::{CHANNELS, Links};
 use crate::time_packet::write_time;
 use crate::times::{SECOND, Times};
@@ -125,14 +126,8 @@ impl<'a> Lanes<'a> {
         ensures stopped { IfErr result (λ f. f ≡ CompleteFault.Device) }
     {
         match head.source {
-            Source::Recorded(place) => {
-                let packet = &self.packets[place];
-                let (_, behind) = self.file.split_at(packet.offset);
-                let (bytes, _) = behind.split_at(packet.header.packet_length as usize);
-                out.write_all(bytes)?;
-            }
-            Source::Time(second) => write_time(&self.times, second, out)?,
+            Source::Recorded(place) => { write_packet(self.file, &self.packets[place], out) }
+            Source::Time(second) => write_time(&self.times, second, out),
         }
-        Ok(())
     }
 }
