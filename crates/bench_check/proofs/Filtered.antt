@@ -1,5 +1,5 @@
 -- Lists of faults.
-use Rattle.std.proofs.Common.{◌≡◌, ℕ, ◌+◌, List, [], ◌∷◌, ◌++◌, ap, ◌∙◌, refl}
+use Rattle.std.proofs.Common.{◌≡◌, ℕ, List, [], ◌∷◌, ◌++◌, ap, ◌∙◌, refl}
 use Rattle.std.specs.Prelude.{Bool, true, false, ◌&&◌, if◌then◌else◌}
 use Rattle.std.specs.List.{filter, list_all}
 use Rattle.mil_line.specs.declared.faults.Fault.{Fault}

@@ -11,7 +11,7 @@ use Rattle.frame_text.specs.Frames.{tree_of_text}
 use Rattle.frame_text.specs.declared.faults.Cause.{Cause}
 use Rattle.job_file.specs.Options.{◌>>=◌}
 use Rattle.job_file.specs.Numbers.{number_of, number_within, start_of}
-use Rattle.job_file.specs.Lines.{Said, blank, script, channel, start, terminal, action, fault, faults, series, said, said_in, keyword_of, of_keyword, fault_word_of, fault_of, first, one, four, front, span_of, series_of, channel_in, start_in, terminal_in, action_in, fault_in, faults_in, series_in}
+use Rattle.job_file.specs.Lines.{Said, blank, said, said_in, of_keyword, fault_word_of, fault_of, first, one, four, front, span_of, series_of, channel_in, start_in, terminal_in, action_in, fault_in, faults_in, series_in}
 use Rattle.job_file.specs.HeadLines.{Head, head_of}
 use Rattle.job_file.specs.Spelled.{ChannelJob, joined_lines, is_script, parted, all_said, lawful, first_of, job_with, job_of, spelled}
 use Rattle.text_lines.specs.Lines.{is_line_end, lines_of}

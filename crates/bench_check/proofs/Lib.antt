@@ -1,8 +1,11 @@
+pub mod Collected
 pub mod Filtered
 pub mod Firsts
 pub mod Fitted
 pub mod Heads
 pub mod Noted
 pub mod Overruns
+pub mod Pieces
 pub mod Played
+pub mod Told
 pub mod Tried

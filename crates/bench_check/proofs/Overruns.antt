@@ -1,19 +1,18 @@
 -- What the steps of a job's controller add to the frames that took longer than their period.
-use Rattle.std.proofs.Common.{◌≡◌, ℕ, zero, suc, ◌+◌, ◌-◌, ◌≤◌, List, [], ◌∷◌, ◌++◌, refl, ap, sym, ◌∙◌, append_assoc, append-nil, arith}
+use Rattle.std.proofs.Common.{◌≡◌, ℕ, zero, suc, ◌+◌, ◌-◌, ◌≤◌, List, [], ◌∷◌, ◌++◌, refl, ap, sym, ◌∙◌, append_assoc, arith}
 use Rattle.std.specs.Prelude.{Option, Some, None, slice_get}
 use Rattle.frame_code.specs.declared.Op.{Op}
 use Rattle.frame_code.specs.declared.Op.TheVariants as op
-use Rattle.frame_code.specs.Table.{Code, Registers, Turn, goes_on, halted, stuck, act, keeps_pace, Running}
+use Rattle.frame_code.specs.Table.{Code, Registers, halted, act, keeps_pace}
 use Rattle.frame_load.specs.Budget.{budget}
 use Rattle.mil_message.specs.World.{World, Point}
-use Rattle.mil_bus.specs.declared.outcomes.Outcome.{Outcome}
-use Rattle.mil_bus.specs.Exchange.{BusState}
 use Rattle.bc_machine.specs.Frames.{closed_by}
 use Rattle.bc_machine.specs.Running.{MachineState, stepped, turn_of, world_in, moved_by}
 use Rattle.bc_machine.specs.UnderWay.{IsUnderWay}
 use Rattle.job_file.proofs.Nexts.{same_code}
 use Rattle.bench_check.specs.declared.frames.Overrun.{Overrun}
-use Rattle.bench_check.specs.Overruns.{late_of, overruns_at, overruns_in}
+use Rattle.bench_check.specs.FrameLines.{frame_line_at, line_of}
+use Rattle.bench_check.specs.Overruns.{clock_at, late_of, overruns_at, overruns_in}
 
 -- the frames of the steps to come are those of the next one and of the steps behind it
 pub one_more_step : (items new all : List Overrun) (m n : MachineState) → n ≡ stepped m → n.taken ≡ m.taken + 1 → IsUnderWay n → new ≡ items ++ overruns_at m
@@ -54,6 +53,10 @@ closes_none w (Some (op.Pace h)) code r p e = by_frames r.frames e
 -- where a controller has halted, no frame is closed
 none_at : (m : MachineState) → turn_of m ≡ halted → overruns_at m ≡ []
 none_at m ends = ap (λ c. late_of c m) (closes_none (world_in m) (slice_get m.code.operations m.at.place) m.code m.at m.point ends)
+
+-- and no line is told of one
+pub line_at_none : (m : MachineState) → turn_of m ≡ halted → frame_line_at m ≡ []
+line_at_none m ends = ap (λ c. line_of c (clock_at m)) (closes_none (world_in m) (slice_get m.code.operations m.at.place) m.code m.at m.point ends)
 
 stands : (m : MachineState) → turn_of m ≡ halted → stepped m ≡ m
 unfolding stepped

@@ -1,4 +1,5 @@
--- How long a script's frames may take at worst, and which of those with a period may not fit into it (own choice).
+-- How long a script's frames may take at worst, and which of those with a period may not fit into it (own choice): a
+-- tally of the script, of which no law says what an exchange takes.
 -- Times are ticks of 0.1 µs: a word takes 200 (MIL-STD-1553B 4.3.3.4), and a gap is counted as on the bus, 20 where
 -- there is no pause.
 use Rattle.std.specs.Prelude.{ℕ, ◌+◌, ◌-◌, ◌*◌, min, max, nat_lt, if◌then◌else◌, List, [], ◌∷◌, ◌++◌, length}
@@ -94,6 +95,6 @@ abbrev pub tight_from : ℕ → List Timed → List Tight
 tight_from place [] = []
 tight_from place (f ∷ fs) = tight_at place f ++ tight_from (place + 1) fs
 
--- the frames of a script that take longer than their period at worst
+-- the frames of a script of which the tally is above their period
 abbrev pub tight_frames : Tree → List Tight
 tight_frames t = tight_from 1 (frames_in (longest_gap t) [] t)

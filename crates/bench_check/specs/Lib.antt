@@ -5,3 +5,8 @@ pub mod Overruns
 pub mod Trying
 pub mod Fitting
 pub mod Scripts
+pub mod FrameLines
+pub mod Mistakes
+pub mod MistakeLines
+pub mod Listing
+pub mod Checked

@@ -1,4 +1,7 @@
 //! Which terminals the messages of a job call.
+ghost use Rattle.bench_check.specs.Mistakes as spec;
+ghost use Rattle.std.specs.Prelude.{◌≡◌};
+
 use mil_message::Message;
 use mil_word::Command;
 use mil_word::fields::FIELD_VALUES;
@@ -37,7 +40,9 @@ impl Calls {
     }
 
     /// How many commands call an address, 0 to 31; 31 is all terminals.
-    pub fn count(&self, address: u8) -> u32 {
+    pub fn count(&self, address: u8) -> u32
+        ensures { result ≡ spec.calls_of self.now address }
+    {
         match self.counts.get(address as usize) {
             Some(count) => *count,
             None => 0,
@@ -45,7 +50,9 @@ impl Calls {
     }
 
     /// The number of the first message that calls an address; 0 where none does.
-    pub fn first(&self, address: u8) -> u32 {
+    pub fn first(&self, address: u8) -> u32
+        ensures { result ≡ spec.first_call_of self.now address }
+    {
         match self.firsts.get(address as usize) {
             Some(first) => *first,
             None => 0,

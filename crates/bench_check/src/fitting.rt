@@ -1,4 +1,4 @@
-//! Which frames with a period may not fit into it at worst.
+//! Which frames with a period may not fit into it at worst: a tally of a script.
 ghost use Rattle.bench_check.specs.Fitting as spec;
 ghost use Rattle.frame_tree.specs.Scopes.{scope_of};
 ghost use Rattle.frame_tree.specs.Tree.{tree_of};
@@ -218,7 +218,9 @@ fn tight_of(alloc: Global, frames: &[Timed]) -> Result<Vec<Tight>, AllocError>
 /// The frames with a period of a script whose body takes longer than the period at worst: every reply comes with the
 /// longest response time, 12.0 µs, in front of every message stands the longest gap, every retry is used up, an `until`
 /// runs all its turns, an `if` takes the branch that is longer, and a call takes as long as the body of its definition,
-/// whose frames count once. Planned faults are not counted. It fails for want of memory alone.
+/// whose frames count once. Planned faults are not counted. This is a tally of the script: that a frame which is not
+/// among these ends in time where no fault is planned is what it is meant for, and no contract says it. It fails for
+/// want of memory alone.
 pub fn tight_frames<A: Allocator + Clone>(
     alloc: Global,
     frame: &Frame<A>,

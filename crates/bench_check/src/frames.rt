@@ -1,6 +1,7 @@
 //! Frames with a period: what time was left of each, and which took longer.
+ghost use Rattle.bench_check.specs.FrameLines.{end_text, frame_line_at, head_text, late_text, left_text, period};
 ghost use Rattle.bench_check.specs.Overruns.{overruns_at, late_of};
-ghost use Rattle.std.specs.Prelude.{◌≡◌, ◌++◌, OnOk};
+ghost use Rattle.std.specs.Prelude.{◌≡◌, ◌++◌, ◌/◌, ◌%◌, OnOk, string_bytes};
 
 use bc_machine::{Closing, Machine};
 use std::alloc::AllocError;
@@ -27,7 +28,8 @@ pub(crate) fn note_frame(
     overruns: &mut Vec<Overrun>,
     machine: &Machine,
 ) -> Result<(), AllocError>
-    ensures { OnOk result (overruns.new.items ≡ overruns.old.items ++ overruns_at machine.now) }
+    ensures kept { OnOk result (overruns.new.items ≡ overruns.old.items ++ overruns_at machine.now) }
+    ensures told { OnOk result (string_bytes text.new ≡ string_bytes text.old ++ frame_line_at machine.now) }
 {
     let Some(closing) = machine.closing() else {
         return Ok(());
@@ -39,8 +41,7 @@ pub(crate) fn note_frame(
         return put_left(text, due - clock);
     }
     let ticks = clock - due;
-    let (whole, part) = parts_of(ticks);
-    write!(text, "{whole}.{part} us too long\n")?;
+    put_late(text, ticks)?;
     overruns.push(Overrun {
         number: machine.number(),
         hundreds: closing.hundreds,
@@ -50,14 +51,18 @@ pub(crate) fn note_frame(
 }
 
 /// Puts the period of a frame, and when it began.
-fn put_frame(text: &mut String, closing: &Closing) -> Result<(), AllocError> {
+fn put_frame(text: &mut String, closing: &Closing) -> Result<(), AllocError>
+    ensures { OnOk result (string_bytes text.new ≡ string_bytes text.old ++ head_text closing.now) }
+{
     let period = period_of(closing.hundreds);
     let (whole, part) = parts_of(closing.began);
     write!(text, "frame {period} us, begun at {whole}.{part} us: ")
 }
 
 /// Puts what time was left, in ms from 1 ms on.
-fn put_left(text: &mut String, ticks: u64) -> Result<(), AllocError> {
+fn put_left(text: &mut String, ticks: u64) -> Result<(), AllocError>
+    ensures { OnOk result (string_bytes text.new ≡ string_bytes text.old ++ left_text ticks) }
+{
     if ticks >= 10 * TICKS {
         let (whole, part) = parts_of(ticks / TICKS);
         write!(text, "{whole}.{part} ms left\n")
@@ -67,12 +72,25 @@ fn put_left(text: &mut String, ticks: u64) -> Result<(), AllocError> {
     }
 }
 
+/// Puts by how much a frame ended late.
+fn put_late(text: &mut String, ticks: u64) -> Result<(), AllocError>
+    ensures { OnOk result (string_bytes text.new ≡ string_bytes text.old ++ late_text ticks) }
+{
+    let (whole, part) = parts_of(ticks);
+    write!(text, "{whole}.{part} us too long\n")
+}
+
 /// A period in µs, where it is counted in hundreds of them.
-pub(crate) fn period_of(hundreds: u16) -> u32 {
+pub(crate) fn period_of(hundreds: u16) -> u32
+    ensures { result ≡ period hundreds }
+{
     100 * u32::from(hundreds)
 }
 
 /// A number of tenths as a whole number and its tenth.
-pub(crate) fn parts_of(tenths: u64) -> (u64, u64) {
+pub(crate) fn parts_of(tenths: u64) -> (u64, u64)
+    ensures whole { result.0 ≡ tenths / 10 }
+    ensures part { result.1 ≡ tenths % 10 }
+{
     (tenths / 10, tenths % 10)
 }

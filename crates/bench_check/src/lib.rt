@@ -7,24 +7,29 @@
 #![tactic(auto)]
 
 mod calls;
+mod checked;
 mod filling;
 mod findings;
 mod fitting;
 mod frames;
 mod meeting;
 mod messages;
+mod mistake_lines;
+mod mistakes;
 mod oddities;
 mod planned;
 mod scripts;
 mod trying;
 
 pub use calls::Calls;
+pub use checked::{Checked, Way, check_job, mistakes_in};
 pub use filling::Filled;
-pub use findings::{Findings, print_findings};
+pub use findings::{Findings, print_findings, print_mistakes};
 pub use fitting::{Tight, tight_frames};
 pub use frames::Overrun;
 pub use meeting::meets;
 pub use messages::Bits;
+pub use mistakes::{Mistake, mistakes_of};
 pub use oddities::Oddities;
 pub use scripts::tight_frames_in;
 pub use trying::try_job;

@@ -1,5 +1,7 @@
 //! The lines of a message.
 ghost use Rattle.bc_machine.specs.Rising.{IsRising};
+ghost use Rattle.bench_check.specs.MistakeLines.{placed_text};
+ghost use Rattle.std.specs.Prelude.{◌≡◌, ◌++◌, OnOk, string_bytes};
 
 use bc_machine::{Actions, Placed};
 use bitflags::Flags;
@@ -60,7 +62,9 @@ pub(crate) fn put_actions(
 }
 
 /// Puts a placed action as its line in a job.
-pub(crate) fn put_action(text: &mut String, one: &Placed) -> Result<(), AllocError> {
+pub(crate) fn put_action(text: &mut String, one: &Placed) -> Result<(), AllocError>
+    ensures { OnOk result (string_bytes text.new ≡ string_bytes text.old ++ placed_text one.now) }
+{
     let (number, address) = (one.number, one.address);
     let action = &one.action;
     write!(text, "at {number} {address} {action}")

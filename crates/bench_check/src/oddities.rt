@@ -1,4 +1,7 @@
 //! What the messages of a job do that is probably a mistake, beside whom they call.
+ghost use Rattle.bench_check.specs.Mistakes as spec;
+ghost use Rattle.std.specs.Prelude.{◌≡◌};
+
 use crate::filling::Filled;
 use mil_bus::Talk;
 use mil_message::Commands;
@@ -104,25 +107,36 @@ impl Oddities {
     }
 
     /// How many messages had an error.
-    pub fn failed(&self) -> u32 {
+    pub fn failed(&self) -> u32
+        ensures { result ≡ self.now.failed }
+    {
         self.failed
     }
 
     /// How many messages were answered with the message error bit and not sent again.
-    pub fn left(&self) -> u32 {
+    pub fn left(&self) -> u32
+        ensures { result ≡ self.now.left }
+    {
         self.left
     }
 
     /// The number of the first of them; 0 where there is none.
-    pub fn first_left(&self) -> u32 {
+    pub fn first_left(&self) -> u32
+        ensures { result ≡ self.now.first_left }
+    {
         self.first_left
     }
 
     /// The number of the first message that transmits from a subaddress of a terminal where no words were put up; 0
     /// where there is none.
-    pub fn unfilled(&self, address: u8, sub: u8) -> u32 {
+    pub fn unfilled(&self, address: u8, sub: u8) -> u32
+        ensures { result ≡ spec.first_unfilled self.now address sub }
+    {
         match self.unfilled.get(usize::from(address)) {
-            Some(firsts) => firsts.get(usize::from(sub)).copied().unwrap_or(0),
+            Some(firsts) => match firsts.get(usize::from(sub)) {
+                Some(first) => *first,
+                None => 0,
+            },
             None => 0,
         }
     }

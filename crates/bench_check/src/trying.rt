@@ -1,5 +1,7 @@
 //! A job, tried message by message.
 ghost use Rattle.bc_machine.specs.Rising.{IsRising};
+ghost use Rattle.bench_check.specs.FrameLines.{frame_line_at};
+ghost use Rattle.bench_check.specs.Listing.{HasTold, IsTold};
 ghost use Rattle.bench_check.specs.Meeting.{meets_something as is_met};
 ghost use Rattle.bench_check.specs.Overruns.{overruns, overruns_at};
 ghost use Rattle.bench_check.specs.Trying.{IsTried, StepsOn, HasEnded};
@@ -8,8 +10,10 @@ ghost use Rattle.job_file.specs.Rooms.{most_items};
 ghost use Rattle.mil_bus.specs.Exchange.{now_of, talk_start};
 ghost use Rattle.mil_line.specs.Plans.{faults_of};
 ghost use Rattle.mil_line.specs.Ranges.{is_in_range};
+ghost use Rattle.std.specs.Io.KnownBytes.{Appends};
 ghost use Rattle.std.specs.List.{filter, list_all};
 ghost use Rattle.std.specs.Prelude.{◌≡◌, ◌++◌, ◌+◌, ◌-◌, ◌<◌, ◌≤◌, ◌^◌, true, false, not, IfOk, OnOk};
+ghost use Rattle.std.specs.Prelude.{List, Option, ℕ};
 
 use crate::calls::Calls;
 use crate::filling::Filled;
@@ -144,7 +148,8 @@ fn close<W: Write>(
     machine: &Machine,
     out: &mut W,
 ) -> Result<(), WriteFault>
-    ensures { OnOk result (overruns.new.items ≡ overruns.old.items ++ overruns_at machine.now) }
+    ensures kept { OnOk result (overruns.new.items ≡ overruns.old.items ++ overruns_at machine.now) }
+    ensures told { OnOk result (Appends (W.contents out.old) (W.contents out.new) (frame_line_at machine.now)) }
 {
     let mut text = String::new(alloc);
     note_frame(&mut text, overruns, machine)?;
@@ -155,7 +160,8 @@ fn close<W: Write>(
 impl Trial {
     /// A job before any message.
     fn begin(alloc: Global, job: &Job, bits: Bits) -> Result<Trial, AllocError>
-        ensures { IfOk result (λ t. IsTried job.now t) }
+        ensures tried { IfOk result (λ t. IsTried job.now t) }
+        ensures told { IfOk result (λ t. (got : Option (List ℕ)) → HasTold job.now t.machine got got) }
     {
         let machine = job.machine(alloc, job.actions())?;
         let unmet = Vec::new(alloc);
@@ -186,6 +192,12 @@ impl Trial {
         requires tried { IsTried job.now self.old }
         ensures on { IfOk result (λ more. more ≡ true → StepsOn job.now self.old self.new) }
         ensures ends { IfOk result (λ more. more ≡ false → HasEnded job.now self.new) }
+        ensures told { IfOk result (λ more. more ≡ true → (before : Option (List ℕ))
+            → HasTold job.now self.old.machine before (W.contents out.old)
+            → HasTold job.now self.new.machine before (W.contents out.new)) }
+        ensures last { IfOk result (λ more. more ≡ false → (before : Option (List ℕ))
+            → HasTold job.now self.old.machine before (W.contents out.old)
+            → IsTold job.now before (W.contents out.new)) }
     {
         job_runs();
         let _sound = job.program();
@@ -224,9 +236,11 @@ impl Trial {
     ) -> Result<(), WriteFault>
         requires rising { IsRising filled.now }
         requires tried { IsTried job.now self.old }
+        requires told { HasTold job.now self.old.machine (W.contents out.old) (W.contents out.old) }
         ensures made { OnOk result (self.new.machine.point.number ≡ spec.made job.now) }
         ensures unmet { OnOk result (self.new.unmet.items ≡ spec.unmet job.now) }
         ensures overruns { OnOk result (self.new.overruns.items ≡ overruns job.now) }
+        ensures told { OnOk result (IsTold job.now (W.contents out.old) (W.contents out.new)) }
     {
         'steps: loop {
             let more = self.step(alloc, job, filled, out)?;
@@ -253,6 +267,7 @@ pub fn try_job<W: Write>(
     ensures unmet { IfOk result (λ f. f.unmet.items ≡ spec.unmet job.now) }
     ensures room { IfOk result (λ f. f.room ≡ most_items job.now) }
     ensures overruns { IfOk result (λ f. f.overruns.items ≡ overruns job.now) }
+    ensures told { OnOk result (IsTold job.now (W.contents out.old) (W.contents out.new)) }
 {
     let room = job.most_items();
     let filled = filled_by(job)?;

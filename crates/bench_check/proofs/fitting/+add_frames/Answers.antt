@@ -1,7 +1,7 @@
-use Rattle.std.proofs.Common.{◌≡◌, ◌∷◌, ◌++◌, sym, ap, ap₂, ◌∙◌, rules}
+use Rattle.std.proofs.Common.{◌≡◌, ◌∷◌, ◌++◌, ap, ◌∙◌, rules}
 use Rattle.std.proofs.lemmas.Result.{on_ok_weaker}
 use Rattle.frame_tree.specs.declared.names.Scope.{the_lemmas}
-use Rattle.frame_tree.specs.Tree.{condition_in, tree_of, choose, timed}
+use Rattle.frame_tree.specs.Tree.{tree_of}
 use Rattle.frame_tree.specs.Scopes.{scope_of}
 use Rattle.frame_tree.proofs.Trees.{left_first, left_none, seq_tree, tree_define, tree_if}
 use Rattle.bench_check.specs.Fitting.{most, ticks_in, frames_in}

@@ -1,11 +1,14 @@
-use Rattle.std.proofs.Common.{◌≡◌, ap, sym, ◌∙◌}
+use Rattle.std.proofs.Common.{◌≡◌, sym, ◌∙◌}
 use Rattle.bench_check.specs.Trying.{HasEnded}
 use Rattle.bench_check.specs.Unmet.{made}
 use Rattle.bench_check.proofs.Noted.{all_unmet}
 use Rattle.bench_check.proofs.trying.Trial.run.Goals as goal
 
 pub steps-preserved : goal.steps-preserved
-steps-preserved g c = (c.in_ok-more.ensures.on c.if-not-more.false).tried
+steps-preserved g c = (
+  (c.in_ok-more.ensures.on c.if-not-more.false).tried,
+  c.in_ok-more.ensures.told c.if-not-more.false _ c.steps.invariant.1,
+)
 
 pub steps-smaller : goal.steps-smaller
 steps-smaller g c = (c.in_ok-more.ensures.on c.if-not-more.false).smaller
@@ -21,3 +24,6 @@ returns-clause-unmet g c =
 
 pub returns-clause-overruns : goal.returns-clause-overruns
 returns-clause-overruns g c = (c.in_ok-more.ensures.ends c.if-not-more.true).overruns
+
+pub returns-clause-told : goal.returns-clause-told
+returns-clause-told g c = c.in_ok-more.ensures.last c.if-not-more.true _ c.steps.invariant.1

@@ -1,4 +1,4 @@
-use Rattle.std.proofs.Common.{◌≡◌, ◌+◌, ap, sym, ◌∙◌, arith}
+use Rattle.std.proofs.Common.{◌≡◌, ◌+◌, ap, sym, ◌∙◌}
 use Rattle.bc_machine.specs.Running.{MachineState}
 use Rattle.bc_machine.specs.Coming.{IsComing, IsStill}
 use Rattle.bc_machine.specs.UnderWay.{IsQuiet, IsHalted}
@@ -10,6 +10,7 @@ use Rattle.bench_check.specs.Trying.{steps_left}
 use Rattle.bench_check.specs.Unmet.{made, unmet_up_to}
 use Rattle.bench_check.proofs.Noted.{one_more, no_more}
 use Rattle.bench_check.proofs.Overruns.{one_more_step, all_there}
+use Rattle.bench_check.proofs.Told.{told_message, told_still, told_all}
 use Rattle.bench_check.proofs.trying.Trial.step.Goals as goal
 
 pub returns-in_ok-write_all-in-Some-clause-on : goal.returns-in_ok-write_all-in-Some-clause-on
@@ -21,7 +22,7 @@ returns-in_ok-write_all-in-Some-clause-on g c = λ yes.
       tried = record {
         of = next;
         unmet = one_more c.job_runs.ensures.bus job c.args.self.now.machine c.step.new.self c.in-Some.coming (c.number-number.result + 1) c.args.self.now.unmet.items c.note.new.unmet.items c.program-sound.ensures.sound c.requires.tried.of next c.step.ensures.value h (ap (λ i. i + 1) c.number-number.ensures.value) c.requires.tried.unmet c.in_ok-text-in-Some.ensures;
-        overruns = one_more_step c.args.self.now.overruns.items c.close.new.overruns.items (overruns job) c.args.self.now.machine c.step.new.self c.step.ensures.value (ap (λ (z : MachineState). z.taken) c.step.ensures.value ∙ h.taken) c.step.ensures.under_way c.in_ok-close.ensures c.requires.tried.overruns;
+        overruns = one_more_step c.args.self.now.overruns.items c.close.new.overruns.items (overruns job) c.args.self.now.machine c.step.new.self c.step.ensures.value (ap (λ (z : MachineState). z.taken) c.step.ensures.value ∙ h.taken) c.step.ensures.under_way c.in_ok-close.ensures.kept c.requires.tried.overruns;
       };
       smaller = smaller c.args.self.now.machine c.step.new.self c.step.ensures.value (ap (λ (z : MachineState). z.taken) c.step.ensures.value ∙ h.taken) c.step.ensures.under_way;
     }
@@ -35,7 +36,7 @@ returns-in-Ran-clause-on g c = λ yes.
       tried = record {
         of = next_of c.job_runs.ensures.goes_on (job_in job) job.actions c.args.self.now.machine c.step-in-None.new.self c.step-in-None.ensures.value c.requires.tried.of c.step-in-None.ensures.under_way;
         unmet = no_more job c.args.self.now.machine c.step-in-None.new.self c.args.self.now.unmet.items c.step-in-None.ensures.value still c.requires.tried.unmet;
-        overruns = one_more_step c.args.self.now.overruns.items c.close.new.overruns.items (overruns job) c.args.self.now.machine c.step-in-None.new.self c.step-in-None.ensures.value quiet.taken c.step-in-None.ensures.under_way c.in_ok-close.ensures c.requires.tried.overruns;
+        overruns = one_more_step c.args.self.now.overruns.items c.close.new.overruns.items (overruns job) c.args.self.now.machine c.step-in-None.new.self c.step-in-None.ensures.value quiet.taken c.step-in-None.ensures.under_way c.in_ok-close.ensures.kept c.requires.tried.overruns;
       };
       smaller = smaller c.args.self.now.machine c.step-in-None.new.self c.step-in-None.ensures.value quiet.taken c.step-in-None.ensures.under_way;
     }
@@ -49,5 +50,19 @@ returns-in-Halted-clause-ends g c = λ no.
     record {
       sent = all;
       unmet = c.requires.tried.unmet ∙ ap (unmet_up_to job) (number ∙ all);
-      overruns = all_there c.args.self.now.overruns.items c.close.new.overruns.items (overruns job) (steps_left c.args.self.now.machine) c.args.self.now.machine h.halts c.requires.tried.overruns c.in_ok-close.ensures;
+      overruns = all_there c.args.self.now.overruns.items c.close.new.overruns.items (overruns job) (steps_left c.args.self.now.machine) c.args.self.now.machine h.halts c.requires.tried.overruns c.in_ok-close.ensures.kept;
     }
+
+pub returns-in_ok-write_all-in-Some-clause-told : goal.returns-in_ok-write_all-in-Some-clause-told
+returns-in_ok-write_all-in-Some-clause-told g c = λ yes before so_far.
+    let h : IsComing c.args.self.now.machine c.in-Some.coming = rw c.in-Some.is at c.in_ok-coming.ensures in
+    told_message c.args.job.now c.args.self.now.machine c.step.new.self before _ _ _ _ so_far c.step.ensures.value h.number c.in_ok-close.ensures.told c.in_ok-write_all-in-Some.ensures.bytes
+
+pub returns-in-Ran-clause-told : goal.returns-in-Ran-clause-told
+returns-in-Ran-clause-told g c = λ yes before so_far.
+    told_still c.args.job.now c.args.self.now.machine c.step-in-None.new.self before _ _ so_far c.step-in-None.ensures.value c.in_ok-close.ensures.told
+
+pub returns-in-Halted-clause-last : goal.returns-in-Halted-clause-last
+returns-in-Halted-clause-last g c = λ no before so_far.
+    let h : IsHalted c.args.self.now.machine c.step-in-None.new.self = c.in-Halted.ensures.tells in
+    told_all c.args.job.now c.args.self.now.machine before _ _ so_far h.halts c.in_ok-close.ensures.told
