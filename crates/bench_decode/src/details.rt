@@ -3,12 +3,11 @@
 use crate::fields::{has_names, put_block, put_form};
 use crate::forms::Form;
 use crate::line::Line;
-use crate::messages::Place;
-use crate::replies::put_replies;
+use crate::messages::{Place, letter_of};
+use crate::readings::{Reading, put_reading};
 use crate::times::Time;
 use ch11_f1::Seen;
-use ch11_layout::block::LINE_B;
-use ch11_layout::{Layout, is_set};
+use ch11_layout::Layout;
 
 /// How many words are shown at most.
 const MOST_WORDS: usize = 40;
@@ -29,14 +28,12 @@ pub fn put_details(line: &mut Line, place: &Place, seen: &Seen<'_>) {
     } else {
         let layout = Layout::of(seen);
         line.put(b"\nstatus words: ");
-        put_replies(line, seen, &layout);
-        put_data(
-            line,
-            b"\ndata words:",
-            seen,
-            layout.data_start,
-            layout.data_end,
-        );
+        let reading = Reading::of(seen, &layout);
+        put_reading(line, seen, &layout, reading);
+        let (from, to) = reading.first_words(&layout);
+        put_data(line, b"\ndata words:", seen, from, to);
+        let (from, to) = reading.other_words(seen, &layout);
+        put_data(line, b"\ndata words of the second command:", seen, from, to);
     }
     if has_names(seen.block) {
         line.put(b"\nblock status:");
@@ -51,11 +48,7 @@ fn put_place(line: &mut Line, place: &Place, seen: &Seen<'_>) {
     line.put_labelled(b", channel ", u64::from(place.channel));
     line.put_labelled(b", number ", place.in_channel);
     line.put(b" there, line ");
-    line.put(if is_set(seen.block, LINE_B) {
-        b"B"
-    } else {
-        b"A"
-    });
+    line.put(&[letter_of(seen)]);
     line.put_labelled(b"\n", time.seconds);
     line.put_decimals(time);
     line.put(b" s\n");

@@ -104,7 +104,7 @@ fn mode_of(command: Command) -> Form
 
 /// The form of a message with this command alone.
 #[inline]
-fn of_one(command: Command) -> Form
+pub(crate) fn of_one(command: Command) -> Form
     ensures { result ≡ spec.form_of_one command }
 {
     if command.is_mode() {

@@ -14,8 +14,10 @@ mod line;
 mod messages;
 mod modes;
 mod numbers;
+mod readings;
 mod replies;
 mod streaming;
+mod superseding;
 mod times;
 mod whole;
 

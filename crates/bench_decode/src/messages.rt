@@ -1,10 +1,13 @@
 //! A message as a line.
+ghost use Rattle.bench_decode.specs.Letters as spec;
+ghost use Rattle.ch11_f1.specs.Views.{message_of};
+ghost use Rattle.std.specs.Prelude.{◌≡◌};
 
 use crate::digits::{decimals_of, in_columns};
 use crate::fields::{has_names, put_block, put_form};
 use crate::forms::Form;
 use crate::line::Line;
-use crate::replies::put_replies;
+use crate::readings::{Reading, put_reading};
 use crate::times::Time;
 use ch11_f1::Seen;
 use ch11_layout::block::LINE_B;
@@ -55,9 +58,10 @@ pub fn write_columns<W: Write>(line: &mut Line, out: &mut W) -> io::Result<()> {
 
 /// Writes a message as people read it, on one line: its number, its time in seconds, its channel, its number there, the
 /// line, the form in the words of a script with what a mode command asks, the status words with the names of their bits
-/// and the response times, the data words, and the names of the bits of its block status word. A message of no known
-/// form has its block status word, its gap times word and all its words as hexadecimal digits. What waits in `line` may
-/// go to the writer before or behind; a fault is the writer's.
+/// and the response times, the data words, and the names of the bits of its block status word. A second command, which
+/// supersedes the first, stands with its answer in the place of the status words. A message of no known form has its
+/// block status word, its gap times word and all its words as hexadecimal digits. What waits in `line` may go to the
+/// writer before or behind; a fault is the writer's.
 pub fn write_message<W: Write>(
     line: &mut Line,
     out: &mut W,
@@ -74,8 +78,9 @@ pub fn write_message<W: Write>(
         let layout = Layout::of(seen);
         put_form(line, form);
         line.pad_to(REPLIES);
-        put_replies(line, seen, &layout);
-        put_data(line, out, seen, layout.data_start, layout.data_end)?;
+        let reading = Reading::of(seen, &layout);
+        put_reading(line, seen, &layout, reading);
+        put_words(line, out, seen, &layout, reading)?;
     }
     if has_names(seen.block) {
         put_block(line, seen.block);
@@ -85,7 +90,9 @@ pub fn write_message<W: Write>(
 }
 
 /// The letter of the line that a message went over.
-fn letter_of(seen: &Seen<'_>) -> u8 {
+pub(crate) fn letter_of(seen: &Seen<'_>) -> u8
+    ensures { result ≡ spec.letter_of (message_of seen.now) }
+{
     if is_set(seen.block, LINE_B) {
         b'B'
     } else {
@@ -142,6 +149,25 @@ fn between(words: &[u8], from: usize, to: usize) -> &[u8] {
     let end = to.saturating_mul(2).min(words.len());
     let begin = from.saturating_mul(2).min(end);
     &words[begin..end]
+}
+
+/// Puts the data words of a message; those that go with a second command stand behind 'then'.
+fn put_words<W: Write>(
+    line: &mut Line,
+    out: &mut W,
+    seen: &Seen<'_>,
+    layout: &Layout,
+    reading: Reading,
+) -> io::Result<()> {
+    let (from, to) = reading.first_words(layout);
+    put_data(line, out, seen, from, to)?;
+    let (from, to) = reading.other_words(seen, layout);
+    if from >= to {
+        return Ok(());
+    }
+    line.fill_to(WORDS - 1);
+    line.put(b" then");
+    line.put_words(out, between(seen.words, from, to))
 }
 
 /// Puts the words from a place up to another, and comes to the column of data words where these or names follow.

@@ -8,10 +8,10 @@ use mil_word::{Command, Status};
 
 /// A status word that came: of which terminal it was due, and behind which gap it came, in ticks.
 #[derive(Clone, Copy)]
-struct Reply {
-    status: u16,
-    due: u8,
-    gap: u8,
+pub(crate) struct Reply {
+    pub(crate) status: u16,
+    pub(crate) due: u8,
+    pub(crate) gap: u8,
 }
 
 /// Puts the status words of a message, each with the names of its bits and its response time.
@@ -60,6 +60,18 @@ fn put_missing(line: &mut Line, any: bool, gap: u8) {
     put_gap(line, gap);
 }
 
+/// Puts the status word in front of the data words, if there is one.
+pub(crate) fn put_front(line: &mut Line, seen: &Seen<'_>, layout: &Layout) {
+    if let Some(reply) = front_of(seen, layout) {
+        put_reply(line, reply);
+    }
+}
+
+/// The terminal address of a word, as a command or a status word has it.
+pub(crate) fn address_at(seen: &Seen<'_>, place: usize) -> u8 {
+    Status::of(seen.word(place)).address()
+}
+
 /// The status word in front of the data words, of the terminal that sends them.
 #[inline]
 fn front_of(seen: &Seen<'_>, layout: &Layout) -> Option<Reply> {
@@ -91,8 +103,9 @@ fn back_of(seen: &Seen<'_>, layout: &Layout, between: bool) -> Option<Reply> {
     })
 }
 
+/// Puts a status word with the names of its bits and its response time.
 #[inline]
-fn put_reply(line: &mut Line, reply: Reply) {
+pub(crate) fn put_reply(line: &mut Line, reply: Reply) {
     line.put_digits(reply.status);
     let address = Status::of(reply.status).address();
     if address != reply.due || reply.status & 0x07FF != 0 {
@@ -128,7 +141,7 @@ fn put_bits(line: &mut Line, status: u16) {
 }
 
 /// Puts a gap in microseconds.
-fn put_gap(line: &mut Line, gap: u8) {
+pub(crate) fn put_gap(line: &mut Line, gap: u8) {
     let (whole, tenth) = (gap / 10, b'0' + gap % 10);
     if whole < 10 {
         line.put(&[b' ', b'0' + whole, b'.', tenth, b' ', b'u', b's']);

@@ -1,4 +1,7 @@
 //! A whole recording.
+ghost use Rattle.bench_decode.specs.ByTime.{AreByTime, chosen};
+ghost use Rattle.ch11_reader.specs.Contents.{heard_in};
+ghost use Rattle.std.specs.Prelude.{reverse, IfOk};
 
 use crate::chosen::{Chosen, messages_by_time};
 use crate::line::{Line, Shown};
@@ -111,11 +114,23 @@ fn put_by_time<W: Write>(
     output: &Output,
     index: &Index<'_>,
 ) -> Result<(), StreamFault> {
-    let messages = messages_by_time(alloc, index, &output.selection)?;
+    let messages = asked_by_time(alloc, index, output)?;
     'messages: for one in messages.as_slice() {
         put_message(printing, out, output.decoded, one)?;
     }
     Ok(())
+}
+
+/// The messages that are asked for, in the order of their stamps.
+fn asked_by_time<'a>(
+    alloc: Global,
+    index: &Index<'a>,
+    output: &Output,
+) -> Result<Vec<Chosen<'a>>, AllocError>
+    ensures { IfOk result (λ found. AreByTime (chosen output.now.selection (reverse (heard_in index.now)))
+        found.items) }
+{
+    messages_by_time(alloc, index, &output.selection)
 }
 
 /// The messages of the packet at a place.

@@ -2,6 +2,7 @@ pub mod Counting
 pub mod Addresses
 pub mod Present
 pub mod Histories
+mod Stretched
 pub mod Following
 pub mod Packets
 pub mod Streamed

@@ -1,10 +1,9 @@
 -- What is counted of a channel's messages, which stand newest first (own choice). Counts and sums go as far as 64 bits
 -- count them.
-use Rattle.std.specs.Prelude.{ℕ, ◌+◌, ◌*◌, ◌-◌, ◌^◌, ◌==◌, Bool, true, false, not, ◌&&◌, ◌||◌}
-use Rattle.std.specs.Prelude.{if◌then◌else◌, List, [], ◌∷◌, length, map, min, max}
+use Rattle.std.specs.Prelude.{ℕ, ◌+◌, ◌*◌, ◌/◌, ◌-◌, ◌^◌, ◌==◌, Bool, true, false, not, ◌&&◌, ◌||◌}
+use Rattle.std.specs.Prelude.{if◌then◌else◌, List, [], ◌∷◌, length, map, Option, None, Some}
 use Rattle.std.specs.List.{sum_by, count_by, filter, list_any, range_with_len}
 use Rattle.mil_word.specs.Fields.{field_values}
-use Rattle.mil_word.specs.Timing.{word_time, contiguous_gap}
 use Rattle.ch11_header.specs.declared.header.Header.{Header}
 use Rattle.ch11_f1.specs.BodyReading.{Message}
 use Rattle.ch11_reader.specs.declared.packet.Packet.{Packet}
@@ -16,7 +15,7 @@ use Rattle.bench_select.specs.Selectors.{is_chosen}
 use Rattle.bench_stat.specs.Chosen.{history_of}
 use Rattle.ch11_layout.specs.BlockStatus.{has_response_timeout, has_word_count_error, has_sync_type_error}
 use Rattle.ch11_layout.specs.BlockStatus.{has_invalid_word_error}
-use Rattle.ch11_layout.specs.Layouts.{size_of, first_gap, second_gap}
+use Rattle.ch11_layout.specs.Layouts.{size_of}
 use Rattle.bench_stat.specs.declared.calls.Call.{Call}
 use Rattle.bench_stat.specs.declared.calls.CallKind.TheVariants.{Receive, Transmit, Mode}
 use Rattle.bench_stat.specs.declared.terminals.TerminalFigures.{TerminalFigures}
@@ -24,26 +23,11 @@ use Rattle.bench_stat.specs.declared.traffic.Traffic.{Traffic}
 use Rattle.bench_stat.specs.declared.errors.Errors.{Errors}
 use Rattle.bench_stat.specs.declared.channels.ChannelFigures.{ChannelFigures}
 use Rattle.bench_stat.specs.Sendings.{calls, is_failed, is_retry_behind, latest, sending_of}
+use Rattle.bench_stat.specs.Stretches.{span, stretches_of}
+pub use Rattle.bench_stat.specs.Measures.{one_if, duration, end_of, least, greatest}
 
-abbrev pub one_if : Bool → ℕ
-one_if b = if b then 1 else 0
-
--- how long a message takes, in ticks: 200 a word, and what lies between its words. A gap is measured from the middle
--- of a parity bit to the middle of a sync, which is 20 ticks where nothing lies between (4.3.3.7, 4.3.3.8).
-abbrev pub duration : Message → ℕ
-duration m = word_time * size_of m + ((first_gap m - contiguous_gap) + (second_gap m - contiguous_gap))
-
--- the least number of a list, or a bound
-abbrev pub least : ℕ → List ℕ → ℕ
-least bound [] = bound
-least bound (n ∷ ns) = min n (least bound ns)
-
--- the greatest number of a list, 0 where it is empty
-abbrev pub greatest : List ℕ → ℕ
-greatest [] = 0
-greatest (n ∷ ns) = max n (greatest ns)
-
--- messages, words and times of a channel: from the least stamp to the greatest one and to the greatest end of a message
+-- messages, words and times of a channel: from the least stamp to the greatest one and to the greatest end of a
+-- message, and its stretches
 abbrev pub traffic_of : List Message → Traffic
 traffic_of history = record {
   messages = capped (length history);
@@ -51,8 +35,17 @@ traffic_of history = record {
   busy = capped (sum_by duration history);
   begin = least (2 ^ 64 - 1) (map (λ (m : Message). m.stamp) history);
   last = greatest (map (λ (m : Message). m.stamp) history);
-  «end» = greatest (map (λ (m : Message). capped (m.stamp + duration m)) history);
+  «end» = greatest (map end_of history);
+  stretches = stretches_of history;
 }
+
+-- the share of a time in which the bus was busy, in hundredths of a per cent, rounded down; none of no time
+abbrev pub share_of : ℕ → ℕ → Option ℕ
+share_of busy time = if time == 0 then None else Some (capped (busy * 10000 / time))
+
+-- that of the span
+abbrev pub load : List Message → Option ℕ
+load history = share_of (capped (sum_by duration history)) (span history)
 
 -- errors by their kind, one message under each kind that its block status word names
 abbrev pub is_silent : Message → Bool

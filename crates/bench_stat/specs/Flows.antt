@@ -1,16 +1,16 @@
 -- How messages follow one another (own choice). A gap is measured from the middle of a parity bit to the middle of a
 -- sync, which is 20 ticks where nothing lies between (4.3.3.7).
-use Rattle.std.specs.Prelude.{ℕ, ◌+◌, ◌-◌, ◌^◌, List, [], ◌∷◌, ◌++◌, length, Option, None, Some, min, max}
+use Rattle.std.specs.Prelude.{ℕ, ◌+◌, ◌-◌, ◌^◌, Bool, nat_lt, if◌then◌else◌, List, [], ◌∷◌, ◌++◌, length}
+use Rattle.std.specs.Prelude.{Option, None, Some, min, max}
 use Rattle.std.specs.List.{count_by}
 use Rattle.mil_word.specs.Timing.{contiguous_gap}
 use Rattle.ch11_f1.specs.BodyReading.{Message}
 use Rattle.bench_stat.specs.declared.flows.Flow.{Flow}
 use Rattle.bench_stat.specs.Sendings.{is_failed}
 use Rattle.ch11_reader.specs.Contents.{capped}
-use Rattle.bench_stat.specs.Figures.{one_if, duration, least, greatest}
-
-abbrev pub end_of : Message → ℕ
-end_of m = capped (m.stamp + duration m)
+use Rattle.bench_stat.specs.Figures.{one_if, least, greatest}
+use Rattle.bench_stat.specs.Stretches.{latest_stamp}
+pub use Rattle.bench_stat.specs.Measures.{end_of}
 
 -- the end of the latest of messages that stand newest first
 abbrev pub latest_end : List Message → Option ℕ
@@ -21,35 +21,45 @@ latest_end (m ∷ earlier) = Some (end_of m)
 abbrev pub gap_behind : ℕ → Message → ℕ
 gap_behind end m = capped (m.stamp - end + contiguous_gap)
 
-abbrev pub gap_before : Option ℕ → Message → List ℕ
-gap_before None m = []
-gap_before (Some end) m = gap_behind end m ∷ []
+-- that between a message and the one before it; none where the stamp falls, since another recording begins there
+abbrev pub gap_before : List Message → Message → List ℕ
+gap_before [] m = []
+gap_before (latest ∷ earlier) m = if nat_lt m.stamp latest.stamp then [] else gap_behind (end_of latest) m ∷ []
 
 -- the gaps between messages that stand newest first
 abbrev pub gaps : List Message → List ℕ
 gaps [] = []
-gaps (m ∷ earlier) = gap_before (latest_end earlier) m ++ gaps earlier
+gaps (m ∷ earlier) = gap_before earlier m ++ gaps earlier
 
-abbrev pub flow_of : List Message → Flow
-flow_of history = record {
+-- a flow, in which an error is told so
+abbrev pub flow_by : (Message → Bool) → List Message → Flow
+flow_by failed history = record {
   messages = capped (length history);
-  errors = capped (count_by is_failed history);
+  errors = capped (count_by failed history);
+  begun = latest_stamp history;
   ended = latest_end history;
   least_gap = least (2 ^ 64 - 1) (gaps history);
   greatest_gap = greatest (gaps history);
 }
 
+abbrev pub flow_of : List Message → Flow
+flow_of history = flow_by is_failed history
+
 -- a flow with one more gap, and with one more message
+abbrev pub with_this_gap : ℕ → Flow → Flow
+with_this_gap gap f = record f { least_gap = min gap f.least_gap; greatest_gap = max gap f.greatest_gap }
+
 abbrev pub with_gap : Option ℕ → Message → Flow → Flow
 with_gap None m f = f
-with_gap (Some end) m f = record f {
-  least_gap = min (gap_behind end m) f.least_gap;
-  greatest_gap = max (gap_behind end m) f.greatest_gap;
+with_gap (Some end) m f = if nat_lt m.stamp f.begun then f else with_this_gap (gap_behind end m) f
+
+abbrev pub with_message_by : Bool → Message → Flow → Flow
+with_message_by failed m f = record (with_gap f.ended m f) {
+  messages = capped (f.messages + 1);
+  errors = capped (f.errors + one_if failed);
+  begun = m.stamp;
+  ended = Some (end_of m);
 }
 
 abbrev pub with_message : Message → Flow → Flow
-with_message m f = record (with_gap f.ended m f) {
-  messages = capped (f.messages + 1);
-  errors = capped (f.errors + one_if (is_failed m));
-  ended = Some (end_of m);
-}
+with_message m f = with_message_by (is_failed m) m f

@@ -1,3 +1,6 @@
+pub mod Measures
+pub mod Stretches
+pub mod Senders
 pub mod Sendings
 pub mod Chosen
 pub mod Figures

@@ -8,6 +8,7 @@ use Rattle.ch11_f1.specs.BodyReading.{Message}
 use Rattle.ch11_layout.specs.BlockStatus.{is_on_line_b, has_error}
 use Rattle.ch11_layout.specs.Layouts.{size_of, word_of, is_between, first_gap, second_gap}
 use Rattle.bench_stat.specs.declared.sendings.Sending.{Sending}
+use Rattle.bench_stat.specs.Senders.{is_senders}
 use Rattle.bench_stat.specs.declared.calls.Call.{Call}
 use Rattle.bench_stat.specs.declared.calls.CallKind.{CallKind}
 use Rattle.bench_stat.specs.declared.calls.CallKind.TheVariants.{Receive, Transmit, Mode}
@@ -20,11 +21,12 @@ word_at place m = if nat_lt place (size_of m) then Some (word_of m.bytes place) 
 abbrev pub is_failed : Message → Bool
 is_failed m = has_error m.block
 
--- line, error and command words of a message
+-- line, error, whose it is, and command words of a message
 abbrev pub sending_of : Message → Sending
 sending_of m = record {
   line_b = is_on_line_b m.block;
   failed = is_failed m;
+  sender_failed = is_failed m && is_senders m;
   first = word_at 0 m;
   second = if is_between m then word_at 1 m else None;
 }
@@ -33,7 +35,7 @@ sending_of m = record {
 abbrev pub kind_of : ℕ → CallKind
 kind_of command = if is_mode command then Mode else if is_transmit command then Transmit else Receive
 
--- a command word with its message's error, and the response time of the terminal that it calls
+-- a command word with the error that belongs to the terminal that it calls, and this one's response time
 abbrev pub call_by : ℕ → Bool → ℕ → Call
 call_by command failed response = record {
   address = address_of command;
@@ -43,11 +45,12 @@ call_by command failed response = record {
 }
 
 -- the calls of a message that was sent so, the latest first: where there are two, the second calls the sender, whose
--- reply is the first
+-- reply is the first, and the error is of one of them
 abbrev pub calls_by : Sending → ℕ → ℕ → Option ℕ → Option ℕ → List Call
 calls_by s one two None second = []
 calls_by s one two (Some first) None = call_by first s.failed one ∷ []
-calls_by s one two (Some first) (Some second) = call_by second s.failed one ∷ call_by first s.failed two ∷ []
+calls_by s one two (Some first) (Some second) =
+    call_by second s.sender_failed one ∷ call_by first (s.failed && not s.sender_failed) two ∷ []
 
 abbrev pub calls_sent : Sending → ℕ → ℕ → List Call
 calls_sent s one two = calls_by s one two s.first s.second

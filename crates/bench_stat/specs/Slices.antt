@@ -1,5 +1,5 @@
 -- The load of a channel over time (own choice): for each slice of a span, how long messages take of it, in ticks.
-use Rattle.std.specs.Prelude.{◌≡◌, ℕ, ◌+◌, ◌-◌, List, min, max}
+use Rattle.std.specs.Prelude.{◌≡◌, ℕ, ◌+◌, ◌-◌, List, length, min, max}
 use Rattle.std.specs.List.{sum_by, All}
 use Rattle.ch11_f1.specs.BodyReading.{Message}
 use Rattle.bench_stat.specs.declared.slices.Slice.{Slice}
@@ -13,12 +13,18 @@ overlap begin end m = min end (end_of m) - max begin m.stamp
 abbrev pub busy_in : ℕ → ℕ → List Message → ℕ
 busy_in begin end history = capped (sum_by (overlap begin end) history)
 
--- each slice has its part of the messages' time
+-- how many slices a span is shown in
+abbrev pub slices_in_span : ℕ
+slices_in_span = 20
+
+-- a slice has its part of the messages' time
 abbrev pub IsBusy : List Message → Slice → Type 0
 IsBusy history s = s.busy ≡ busy_in s.begin s.«end» history
 
-abbrev pub AreBusy : List Message → List Slice → Type 0
-AreBusy history slices = All (IsBusy history) slices
+-- so has each of as many slices
+pub record AreBusy (history : List Message) (slices : List Slice) : Type 0 where
+  pub many : length slices ≡ slices_in_span
+  pub each : All (IsBusy history) slices
 
 -- one more message
 abbrev pub with_part : Message → Slice → Slice

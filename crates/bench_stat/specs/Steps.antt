@@ -9,9 +9,10 @@ use Rattle.bench_stat.specs.declared.errors.Errors.{Errors}
 use Rattle.bench_stat.specs.declared.tally.Tally.{Tally}
 use Rattle.bench_stat.specs.Sendings.{is_failed, latest}
 use Rattle.ch11_reader.specs.Contents.{capped}
-use Rattle.bench_stat.specs.Figures.{one_if, duration, is_silent, is_miscounted, is_of_other_sync, is_unsound}
+use Rattle.bench_stat.specs.Figures.{one_if, duration, end_of, is_silent, is_miscounted, is_of_other_sync, is_unsound}
 use Rattle.bench_stat.specs.Figures.{is_otherwise_failed, is_receive_call, is_transmit_call, is_mode_call}
 use Rattle.bench_stat.specs.Figures.{figures_of_channel}
+use Rattle.bench_stat.specs.Stretches.{with_stretch}
 
 abbrev pub with_kind : Call → TerminalFigures → TerminalFigures
 with_kind c f = record f {
@@ -39,7 +40,8 @@ with_traffic m t = record {
   busy = capped (t.busy + duration m);
   begin = min m.stamp t.begin;
   last = max m.stamp t.last;
-  «end» = max (capped (m.stamp + duration m)) t.«end»;
+  «end» = max (end_of m) t.«end»;
+  stretches = with_stretch m t.stretches;
 }
 
 abbrev pub with_errors : Message → Errors → Errors

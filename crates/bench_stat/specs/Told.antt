@@ -23,7 +23,7 @@ use Rattle.bench_stat.specs.Streaming.{IsPacketBehind}
 pub record IsFollowed (shown : Shown) (history : List Message) (f : Followed) : Type 0 where
   pub details : shown.long ≡ true → f.details ≡ Some (details_of history)
   pub flows : shown.by_subaddress ≡ true → AreEntries history f.flows.items
-  pub load : AreBusy history f.slices.items
+  pub load : shown.load ≡ true → AreBusy history f.slices.items
 
 -- this is told of a channel: of its packets, and of the selected ones of its messages
 pub record IsTold (shown : Shown) (s : Selection) (ps : List Found) (channel : ℕ) (t : Told) : Type 0 where

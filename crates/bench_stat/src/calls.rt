@@ -23,7 +23,7 @@ pub struct Call {
     pub address: u8,
     /// What it asks.
     pub kind: CallKind,
-    /// Whether the message had an error.
+    /// Whether the message had an error that belongs to this terminal: its reply is missing or wrong.
     pub failed: bool,
     /// The response time in ticks of 0.1 µs, 255 where it was that or longer, 0 where there was no response.
     pub response: u8,

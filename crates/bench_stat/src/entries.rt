@@ -36,15 +36,15 @@ pub(crate) fn parts_of(entry: usize) -> (usize, &'static str, usize) {
     (entry / (2 * FIELD_VALUES), direction, entry % FIELD_VALUES)
 }
 
-/// One more message for the entry of a command, where there is one.
-fn note_choice(entries: &mut [Flow], command: Option<u16>, seen: &Seen<'_>)
+/// One more message for the entry of a command, where there is one, which had this error.
+fn note_choice(entries: &mut [Flow], command: Option<u16>, failed: bool, seen: &Seen<'_>)
     requires { length entries.old ≡ ENTRIES }
-    ensures { entries.new ≡ with_choice command (message_of seen.now) entries.old }
+    ensures { entries.new ≡ with_choice command failed (message_of seen.now) entries.old }
 {
     if let Some(command) = command {
         let place = entry_of(command);
         let mut flow = entries[place];
-        flow.note(seen);
+        flow.note_by(seen, failed);
         entries[place] = flow;
     }
 }
@@ -59,16 +59,24 @@ fn is_same(first: Option<u16>, second: Option<u16>) -> bool
     }
 }
 
-/// One more message, for the entries of its commands.
+/// Whether the error of a message is for the entry of its first command.
+fn is_first_failed(sending: &Sending) -> bool
+    ensures { result ≡ spec.is_first_failed sending.now }
+{
+    sending.failed && (is_same(sending.first, sending.second) || !sending.sender_failed)
+}
+
+/// One more message, for the entries of its commands; its error is for that of one of them.
 pub(crate) fn note_entries(entries: &mut [Flow], seen: &Seen<'_>)
     requires { length entries.old ≡ ENTRIES }
     ensures { (history : List Message) → AreEntries history entries.old
         → AreEntries (message_of seen.now ∷ history) entries.new }
 {
     let sending = Sending::of(seen);
-    note_choice(entries, sending.first, seen);
+    let failed = is_first_failed(&sending);
+    note_choice(entries, sending.first, failed, seen);
     if is_same(sending.first, sending.second) {
         return;
     }
-    note_choice(entries, sending.second, seen);
+    note_choice(entries, sending.second, sending.sender_failed, seen);
 }

@@ -17,11 +17,15 @@ use mil_word::timing::CONTIGUOUS_GAP;
 pub struct Flow {
     /// How many messages.
     pub messages: u64,
-    /// How many of them had an error: block status bit 12.
+    /// How many of them had an error: block status bit 12; of a terminal and a subaddress, one that belongs to the
+    /// terminal.
     pub errors: u64,
+    /// The stamp of the latest message, 0 where there is none.
+    pub begun: u64,
     /// The end of the latest message, where there is one.
     pub ended: Option<u64>,
-    /// The least gap between a message and the next one, 2^64 - 1 where there is none.
+    /// The least gap between a message and the next one, 2^64 - 1 where there is none. There is none where a stamp
+    /// falls.
     pub least_gap: u64,
     /// The greatest gap, 0 where there is none. No gap is less than 20 ticks.
     pub greatest_gap: u64,
@@ -35,6 +39,7 @@ impl Flow {
         Flow {
             messages: 0,
             errors: 0,
+            begun: 0,
             ended: None,
             least_gap: u64::MAX,
             greatest_gap: 0,
@@ -44,20 +49,30 @@ impl Flow {
     fn note_gap(&mut self, seen: &Seen<'_>)
         ensures { self.new ≡ spec.with_gap self.old.ended (message_of seen.now) self.old }
     {
-        if let Some(ended) = self.ended {
+        if let Some(ended) = self.ended
+            && seen.stamp >= self.begun
+        {
             let gap = more(seen.stamp.saturating_sub(ended), u64::from(CONTIGUOUS_GAP));
             self.least_gap = gap.min(self.least_gap);
             self.greatest_gap = gap.max(self.greatest_gap);
         }
     }
 
-    fn note_message(&mut self, seen: &Seen<'_>)
-        ensures { self.new ≡ spec.with_message (message_of seen.now) self.old }
+    /// One more message, behind the others, which had this error.
+    pub(crate) fn note_by(&mut self, seen: &Seen<'_>, failed: bool)
+        ensures { self.new ≡ spec.with_message_by failed (message_of seen.now) self.old }
     {
         self.note_gap(seen);
         self.messages = more(self.messages, 1);
-        self.errors = counted(self.errors, is_set(seen.block, MESSAGE_ERROR));
+        self.errors = counted(self.errors, failed);
+        self.begun = seen.stamp;
         self.ended = Some(end_of(seen));
+    }
+
+    fn note_message(&mut self, seen: &Seen<'_>)
+        ensures { self.new ≡ spec.with_message (message_of seen.now) self.old }
+    {
+        self.note_by(seen, is_set(seen.block, MESSAGE_ERROR));
     }
 
     /// One more message, behind the others.

@@ -105,7 +105,7 @@ fn first_flows(alloc: Global, shown: bool) -> Result<Vec<Flow>, AllocError>
 
 /// Slices of a channel's span without messages, where they are shown.
 fn first_slices(alloc: Global, shown: bool, traffic: &Traffic) -> Result<Vec<Slice>, AllocError>
-    ensures { IfOk result (λ slices. AreBusy [] slices.items) }
+    ensures { shown ≡ true → IfOk result (λ slices. AreBusy [] slices.items) }
 {
     if shown {
         idle_slices(alloc, traffic.begin, traffic.end)

@@ -96,7 +96,7 @@ impl ToldChannels {
 }
 
 /// What is told of the channels of these figures beside them, for all bytes that a reader has left, as their packets
-/// come, in one pass and in memory for the largest packet of messages or of time and what is told: 96 KiB a channel
+/// come, in one pass and in memory for the largest packet of messages or of time and what is told: 112 KiB a channel
 /// where it is by subaddress. It counts in the selected messages; their load is that in slices of the figures' spans. A
 /// recording that can't be read is refused with its first fault, K1 to K5, N2 or F1 to F3; want of memory and the
 /// reader's failure are the others.

@@ -3,7 +3,8 @@
 use crate::channels::ChannelFigures;
 use crate::flows::Flow;
 use crate::printing::{
-    print_errors, print_load_line, print_retries, print_terminals, print_times, print_traffic,
+    print_errors, print_falls, print_load_line, print_retries, print_terminals, print_times,
+    print_traffic,
 };
 use crate::replies::Replies;
 use crate::shown::Shown;
@@ -102,6 +103,7 @@ fn print_long_traffic<W: Write>(
     write!(out, "  span      ")?;
     write_time(out, traffic.span())?;
     writeln!(out, "")?;
+    print_falls(out, &traffic.stretches)?;
     print_times(out, times)?;
     write!(out, "  messages  {messages}")?;
     if let Some(rate) = rate(messages, traffic.span()) {
@@ -137,13 +139,17 @@ fn print_replies<W: Write>(out: &mut W, replies: &Replies) -> io::Result<()> {
     writeln!(out)
 }
 
-/// Writes the load over time of a channel.
+/// Writes the load over time of a channel, nothing where no time passed; where stamps fall, a line in its place.
 fn print_load_of<W: Write, T: Tells>(
     alloc: Global,
     out: &mut W,
     told: &T,
     figures: &ChannelFigures,
 ) -> Result<(), WriteFault> {
+    if figures.traffic.stretches.falls > 0 {
+        writeln!(out, "  load      over time is not told where stamps fall")?;
+        return Ok(());
+    }
     if figures.traffic.span() == 0 {
         return Ok(());
     }

@@ -1,7 +1,9 @@
 //! The figures of a channel and its terminals as text: aligned for people, or rows of comma-separated values.
 
 use crate::channels::ChannelFigures;
+use crate::counts::more;
 use crate::errors::Errors;
+use crate::stretches::Stretches;
 use crate::terminals::TerminalFigures;
 use crate::times::Times;
 use crate::traffic::Traffic;
@@ -56,11 +58,28 @@ pub(crate) fn print_traffic<W: Write>(
 ) -> io::Result<()> {
     let (whole, part) = tenths(traffic.span());
     writeln!(out, "  span      {whole}.{part} us")?;
+    print_falls(out, &traffic.stretches)?;
     print_times(out, times)?;
     let (messages, words) = (traffic.messages, traffic.words);
     writeln!(out, "  messages  {messages}")?;
     writeln!(out, "  words     {words}")?;
     print_load_line(out, traffic)
+}
+
+/// Writes how often stamps fall, and of how many stretches the span is; nothing where they don't.
+pub(crate) fn print_falls<W: Write>(out: &mut W, stretches: &Stretches) -> io::Result<()> {
+    let falls = stretches.falls;
+    if falls == 0 {
+        return Ok(());
+    }
+    let parts = more(falls, 1);
+    write!(out, "  stamps    fall ")?;
+    if falls == 1 {
+        write!(out, "once")?;
+    } else {
+        write!(out, "{falls} times")?;
+    }
+    writeln!(out, ": the span is that of {parts} stretches")
 }
 
 /// Writes the times of day of the first and the last message, '-' for one that has none; nothing where neither has one.

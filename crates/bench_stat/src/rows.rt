@@ -9,7 +9,7 @@ use crate::slices::Slice;
 use crate::tells::Tells;
 use crate::times::Times;
 use crate::units::{rate, write_hundredths, write_time_of_day, write_us};
-use bench_clock::{Clock, UtcTime};
+use bench_clock::{Clock, TimeOfDay};
 use std::alloc::Global;
 use std::io;
 use std::io::Write;
@@ -84,7 +84,7 @@ enum Value {
     Count(u64),
     Hundredths(Option<u64>),
     Ticks(Option<u64>),
-    Day(Option<UtcTime>),
+    Day(Option<TimeOfDay>),
 }
 
 /// Writes the row of a figure.
@@ -219,13 +219,13 @@ fn write_flow<W: Write>(
     Ok(())
 }
 
-/// Writes a row for each slice of a channel's span, none where there is no span.
+/// Writes a row for each slice of a channel's span, none where there is no span or stamps fall.
 fn write_slices<W: Write>(
     out: &mut W,
     figures: &ChannelFigures,
     slices: &[Slice],
 ) -> io::Result<()> {
-    if figures.traffic.span() == 0 {
+    if !figures.traffic.has_slices() {
         return Ok(());
     }
     for slice in slices {

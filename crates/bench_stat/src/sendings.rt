@@ -3,6 +3,7 @@ ghost use Rattle.bench_stat.specs.Sendings as spec;
 ghost use Rattle.ch11_f1.specs.Views.{message_of};
 ghost use Rattle.std.specs.Prelude.{◌≡◌};
 
+use crate::senders::is_senders;
 use ch11_f1::Seen;
 use ch11_layout::block::{LINE_B, MESSAGE_ERROR, TERMINAL_TO_TERMINAL};
 use ch11_layout::is_set;
@@ -14,6 +15,9 @@ pub struct Sending {
     pub line_b: bool,
     /// Whether it had an error: bit 12.
     pub failed: bool,
+    /// Whether that is the error of the sender of a transfer between terminals, and not of the terminal that the first
+    /// command calls.
+    pub sender_failed: bool,
     /// Its first word, a command word.
     pub first: Option<u16>,
     /// Its second word, where bit 11 says that it is a transfer between terminals: the command to the sender.
@@ -30,9 +34,11 @@ impl Sending {
         } else {
             None
         };
+        let failed = is_set(seen.block, MESSAGE_ERROR);
         Sending {
             line_b: is_set(seen.block, LINE_B),
-            failed: is_set(seen.block, MESSAGE_ERROR),
+            failed,
+            sender_failed: failed && is_senders(seen),
             first: command_at(seen, 0),
             second,
         }

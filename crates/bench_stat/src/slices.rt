@@ -6,11 +6,12 @@ ghost use Rattle.std.specs.Prelude.{◌≡◌, ◌∷◌, [], List, length, map,
 
 use crate::counts::more;
 use crate::flows::end_of;
+use crate::traffic::share_of;
 use ch11_f1::Seen;
 use std::alloc::{AllocError, Global};
 
 /// How many slices a span is shown in.
-pub(crate) const SLICES: u64 = 20;
+pub(crate) const SLICES: usize = 20;
 
 /// A part of a span, and how long messages take of it, as far as 64 bits count. Times are ticks of 0.1 µs.
 #[derive(Clone, Copy, Debug, PartialEq, Eq)]
@@ -26,12 +27,7 @@ pub struct Slice {
 impl Slice {
     /// The share of the slice in which the bus was busy, in hundredths of a per cent.
     pub fn load(&self) -> u64 {
-        let span = u128::from(self.end.saturating_sub(self.begin));
-        if span == 0 {
-            return 0;
-        }
-        let share = u128::from(self.busy) * 10_000 / span;
-        u64::try_from(share).unwrap_or(u64::MAX)
+        share_of(self.busy, self.end.saturating_sub(self.begin)).unwrap_or(0)
     }
 
     /// One more message.
@@ -49,10 +45,10 @@ impl Slice {
 pub(crate) fn idle_slices(alloc: Global, begin: u64, end: u64) -> Result<Vec<Slice>, AllocError>
     ensures { IfOk result (λ v. spec.AreBusy [] v.items) }
 {
-    let length = end.saturating_sub(begin) / SLICES + 1;
+    let length = end.saturating_sub(begin) / SLICES as u64 + 1;
     let mut slices = Vec::new(alloc);
     let mut at = begin;
-    'slices: for _ in 0..SLICES {
+    'slices: for made in 0..SLICES {
         let next = at.saturating_add(length);
         slices.push(Slice {
             begin: at,

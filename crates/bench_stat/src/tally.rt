@@ -86,8 +86,12 @@ fn note_calls(terminals: &mut [TerminalFigures], sending: &Sending, first_gap: u
     match sending.second {
         None => note_call(terminals, &Call::by(first, sending.failed, first_gap)),
         Some(second) => {
-            note_call(terminals, &Call::by(first, sending.failed, second_gap));
-            note_call(terminals, &Call::by(second, sending.failed, first_gap));
+            let receiver_failed = sending.failed && !sending.sender_failed;
+            note_call(terminals, &Call::by(first, receiver_failed, second_gap));
+            note_call(
+                terminals,
+                &Call::by(second, sending.sender_failed, first_gap),
+            );
         }
     }
 }

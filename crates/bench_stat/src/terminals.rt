@@ -18,7 +18,7 @@ pub struct TerminalFigures {
     pub transmit: u64,
     /// How many mode commands it got.
     pub mode: u64,
-    /// How many of these commands stood in a message with an error.
+    /// How many of these commands stood in a message with an error that belongs to this terminal.
     pub errors: u64,
     /// How many of them it answered, by the gap times word.
     pub responses: u64,

@@ -5,16 +5,16 @@ ghost use Rattle.ch11_f1.specs.BodyReading.{Message};
 ghost use Rattle.std.specs.Prelude.{◌≡◌, List};
 
 use crate::traffic::Traffic;
-use bench_clock::{Clock, UtcTime};
+use bench_clock::{Clock, TimeOfDay};
 
 /// The times of day of the first and the last message of a channel, by its stamp; none where the recording's time
 /// packets tell none, or there is no message.
 #[derive(Clone, Copy, Debug)]
 pub struct Times {
     /// That at the least stamp.
-    pub first: Option<UtcTime>,
+    pub first: Option<TimeOfDay>,
     /// That at the greatest stamp.
-    pub last: Option<UtcTime>,
+    pub last: Option<TimeOfDay>,
 }
 
 impl Times {

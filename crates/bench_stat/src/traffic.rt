@@ -1,11 +1,15 @@
 //! Messages, words and times of a channel.
 ghost use Rattle.ch11_reader.specs.Contents.{capped};
-ghost use Rattle.bench_stat.specs.Figures.{traffic_of, duration};
+ghost use Rattle.bench_stat.specs.Figures as spec;
+ghost use Rattle.bench_stat.specs.Figures.{traffic_of, duration, load};
 ghost use Rattle.bench_stat.specs.Steps.{with_traffic};
+ghost use Rattle.bench_stat.specs.Stretches.{span};
+ghost use Rattle.ch11_f1.specs.BodyReading.{Message};
 ghost use Rattle.ch11_f1.specs.Views.{message_of};
-ghost use Rattle.std.specs.Prelude.{◌≡◌, []};
+ghost use Rattle.std.specs.Prelude.{◌≡◌, ◌∷◌, [], List};
 
 use crate::counts::more;
+use crate::stretches::Stretches;
 use ch11_f1::Seen;
 use ch11_layout::{first_gap, second_gap};
 use mil_word::timing::{CONTIGUOUS_GAP, WORD_TIME};
@@ -25,6 +29,8 @@ pub struct Traffic {
     pub last: u64,
     /// The greatest end of a message, 0 where there is none.
     pub end: u64,
+    /// The stretches in which no stamp falls.
+    pub stretches: Stretches,
 }
 
 impl Traffic {
@@ -39,26 +45,39 @@ impl Traffic {
             begin: u64::MAX,
             last: 0,
             end: 0,
+            stretches: Stretches::none(),
         }
     }
 
-    /// The time from the first message's first word to the last message's end, in ticks.
-    pub fn span(&self) -> u64 {
-        self.end.saturating_sub(self.begin)
+    /// The time from the first message's first word to the last message's end, in ticks; where stamps fall, the sum of
+    /// the spans of the stretches between.
+    pub fn span(&self) -> u64
+        ensures { (history : List Message) → self.now ≡ traffic_of history → result ≡ span history }
+    {
+        self.stretches.span()
     }
 
     /// The share of the span in which the bus was busy, in hundredths of a per cent; None where there is no span.
-    pub fn load(&self) -> Option<u64> {
-        let span = u128::from(self.span());
-        if span == 0 {
-            return None;
-        }
-        let share = u128::from(self.busy) * 10_000 / span;
-        Some(u64::try_from(share).unwrap_or(u64::MAX))
+    pub fn load(&self) -> Option<u64>
+        ensures { (history : List Message) → self.now ≡ traffic_of history → result ≡ load history }
+    {
+        share_of(self.busy, self.span())
+    }
+
+    /// Whether its load over time is told: it has a span, and no stamp falls, so that the slices are times of the bus.
+    pub(crate) fn has_slices(&self) -> bool {
+        self.stretches.falls == 0 && self.span() > 0
     }
 
     /// One more message.
     pub(crate) fn note(&mut self, seen: &Seen<'_>)
+        ensures { (history : List Message) → self.old ≡ traffic_of history
+            → self.new ≡ traffic_of (message_of seen.now ∷ history) }
+    {
+        self.count(seen);
+    }
+
+    fn count(&mut self, seen: &Seen<'_>)
         ensures { self.new ≡ with_traffic (message_of seen.now) self.old }
     {
         let words = seen.word_count() as u64;
@@ -69,7 +88,22 @@ impl Traffic {
         self.begin = seen.stamp.min(self.begin);
         self.last = seen.stamp.max(self.last);
         self.end = more(seen.stamp, time).max(self.end);
+        self.stretches.note(seen);
     }
+}
+
+/// The share of a time in which the bus was busy, in hundredths of a per cent, rounded down; None of no time.
+pub(crate) fn share_of(busy: u64, time: u64) -> Option<u64>
+    ensures { result ≡ spec.share_of busy time }
+{
+    if time == 0 {
+        return None;
+    }
+    let share = u128::from(busy) * 10_000 / u128::from(time);
+    if share > u128::from(u64::MAX) {
+        return Some(u64::MAX);
+    }
+    Some(share as u64)
 }
 
 /// How long a message takes, in ticks, as far as 64 bits count.

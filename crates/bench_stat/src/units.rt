@@ -1,6 +1,6 @@
 //! Times and rates as people read them.
 
-use bench_clock::UtcTime;
+use bench_clock::TimeOfDay;
 use std::io;
 use std::io::Write;
 
@@ -26,11 +26,11 @@ pub(crate) fn write_time<W: Write>(out: &mut W, ticks: u64) -> io::Result<()> {
 /// Writes a time of day, and in place of none this text.
 pub(crate) fn write_time_of_day<W: Write>(
     out: &mut W,
-    time: Option<UtcTime>,
+    time: Option<TimeOfDay>,
     none: &str,
 ) -> io::Result<()> {
     match time {
-        Some(time) => out.write_all(&time.text()),
+        Some(time) => out.write_all(time.text().as_bytes()),
         None => write!(out, "{none}"),
     }
 }

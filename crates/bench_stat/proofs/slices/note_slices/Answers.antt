@@ -6,6 +6,9 @@ use Rattle.bench_stat.proofs.Following.{part_more}
 use Rattle.bench_stat.proofs.slices.note_slices.Goals as goal
 
 pub returns : goal.returns
-returns c = λ history are k d within.
-    subst (λ (s : Slice). IsBusy (message_of c.args.seen.now ∷ history) s) (sym (c.slices.invariant.done k d (omega (arith, within))))
-    (part_more (message_of c.args.seen.now) history (get_or c.args.slices.now k d) (are k d (omega (arith, within, c.slices.auto.slices))))
+returns c = λ history are. record {
+  many = omega (arith, are.many, c.slices.auto.slices);
+  each = λ k d within.
+      subst (λ (s : Slice). IsBusy (message_of c.args.seen.now ∷ history) s) (sym (c.slices.invariant.done k d (omega (arith, within))))
+      (part_more (message_of c.args.seen.now) history (get_or c.args.slices.now k d) (are.each k d (omega (arith, within, c.slices.auto.slices))));
+}
