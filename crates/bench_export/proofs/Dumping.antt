@@ -86,7 +86,7 @@ binary_last t0 t2 (suc most) value some small b =
 
 -- what a place past the end is read as
 abbrev pub no_change : Change
-no_change = record { tick = 0; channel = 0; on_b = false; driven = None }
+no_change = record { tick = 0; channel = 0; on_b = false; driven = None; error = None }
 
 -- the change at a place, and those behind it
 pub split_at : (cs : List Change) (i : ℕ) (d : Change) → i < length cs → drop i cs ≡ get_or cs i d ∷ drop (i + 1) cs

@@ -2,6 +2,9 @@ pub mod Changing
 pub mod Dumping
 pub mod Framing
 pub mod Looking
+pub mod Orders
 pub mod Parts
 pub mod Streamed
+pub mod Surveying
+pub mod Waiting
 pub mod Written

@@ -57,17 +57,15 @@ rows_on k clock got mid gets before now p s so_far one = rw (s.entered, one_behi
     (subst (Appends got gets) (sym (rows_behind k clock (reverse before.earlier) (last_found now p)))
     (appends_both got mid gets (packets_text k clock 0 (reverse before.earlier)) (rows_text k clock (0 + total_in (reverse before.earlier)) p.header.channel now.given) so_far (rw (behind before now p s) at one)))
 
-pub changes_on : (s : Selection) (got mid gets : List Change) (before now : Reading) (p : Packet) → IsStep before now p → mid ≡ got ++ changes_in s (reverse before.earlier)
-    → gets ≡ mid ++ changes_among s p.before p.header.channel now.given → gets ≡ got ++ changes_in s (reverse now.earlier)
-changes_on s got mid gets before now p step so_far is = rw (step.entered, one_behind (last_found now p) before.earlier)
-    (
-    is ∙ ap (λ (l : List Change). l ++ changes_among s p.before p.header.channel now.given) so_far
-    ∙ append_assoc got (changes_in s (reverse before.earlier)) (changes_among s p.before p.header.channel now.given)
-    ∙ ap (λ (n : ℕ). got ++ (changes_in s (reverse before.earlier) ++ changes_among s n p.header.channel now.given)) (behind before now p step)
-    ∙ ap (λ (l : List Change). got ++ l) (sym (changes_one_behind s (reverse before.earlier) (last_found now p)))
-    )
-
 pub selects_on : (s : Selection) (selected any : Bool) (before now : Reading) (p : Packet) → IsStep before now p → selected ≡ selects_any s (reverse before.earlier)
     → any ≡ (selected || selects_among s p.before p.header.channel now.given) → any ≡ selects_any s (reverse now.earlier)
 selects_on s selected any before now p step so_far is = rw (is, step.entered, one_behind (last_found now p) before.earlier, so_far, behind before now p step)
     (sym (selects_one_behind s 0 (reverse before.earlier) (last_found now p)))
+
+pub changes_step : (s : Selection) (before now : Reading) (p : Packet) → IsStep before now p
+    → changes_in s (reverse before.earlier) ++ changes_among s p.before p.header.channel now.given ≡ changes_in s (reverse now.earlier)
+changes_step s before now p step = rw (step.entered, one_behind (last_found now p) before.earlier)
+    (
+    ap (λ (n : ℕ). changes_in s (reverse before.earlier) ++ changes_among s n p.header.channel now.given) (behind before now p step)
+    ∙ sym (changes_one_behind s (reverse before.earlier) (last_found now p))
+    )

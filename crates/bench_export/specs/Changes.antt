@@ -1,12 +1,12 @@
 -- The changes of the lines of a recording over time (own choice): a word begins, or the line is idle.
-use Rattle.std.specs.Prelude.{ℕ, zero, suc, ◌+◌, ◌-◌, ◌==◌, ◌&&◌, nat_lt, if◌then◌else◌, List, [], ◌∷◌, ◌++◌}
-use Rattle.std.specs.Prelude.{length, Option, Some, None}
+use Rattle.std.specs.Prelude.{ℕ, zero, suc, ◌+◌, ◌-◌, ◌==◌, Bool, true, false, ◌&&◌, nat_lt, if◌then◌else◌}
+use Rattle.std.specs.Prelude.{List, [], ◌∷◌, ◌++◌, length, Option, Some, None}
 use Rattle.std.specs.List.Sorted.{IsPermutation, IsStableByKey, IsNonDecreasingBy}
 use Rattle.std.specs.Ordering.{nat_cmp}
 use Rattle.mil_word.specs.Fields.{address_of}
 use Rattle.mil_word.specs.Timing.{word_time}
 use Rattle.ch11_f1.specs.BodyReading.{Message}
-use Rattle.ch11_layout.specs.BlockStatus.{is_on_line_b}
+use Rattle.ch11_layout.specs.BlockStatus.{has_error, is_on_line_b}
 use Rattle.ch11_layout.specs.declared.layouts.Role.{Role}
 use Rattle.ch11_layout.specs.declared.layouts.Role.TheVariants as roles
 use Rattle.ch11_layout.specs.Layouts.{size_of, word_of, data_start, layout_of, role_at}
@@ -36,17 +36,25 @@ driven_at n m place = record {
   number = n;
 }
 
+-- a message with an error (IRIG 106-17 Chapter 11, block status word) begins with its first word, and is over behind
+-- its last
+abbrev pub error_begun : Message → ℕ → Option Bool
+error_begun m place = if has_error m.block && (place == 0) then Some true else None
+
+abbrev pub error_over : Message → ℕ → Option Bool
+error_over m place = if has_error m.block && (place + 1 == size_of m) then Some false else None
+
 -- a change of the line of a message
-abbrev pub change_of : Message → ℕ → ℕ → Option Driven → Change
-change_of m channel tick driven =
-    record { tick = tick; channel = channel; on_b = is_on_line_b m.block; driven = driven }
+abbrev pub change_of : Message → ℕ → ℕ → Option Driven → Option Bool → Change
+change_of m channel tick driven error =
+    record { tick = tick; channel = channel; on_b = is_on_line_b m.block; driven = driven; error = error }
 
 -- a word begins; 200 ticks later the line is idle, unless the next word of the message begins then
 unfoldable pub changes_at : ℕ → ℕ → Message → ℕ → List Change
 changes_at n channel m place =
-    change_of m channel (begin_of m place) (Some (driven_at n m place))
+    change_of m channel (begin_of m place) (Some (driven_at n m place)) (error_begun m place)
     ∷ (if nat_lt (place + 1) (size_of m) && (begin_of m (place + 1) == begin_of m place + word_time) then []
-    else change_of m channel (begin_of m place + word_time) None ∷ [])
+    else change_of m channel (begin_of m place + word_time) None (error_over m place) ∷ [])
 
 -- the changes of so many words of message n on a channel
 unfoldable pub changes_up_to : ℕ → ℕ → ℕ → Message → List Change

@@ -3,6 +3,7 @@ pub mod Changes
 pub mod Choosing
 pub mod Frames
 pub mod Heads
+pub mod Merging
 pub mod Moments
 pub mod Rows
 pub mod Stamped

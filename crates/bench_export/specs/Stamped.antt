@@ -4,7 +4,8 @@ use Rattle.std.specs.Prelude.{ℕ, Bool, true, false, List, [], ◌∷◌, ◌++
 use Rattle.ch11_f1.specs.BodyReading.{Message}
 use Rattle.bench_clock.specs.declared.clock.Mark.{Mark}
 use Rattle.bench_clock.specs.Clock.{time_at}
-use Rattle.bench_clock.specs.TimeText.{time_text}
+use Rattle.bench_clock.specs.Time.{Time}
+use Rattle.bench_clock.specs.TimeText.{text_of}
 use Rattle.bench_export.specs.Rows.{micros}
 use Rattle.bench_export.specs.Frames.{seconds_text}
 use Rattle.bench_export.specs.declared.columns.Columns.{Columns}
@@ -20,12 +21,12 @@ stamp_name Messages = codes "time_us"
 stamp_name (Frames prefixed) = codes "time_s"
 
 -- a time of day, nothing where there is none
-abbrev pub time_field : Option ℕ → List ℕ
+abbrev pub time_field : Option Time → List ℕ
 time_field None = []
-time_field (Some ticks) = time_text ticks
+time_field (Some time) = text_of time
 
 -- the column of the time of day, where it is asked for
-abbrev pub time_columns : Bool → Option ℕ → List (List ℕ)
+abbrev pub time_columns : Bool → Option Time → List (List ℕ)
 time_columns false time = []
 time_columns true time = time_field time ∷ []
 

@@ -57,8 +57,17 @@ values_text (Some d) on_b channel = signals_text (Some d.word) (Some (kind_of d.
 unfoldable pub time_text : ℕ → ℕ → List ℕ
 time_text last tick = if last == tick then [] else codes "#" ++ (decimal tick ++ codes "\n")
 
+-- whether a message with an error is on a line, where that changes
+abbrev pub error_text : Option Bool → Bool → ℕ → List ℕ
+error_text None on_b channel = []
+error_text (Some error) on_b channel =
+    (if error then codes "1" else codes "0") ++ (signal_code (codes "e") on_b channel ++ codes "\n")
+
+unfoldable pub wire_text : Option Driven → Option Bool → Bool → ℕ → List ℕ
+wire_text driven error on_b channel = values_text driven on_b channel ++ error_text error on_b channel
+
 abbrev pub change_text : ℕ → Change → List ℕ
-change_text last c = time_text last c.tick ++ values_text c.driven c.on_b c.channel
+change_text last c = time_text last c.tick ++ wire_text c.driven c.error c.on_b c.channel
 
 -- changes behind a time that was told
 abbrev pub changes_text : ℕ → List Change → List ℕ
@@ -75,10 +84,16 @@ marked marks channel = slice_index_or marks channel false
 abbrev pub ArePresent : List Bool → List Change → Type 0
 ArePresent marks changes = AreMarks (λ channel. has_channel channel changes) marks
 
+-- the name of a signal, as ch1_A_word
+unfoldable pub signal_name : List ℕ → Bool → ℕ → List ℕ
+signal_name name on_b channel =
+    codes "ch" ++ (decimal channel ++ (codes "_" ++ (letter_text on_b ++ (codes "_" ++ name))))
+
 -- a signal is declared: its type, how many bits it has, and its name
 unfoldable pub declared_text : List ℕ → List ℕ → List ℕ → Bool → ℕ → List ℕ
 declared_text size letter name on_b channel = codes "$var "
-    ++ (size ++ (codes " " ++ (signal_code letter on_b channel ++ (codes " " ++ (name ++ codes " $end\n")))))
+    ++ (size ++ (codes " " ++ (signal_code letter on_b channel
+    ++ (codes " " ++ (signal_name name on_b channel ++ codes " $end\n")))))
 
 unfoldable pub opening_text : Bool → List ℕ
 opening_text on_b = codes "$scope module " ++ (letter_text on_b ++ codes " $end\n")
@@ -90,7 +105,8 @@ line_scope_text on_b channel =
     ++ (declared_text (codes "reg 16") (codes "w") (codes "word") on_b channel
     ++ (declared_text (codes "reg 2") (codes "k") (codes "kind") on_b channel
     ++ (declared_text (codes "reg 5") (codes "t") (codes "terminal") on_b channel
-    ++ (declared_text (codes "integer 64") (codes "m") (codes "message") on_b channel ++ codes "$upscope $end\n"))))
+    ++ (declared_text (codes "integer 64") (codes "m") (codes "message") on_b channel
+    ++ (declared_text (codes "reg 1") (codes "e") (codes "error") on_b channel ++ codes "$upscope $end\n")))))
 
 unfoldable pub channel_text : ℕ → List ℕ
 channel_text channel = codes "$scope module channel_" ++ (decimal channel ++ codes " $end\n")
@@ -100,9 +116,9 @@ unfoldable pub scope_text : ℕ → List ℕ
 scope_text channel = channel_text channel
     ++ (line_scope_text false channel ++ (line_scope_text true channel ++ codes "$upscope $end\n"))
 
--- a channel's lines are idle
+-- a channel's lines are idle, and without an error
 abbrev pub idle_text : ℕ → List ℕ
-idle_text channel = values_text None false channel ++ values_text None true channel
+idle_text channel = wire_text None (Some false) false channel ++ wire_text None (Some false) true channel
 
 -- the texts of those channels below one for which a test holds
 unfoldable pub channels_text : (ℕ → List ℕ) → (ℕ → Bool) → ℕ → List ℕ
@@ -119,8 +135,9 @@ first_tick (c ∷ cs) = c.tick
 
 unfoldable pub notes : List ℕ
 notes =
-    codes "$comment kind: 1 command word, 2 data word, 3 status word; z: the line is idle $end\n"
-    ++ codes "$timescale 100 ns $end\n"
+    codes "$comment kind: 1 command word, 2 data word, 3 status word; z: the line is idle; "
+    ++ (codes "error: 1 from the start to the end of a message with an error $end\n"
+    ++ codes "$timescale 100 ns $end\n")
 
 -- the end of the declarations, and the first tick
 unfoldable pub start_text : ℕ → List ℕ

@@ -3,17 +3,17 @@ ghost use Rattle.bench_export.specs.Changes as spec;
 ghost use Rattle.bench_export.specs.Moments as moments;
 ghost use Rattle.ch11_f1.specs.Views.{message_of};
 ghost use Rattle.ch11_layout.specs.Layouts.{layout_of, size_of};
-ghost use Rattle.std.specs.Prelude.{◌≡◌, ◌+◌, ◌<◌, ◌^◌, ◌++◌, ◌==◌, ◌&&◌, nat_lt, length, OnOk, IfOk};
+ghost use Rattle.std.specs.Prelude.{◌≡◌, ◌+◌, ◌<◌, ◌^◌, ◌++◌, ◌==◌, ◌&&◌, nat_lt, length, OnOk};
 
 use crate::moments::{WORD, begin_of};
 use crate::place::Place;
 use bench_select::Selection;
 use ch11_f1::{Messages, Seen};
-use ch11_layout::block::LINE_B;
+use ch11_layout::block::{LINE_B, MESSAGE_ERROR};
 use ch11_layout::{Layout, Role, is_set};
-use ch11_reader::{Index, Packet};
+use ch11_reader::Packet;
 use mil_word::Command;
-use std::alloc::{AllocError, Global};
+use std::alloc::AllocError;
 
 /// A word on a line.
 #[derive(Clone, Copy, Debug, PartialEq, Eq)]
@@ -39,6 +39,8 @@ pub struct Change {
     pub on_b: bool,
     /// The word that begins; none where the line is idle from here on.
     pub driven: Option<Driven>,
+    /// Whether a message with an error begins, or else is over; none where neither does.
+    pub error: Option<bool>,
 }
 
 /// The terminal of the word at a place.
@@ -67,14 +69,45 @@ fn driven_at(seen: &Seen<'_>, layout: &Layout, number: u64, place: usize) -> Dri
 }
 
 /// A change of the line of a message.
-fn change_of(seen: &Seen<'_>, channel: u16, tick: u128, driven: Option<Driven>) -> Change
-    ensures { result ≡ spec.change_of (message_of seen.now) channel tick driven }
+fn change_of(
+    seen: &Seen<'_>,
+    channel: u16,
+    tick: u128,
+    driven: Option<Driven>,
+    error: Option<bool>,
+) -> Change
+    ensures { result ≡ spec.change_of (message_of seen.now) channel tick driven error }
 {
     Change {
         tick,
         channel,
         on_b: is_set(seen.block, LINE_B),
         driven,
+        error,
+    }
+}
+
+/// Whether a message with an error begins with the word at a place.
+fn error_begun(seen: &Seen<'_>, place: usize) -> Option<bool>
+    ensures { result ≡ spec.error_begun (message_of seen.now) place }
+{
+    if is_set(seen.block, MESSAGE_ERROR) && place == 0 {
+        Some(true)
+    } else {
+        None
+    }
+}
+
+/// Whether a message with an error is over behind the word at a place.
+fn error_over(seen: &Seen<'_>, layout: &Layout, place: usize) -> Option<bool>
+    requires layout { layout.now ≡ layout_of (message_of seen.now) }
+    requires within { place < layout.now.words }
+    ensures { result ≡ spec.error_over (message_of seen.now) place }
+{
+    if is_set(seen.block, MESSAGE_ERROR) && place + 1 == layout.words {
+        Some(false)
+    } else {
+        None
     }
 }
 
@@ -105,11 +138,13 @@ fn push_word(
     let begin = begin_of(seen, layout, place);
     let end = begin + WORD;
     let driven = driven_at(seen, layout, message.number, place);
-    changes.push(change_of(seen, message.channel, begin, Some(driven)))?;
+    let begun = error_begun(seen, place);
+    changes.push(change_of(seen, message.channel, begin, Some(driven), begun))?;
     if goes_on(seen, layout, place, end) {
         return Ok(());
     }
-    changes.push(change_of(seen, message.channel, end, None))?;
+    let over = error_over(seen, layout, place);
+    changes.push(change_of(seen, message.channel, end, None, over))?;
     Ok(())
 }
 
@@ -167,39 +202,10 @@ pub(crate) fn push_messages(
     Ok(())
 }
 
-/// The changes of a recording's selected messages, in the file's order.
-fn changes_in(
-    alloc: Global,
-    index: &Index<'_>,
-    selection: &Selection,
-) -> Result<Vec<Change>, AllocError>
-    ensures { IfOk result (λ changes. changes.items ≡ spec.changes_in selection.now index.now) }
-{
-    let mut changes = Vec::new(alloc);
-    let packets = index.packets();
-    'packets: for place in 0..packets.len() {
-        let messages = index.messages_in(place);
-        push_messages(&mut changes, selection, &packets[place], messages)?;
-    }
-    Ok(changes)
-}
-
-/// The changes of a recording's selected messages by rising tick, those of one tick in the file's order.
-pub(crate) fn ordered_changes(
-    alloc: Global,
-    index: &Index<'_>,
-    selection: &Selection,
-) -> Result<Vec<Change>, AllocError>
-    ensures { IfOk result (λ changes. spec.AreInOrder (spec.changes_in selection.now index.now) changes.items) }
-{
-    let changes = changes_in(alloc, index, selection)?;
-    ordered(changes)
-}
-
-/// Changes by rising tick, those of one tick in their order.
-pub(crate) fn ordered(mut changes: Vec<Change>) -> Result<Vec<Change>, AllocError>
-    ensures { IfOk result (λ ordered. spec.AreInOrder changes.items ordered.items) }
+/// Puts changes by rising tick, those of one tick in their order.
+pub(crate) fn put_in_order(changes: &mut Vec<Change>) -> Result<(), AllocError>
+    ensures { OnOk result (spec.AreInOrder changes.old.items changes.new.items) }
 {
     changes.sort_by_key(|change| change.tick)?;
-    Ok(changes)
+    Ok(())
 }

@@ -10,8 +10,8 @@ use text_lines::WriteFault;
 #[derive(Clone, Copy, Debug, PartialEq, Eq)]
 pub enum ExportFromFault {
     /// The next packet could not be read: the recording is refused with its first fault, memory for a packet of
-    /// messages was refused, or the reader failed. The writer may have got rows of packets in front of it; nothing of a
-    /// value change dump.
+    /// messages was refused, or the reader failed. The writer may have got rows of packets in front of it; of a value
+    /// change dump only where the second pass met it.
     Reading(StreamFault),
 
     /// What was read could not be written: memory for it was refused, or the writer failed.

@@ -1,11 +1,11 @@
 //! What stands in front of the changes of a value change dump.
 ghost use Rattle.bench_export.specs.Heads.{part_text};
 ghost use Rattle.bench_export.specs.Waves as spec;
-ghost use Rattle.std.specs.Prelude.{◌≡◌, ◌++◌, ◌<◌, length, OnOk};
+ghost use Rattle.bench_export.specs.declared.changes.Change.{Change as Item};
+ghost use Rattle.std.specs.Prelude.{◌≡◌, ◌++◌, ◌<◌, List, length, OnOk};
 
-use crate::changes::Change;
-use crate::present::is_present;
-use crate::signals::{Wire, letter_of, put_code, put_number, put_values};
+use crate::signals::{Wire, letter_of, put_code, put_number, put_wire};
+use crate::survey::is_marked;
 use bench_select::CHANNELS;
 use std::alloc::AllocError;
 
@@ -14,10 +14,26 @@ fn put_notes(text: &mut Vec<u8>) -> Result<(), AllocError>
     ensures { OnOk result (text.new.items ≡ text.old.items ++ spec.notes) }
 {
     text.extend_from_slice(
-        b"$comment kind: 1 command word, 2 data word, 3 status word; z: the line is idle $end\n",
+        b"$comment kind: 1 command word, 2 data word, 3 status word; z: the line is idle; ",
+    )?;
+    text.extend_from_slice(
+        b"error: 1 from the start to the end of a message with an error $end\n",
     )?;
     text.extend_from_slice(b"$timescale 100 ns $end\n")?;
     Ok(())
+}
+
+/// Puts the name of a signal of a line.
+#[tactic(auto, unfolding(crate::specs::Waves::signal_name))]
+fn put_name(text: &mut Vec<u8>, name: &[u8], wire: Wire) -> Result<(), AllocError>
+    ensures { OnOk result (text.new.items ≡ text.old.items ++ spec.signal_name name.now wire.on_b wire.channel) }
+{
+    text.extend_from_slice(b"ch")?;
+    put_number(text, u128::from(wire.channel))?;
+    text.extend_from_slice(b"_")?;
+    text.extend_from_slice(letter_of(wire.on_b))?;
+    text.extend_from_slice(b"_")?;
+    text.extend_from_slice(name)
 }
 
 /// Puts the declaration of a signal of a line.
@@ -37,7 +53,7 @@ fn put_declared(
     text.extend_from_slice(b" ")?;
     put_code(text, letter, wire)?;
     text.extend_from_slice(b" ")?;
-    text.extend_from_slice(name)?;
+    put_name(text, name, wire)?;
     text.extend_from_slice(b" $end\n")
 }
 
@@ -52,7 +68,6 @@ fn put_opening(text: &mut Vec<u8>, on_b: bool) -> Result<(), AllocError>
 }
 
 /// Puts the declarations of the signals of a line.
-#[tactic(auto, unfolding(crate::specs::Waves::line_scope_text))]
 fn put_line(text: &mut Vec<u8>, wire: Wire) -> Result<(), AllocError>
     ensures { OnOk result (text.new.items ≡ text.old.items ++ spec.line_scope_text wire.on_b wire.channel) }
 {
@@ -61,7 +76,9 @@ fn put_line(text: &mut Vec<u8>, wire: Wire) -> Result<(), AllocError>
     put_declared(text, b"reg 2", b"k", b"kind", wire)?;
     put_declared(text, b"reg 5", b"t", b"terminal", wire)?;
     put_declared(text, b"integer 64", b"m", b"message", wire)?;
-    text.extend_from_slice(b"$upscope $end\n")
+    put_declared(text, b"reg 1", b"e", b"error", wire)?;
+    text.extend_from_slice(b"$upscope $end\n")?;
+    Ok(())
 }
 
 /// Puts the name of a channel, in front of its lines.
@@ -97,21 +114,23 @@ fn put_scope(text: &mut Vec<u8>, channel: u16) -> Result<(), AllocError>
     Ok(())
 }
 
-/// Puts that the lines of a channel are idle.
+/// Puts that the lines of a channel are idle, and without an error.
 fn put_idle(text: &mut Vec<u8>, channel: u16) -> Result<(), AllocError>
     ensures { OnOk result (text.new.items ≡ text.old.items ++ spec.idle_text channel) }
 {
-    put_values(
+    put_wire(
         text,
         None,
+        Some(false),
         Wire {
             on_b: false,
             channel,
         },
     )?;
-    put_values(
+    put_wire(
         text,
         None,
+        Some(false),
         Wire {
             on_b: true,
             channel,
@@ -139,27 +158,17 @@ fn put_part(text: &mut Vec<u8>, part: Part, channel: u16) -> Result<(), AllocErr
 }
 
 /// Puts this part of all channels that are marked.
-fn put_channels(text: &mut Vec<u8>, part: Part, present: &[bool]) -> Result<(), AllocError>
-    requires { length present.now ≡ CHANNELS }
+fn put_channels(text: &mut Vec<u8>, part: Part, marks: &[bool]) -> Result<(), AllocError>
+    requires { length marks.now ≡ CHANNELS }
     ensures { OnOk result (text.new.items
-        ≡ text.old.items ++ spec.channels_text (part_text part) (spec.marked present.now) 65536) }
+        ≡ text.old.items ++ spec.channels_text (part_text part) (spec.marked marks.now) 65536) }
 {
     'channels: for channel in 0..CHANNELS {
-        if is_present(present, channel) {
+        if is_marked(marks, channel) {
             put_part(text, part, channel as u16)?;
         }
     }
     Ok(())
-}
-
-/// The tick of the first change, 0 where there is none.
-pub(crate) fn first_tick(changes: &[Change]) -> u128
-    ensures { result ≡ spec.first_tick changes.now }
-{
-    match changes.split_first() {
-        Some((first, _)) => first.tick,
-        None => 0,
-    }
 }
 
 /// Puts the end of the declarations, and the first tick.
@@ -172,20 +181,16 @@ fn put_start(text: &mut Vec<u8>, tick: u128) -> Result<(), AllocError>
     Ok(())
 }
 
-/// Puts what stands in front of changes, of which the marks are those of their channels.
-pub(crate) fn put_head(
-    text: &mut Vec<u8>,
-    present: &[bool],
-    changes: &[Change],
-) -> Result<(), AllocError>
-    requires many { length present.now ≡ CHANNELS }
-    requires present { spec.ArePresent present.now changes.now }
-    ensures { OnOk result (text.new.items ≡ text.old.items ++ spec.head_text changes.now) }
+/// Puts what stands in front of changes with these marks of their channels and this first tick.
+pub(crate) fn put_head(text: &mut Vec<u8>, marks: &[bool], first: u128) -> Result<(), AllocError>
+    requires { length marks.now ≡ CHANNELS }
+    ensures { OnOk result ((given : List Item) → spec.ArePresent marks.now given → first ≡ spec.first_tick given
+        → text.new.items ≡ text.old.items ++ spec.head_text given) }
 {
     put_notes(text)?;
-    put_channels(text, Part::Scope, present)?;
-    put_start(text, first_tick(changes))?;
-    put_channels(text, Part::Idle, present)?;
+    put_channels(text, Part::Scope, marks)?;
+    put_start(text, first)?;
+    put_channels(text, Part::Idle, marks)?;
     text.extend_from_slice(b"$end\n")?;
     Ok(())
 }

@@ -115,11 +115,7 @@ fn put_signals(
 
 /// Puts what is on a line: a word, or nothing.
 #[tactic(auto, unfolding(crate::specs::Waves::values_text))]
-pub(crate) fn put_values(
-    text: &mut Vec<u8>,
-    driven: Option<Driven>,
-    wire: Wire,
-) -> Result<(), AllocError>
+fn put_values(text: &mut Vec<u8>, driven: Option<Driven>, wire: Wire) -> Result<(), AllocError>
     ensures { OnOk result (text.new.items ≡ text.old.items ++ spec.values_text driven wire.on_b wire.channel) }
 {
     match driven {
@@ -133,6 +129,36 @@ pub(crate) fn put_values(
             wire,
         ),
     }
+}
+
+/// Puts whether a message with an error is on a line, where that changes.
+pub(crate) fn put_error(
+    text: &mut Vec<u8>,
+    error: Option<bool>,
+    wire: Wire,
+) -> Result<(), AllocError>
+    ensures { OnOk result (text.new.items ≡ text.old.items ++ spec.error_text error wire.on_b wire.channel) }
+{
+    let Some(error) = error else {
+        return Ok(());
+    };
+    text.extend_from_slice(if error { b"1" } else { b"0" })?;
+    put_code(text, b"e", wire)?;
+    text.extend_from_slice(b"\n")
+}
+
+/// Puts what is on a line, and whether a message with an error is, where that changes.
+#[tactic(auto, unfolding(crate::specs::Waves::wire_text))]
+pub(crate) fn put_wire(
+    text: &mut Vec<u8>,
+    driven: Option<Driven>,
+    error: Option<bool>,
+    wire: Wire,
+) -> Result<(), AllocError>
+    ensures { OnOk result (text.new.items ≡ text.old.items ++ spec.wire_text driven error wire.on_b wire.channel) }
+{
+    put_values(text, driven, wire)?;
+    put_error(text, error, wire)
 }
 
 /// Puts a time, where it is not that of the change before.
@@ -157,5 +183,5 @@ pub(crate) fn put_change(text: &mut Vec<u8>, last: u128, change: &Change) -> Res
         channel: change.channel,
     };
     put_time(text, last, change.tick)?;
-    put_values(text, change.driven, wire)
+    put_wire(text, change.driven, change.error, wire)
 }

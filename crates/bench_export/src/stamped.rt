@@ -1,4 +1,5 @@
 //! The columns that say which message it is and when it was.
+ghost use Rattle.bench_clock.specs.Time.{time_of};
 ghost use Rattle.bench_export.specs.Stamped as spec;
 ghost use Rattle.ch11_f1.specs.Views.{message_of};
 ghost use Rattle.std.specs.Prelude.{◌≡◌, ◌++◌, ◌∷◌, [], OnOk, option_map};
@@ -9,7 +10,7 @@ use crate::row::Row;
 use crate::texts::{push_micros, push_number};
 use crate::values::push_seconds;
 use crate::whole::Table;
-use bench_clock::{Clock, UtcTime};
+use bench_clock::{Clock, TimeOfDay};
 use ch11_f1::Seen;
 use std::alloc::AllocError;
 
@@ -45,18 +46,18 @@ fn push_number_columns(
 }
 
 /// A time of day as a field, empty where there is none.
-fn push_time(row: &mut Row, time: Option<UtcTime>) -> Result<(), AllocError>
-    ensures { OnOk result (row.new ≡ row.old ++ spec.time_field (option_map (λ t. t.ticks) time) ∷ []) }
+fn push_time(row: &mut Row, time: Option<TimeOfDay>) -> Result<(), AllocError>
+    ensures { OnOk result (row.new ≡ row.old ++ spec.time_field (option_map (λ t. time_of t) time) ∷ []) }
 {
     match time {
         None => row.push(b""),
-        Some(time) => row.push(&time.text()),
+        Some(time) => row.push(time.text().as_bytes()),
     }
 }
 
 /// The time of day at a message's stamp as a field, where it is asked for.
-fn push_time_columns(row: &mut Row, timed: bool, time: Option<UtcTime>) -> Result<(), AllocError>
-    ensures { OnOk result (row.new ≡ row.old ++ spec.time_columns timed (option_map (λ t. t.ticks) time)) }
+fn push_time_columns(row: &mut Row, timed: bool, time: Option<TimeOfDay>) -> Result<(), AllocError>
+    ensures { OnOk result (row.new ≡ row.old ++ spec.time_columns timed (option_map (λ t. time_of t) time)) }
 {
     if timed { push_time(row, time) } else { Ok(()) }
 }

@@ -1,100 +1,158 @@
 //! The value change dump of a recording whose packets come from a reader.
 ghost use Rattle.bench_export.specs.Changes.{AreInOrder, changes_among, changes_in};
 ghost use Rattle.bench_export.specs.Choosing as choosing;
+ghost use Rattle.bench_export.specs.Merging.{IsLag, IsSurvey};
 ghost use Rattle.bench_export.specs.Streaming.{Exports};
-ghost use Rattle.bench_export.specs.Waves.{GetsDump, waves_text};
+ghost use Rattle.bench_export.specs.Waves.{GetsDump, changes_text};
 ghost use Rattle.bench_export.specs.declared.changes.Change.{Change as Item};
-ghost use Rattle.bench_export.specs.declared.fault.ExportFromFault.TheVariants.{Reading};
-ghost use Rattle.ch11_stream.specs.declared.fault.StreamFault.{StreamFault as Cause};
+ghost use Rattle.ch11_reader.specs.Recording.{packets_in};
+ghost use Rattle.ch11_reader.specs.declared.error.Refusal.{Refusal};
 ghost use Rattle.std.specs.Io.KnownBytes.{Appends};
-ghost use Rattle.std.specs.Prelude.{◌≡◌, ◌+◌, ◌<◌, ◌^◌, ◌||◌, ◌++◌, ℕ, List, length, Some, Err, IfOk, OnOk};
+ghost use Rattle.std.specs.Prelude.{◌≡◌, ◌+◌, ◌<◌, ◌^◌, ◌||◌, ◌++◌, [], ℕ, List, false, length, Some, Err, IfOk, OnOk};
 
-use crate::changes::{Change, ordered, push_messages};
+use crate::changes::Change;
 use crate::choosing::selects_among;
 use crate::fault::ExportFromFault;
-use crate::waves::write_waves;
-use bench_select::Selection;
+use crate::merging::Merge;
+use crate::survey::Survey;
+use crate::waves::write_head;
+use bench_select::{CHANNELS, Selection};
 use ch11_reader::Packet;
 use ch11_stream::{Advance, Packets, StreamFault};
 use std::alloc::Global;
 use std::io::Write;
 use text_lines::WriteFault;
 
-/// Writes the value change dump that `export_waves` writes of all bytes that a reader has left, and answers whether any
-/// message was selected. All changes are kept in memory, some 50 bytes each, so that nothing is written before the last
-/// packet was read. A recording that can't be read is refused with its first fault, K1 to K5, N2 or F1 to F3.
-pub fn export_waves_from<R: Advance + Drop, W: Write>(
+/// Writes the value change dump that `export_waves` writes of a recording that two readers give, one after the other,
+/// and answers whether any message was selected. Of the first it is found which channels there are, and how far changes
+/// lie before others in front of them: where it can't be read, the first fault is the answer, K1 to K5, N2 or F1 to F3,
+/// and nothing is written. The changes are those of the second, each kept until no later one of the first can be before
+/// it. Where the file changed in between, the writer may have got changes in front of a fault of the second, and they
+/// may be out of order.
+pub fn export_waves_from<R: Advance + Drop, S: Advance + Drop, W: Write>(
     alloc: Global,
-    input: R,
+    first: R,
+    second: S,
     selection: &Selection,
     out: &mut W,
 ) -> Result<bool, ExportFromFault>
-    ensures written { (file : List ℕ) → R.remaining input ≡ Some file
+    ensures written { (file : List ℕ) → R.remaining first ≡ Some file → S.remaining second ≡ Some file
         → Exports (λ ps selected. GetsDump (W.contents out.old) (W.contents out.new) selection.now ps
         × (selected ≡ choosing.selects_any selection.now ps)) result file }
-    ensures unread { (cause : Cause) → result ≡ Err (Reading cause) → out.new ≡ out.old }
+    ensures refused { (file : List ℕ) (r : Refusal) → R.remaining first ≡ Some file → packets_in file ≡ Err r
+        → out.new ≡ out.old }
 {
-    let mut changes = Vec::new(alloc);
-    let selected = gather(alloc, input, selection, &mut changes)?;
-    write_ordered(alloc, changes, out)?;
-    Ok(selected)
+    let found = survey_from(alloc, first, selection)?;
+    write_head(alloc, &found.survey, out)?;
+    let told = found.survey.first();
+    write_merged_from(alloc, second, selection, told, found.survey.lag, out)?;
+    Ok(found.selected)
 }
 
-/// Writes changes by rising tick.
-fn write_ordered<W: Write>(
-    alloc: Global,
-    changes: Vec<Change>,
-    out: &mut W,
-) -> Result<(), WriteFault>
-    ensures { OnOk result ((given : List Item) × AreInOrder changes.items given
-        × Appends (W.contents out.old) (W.contents out.new) (waves_text given)) }
-{
-    let changes = ordered(changes)?;
-    write_waves(alloc, &changes, out)
+/// What a pass finds before any change is written.
+#[derive(Drop)]
+struct Overview {
+    /// What is known of the changes.
+    survey: Survey,
+    /// Whether any message is selected.
+    selected: bool,
 }
 
-/// Adds the changes of all selected messages, in the file's order; answers whether any message was selected.
-fn gather<R: Advance + Drop>(
+/// What is known of the changes of all selected messages, and whether there are any.
+fn survey_from<R: Advance + Drop>(
     alloc: Global,
     input: R,
     selection: &Selection,
-    changes: &mut Vec<Change>,
-) -> Result<bool, ExportFromFault>
-    ensures { (file : List ℕ) → R.remaining input ≡ Some file
-        → Exports (λ ps selected. (changes.new.items ≡ changes.old.items ++ changes_in selection.now ps)
-        × (selected ≡ choosing.selects_any selection.now ps)) result file }
+) -> Result<Overview, ExportFromFault>
+    ensures many { IfOk result (λ found. length found.survey.marks.items ≡ CHANNELS) }
+    ensures found { (file : List ℕ) → R.remaining input ≡ Some file
+        → Exports (λ ps found. IsSurvey found.survey.marks.items found.survey.least found.survey.newest
+        found.survey.lag (changes_in selection.now ps)
+        × (found.selected ≡ choosing.selects_any selection.now ps)) result file }
 {
     let Ok(mut packets) = Packets::over(alloc, input) else {
         return Err(ExportFromFault::Reading(StreamFault::Memory));
     };
-    let mut selected = false;
+    let mut found = Overview::of_none(alloc)?;
+    let mut room = Vec::new(alloc);
     'packets: for _made in 0..u64::MAX {
         match packets.next() {
-            Ok(Some(packet)) => {
-                selected = push_packet(changes, selection, &packets, &packet, selected)?;
-            }
-            Ok(None) => return Ok(selected),
+            Ok(Some(packet)) => found.note_packet(&mut room, selection, &packets, &packet)?,
+            Ok(None) => return Ok(found),
             Err(fault) => return Err(ExportFromFault::Reading(fault)),
         }
     }
     Err(ExportFromFault::Reading(StreamFault::Device))
 }
 
-/// Adds the changes of the selected messages of the packet that was read last; answers whether any message was selected
-/// before or is now.
-fn push_packet<R: Advance>(
-    changes: &mut Vec<Change>,
+impl Overview {
+    /// What is found in no packet.
+    fn of_none(alloc: Global) -> Result<Overview, WriteFault>
+        ensures many { IfOk result (λ found. length found.survey.marks.items ≡ CHANNELS) }
+        ensures none { IfOk result (λ found. IsSurvey found.survey.marks.items found.survey.least
+            found.survey.newest found.survey.lag []) }
+        ensures selected { IfOk result (λ found. found.selected ≡ false) }
+    {
+        Ok(Overview {
+            survey: Survey::of_none(alloc)?,
+            selected: false,
+        })
+    }
+
+    /// Notes the packet that was read last.
+    fn note_packet<R: Advance>(
+        &mut self,
+        room: &mut Vec<Change>,
+        selection: &Selection,
+        packets: &Packets<R>,
+        packet: &Packet,
+    ) -> Result<(), WriteFault>
+        requires few { packet.now.before + length packets.now.given < 2 ^ 64 }
+        requires many { length self.old.survey.marks.items ≡ CHANNELS }
+        ensures many { OnOk result (length self.new.survey.marks.items ≡ CHANNELS) }
+        ensures noted { OnOk result ((cs : List Item)
+            → IsSurvey self.old.survey.marks.items self.old.survey.least self.old.survey.newest self.old.survey.lag cs
+            → IsSurvey self.new.survey.marks.items self.new.survey.least self.new.survey.newest self.new.survey.lag
+            (cs ++ changes_among selection.now packet.now.before packet.now.header.channel packets.now.given)) }
+        ensures selected { OnOk result (self.new.selected ≡ (self.old.selected || choosing.selects_among selection.now
+            packet.now.before packet.now.header.channel packets.now.given)) }
+    {
+        self.survey
+            .note_packet(room, selection, packet, packets.messages())?;
+        self.selected = self.selected || selects_among(selection, packet, packets.messages());
+        Ok(())
+    }
+}
+
+/// Writes the changes of all selected messages behind a time that was told, by the lag that they have.
+fn write_merged_from<R: Advance + Drop, W: Write>(
+    alloc: Global,
+    input: R,
     selection: &Selection,
-    packets: &Packets<R>,
-    packet: &Packet,
-    selected: bool,
-) -> Result<bool, WriteFault>
-    requires { packet.now.before + length packets.now.given < 2 ^ 64 }
-    ensures pushed { OnOk result (changes.new.items ≡ changes.old.items ++ changes_among selection.now
-        packet.now.before packet.now.header.channel packets.now.given) }
-    ensures selected { IfOk result (λ any. any ≡ (selected || choosing.selects_among selection.now
-        packet.now.before packet.now.header.channel packets.now.given)) }
+    told: u128,
+    lag: u128,
+    out: &mut W,
+) -> Result<(), ExportFromFault>
+    ensures { (file : List ℕ) → R.remaining input ≡ Some file
+        → Exports (λ ps done. IsLag lag (changes_in selection.now ps)
+        → ((given : List Item) × AreInOrder (changes_in selection.now ps) given
+        × Appends (W.contents out.old) (W.contents out.new) (changes_text told given))) result file }
 {
-    push_messages(changes, selection, packet, packets.messages())?;
-    Ok(selected || selects_among(selection, packet, packets.messages()))
+    let Ok(mut packets) = Packets::over(alloc, input) else {
+        return Err(ExportFromFault::Reading(StreamFault::Memory));
+    };
+    let mut merge = Merge::behind(alloc, told, lag);
+    'packets: for _made in 0..u64::MAX {
+        match packets.next() {
+            Ok(Some(packet)) => {
+                merge.take_packet(alloc, selection, &packet, packets.messages(), out)?;
+            }
+            Ok(None) => {
+                merge.write_rest(alloc, out)?;
+                return Ok(());
+            }
+            Err(fault) => return Err(ExportFromFault::Reading(fault)),
+        }
+    }
+    Err(ExportFromFault::Reading(StreamFault::Device))
 }

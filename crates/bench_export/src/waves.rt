@@ -1,22 +1,24 @@
 //! A whole recording as a value change dump (IEEE 1364-2001 section 18).
+ghost use Rattle.bench_export.specs.Merging.{least_tick};
 ghost use Rattle.bench_export.specs.Waves as spec;
+ghost use Rattle.bench_export.specs.declared.changes.Change.{Change as Item};
 ghost use Rattle.std.specs.Io.KnownBytes.{Appends};
-ghost use Rattle.std.specs.Prelude.{◌≡◌, ◌++◌, IfOk, OnOk};
+ghost use Rattle.std.specs.Prelude.{◌≡◌, ◌++◌, List, length, OnOk};
 
-use crate::changes::{Change, ordered_changes};
-use crate::heads::{first_tick, put_head};
-use crate::present::present_in;
-use crate::signals::put_change;
-use bench_select::Selection;
+use crate::heads::put_head;
+use crate::merging::write_merged;
+use crate::survey::Survey;
+use bench_select::{CHANNELS, Selection};
 use ch11_reader::Index;
-use std::alloc::{AllocError, Global};
+use std::alloc::Global;
 use std::io::Write;
 use text_lines::WriteFault;
 
 /// Writes the selected messages of a recording that was read as a value change dump, in units of 0.1 µs: for each
 /// channel and line the word on the line, what it is (1 a command, 2 data, 3 a status), its terminal, and the number of
-/// its message, counted from 1 over the file; all four are z where the line is idle. A word takes 200 units. All
-/// changes are kept in memory, some 50 bytes each.
+/// its message, counted from 1 over the file, which are z where the line is idle, and whether a message with an error
+/// is on it. A word takes 200 units. The packets are gone through twice: a change is kept, in 48 bytes and at times
+/// twice them, until no later one of the file can be before it.
 pub fn export_waves<W: Write>(
     alloc: Global,
     index: &Index<'_>,
@@ -25,45 +27,25 @@ pub fn export_waves<W: Write>(
 ) -> Result<(), WriteFault>
     ensures { OnOk result (spec.GetsDump (W.contents out.old) (W.contents out.new) selection.now index.now) }
 {
-    let changes = ordered_changes(alloc, index, selection)?;
-    write_waves(alloc, &changes, out)
+    let survey = Survey::of(alloc, index, selection)?;
+    write_head(alloc, &survey, out)?;
+    write_merged(alloc, index, selection, survey.first(), survey.lag, out)?;
+    Ok(())
 }
 
-/// Writes changes that are in order.
-pub(crate) fn write_waves<W: Write>(
+/// Writes what stands in front of the changes.
+pub(crate) fn write_head<W: Write>(
     alloc: Global,
-    changes: &[Change],
+    survey: &Survey,
     out: &mut W,
 ) -> Result<(), WriteFault>
-    ensures { OnOk result (Appends (W.contents out.old) (W.contents out.new) (spec.waves_text changes.now)) }
+    requires { length survey.now.marks.items ≡ CHANNELS }
+    ensures { OnOk result ((given : List Item) → spec.ArePresent survey.now.marks.items given
+        → least_tick survey.now.least ≡ spec.first_tick given
+        → Appends (W.contents out.old) (W.contents out.new) (spec.head_text given)) }
 {
-    let head = head_of(alloc, changes)?;
-    out.write_all(head.as_slice())?;
-    write_changes(alloc, changes, out)
-}
-
-/// What stands in front of changes.
-fn head_of(alloc: Global, changes: &[Change]) -> Result<Vec<u8>, AllocError>
-    ensures { IfOk result (λ head. head.items ≡ spec.head_text changes.now) }
-{
-    let present = present_in(alloc, changes)?;
     let mut head = Vec::new(alloc);
-    put_head(&mut head, &present, changes)?;
-    Ok(head)
-}
-
-/// Writes the changes behind the head.
-fn write_changes<W: Write>(alloc: Global, changes: &[Change], out: &mut W) -> Result<(), WriteFault>
-    ensures { OnOk result (Appends (W.contents out.old) (W.contents out.new)
-        (spec.changes_text (spec.first_tick changes.now) changes.now)) }
-{
-    let mut text = Vec::new(alloc);
-    let mut last = first_tick(changes);
-    'changes: for change in changes {
-        text.clear();
-        put_change(&mut text, last, change)?;
-        out.write_all(text.as_slice())?;
-        last = change.tick;
-    }
+    put_head(&mut head, &survey.marks, survey.first())?;
+    out.write_all(head.as_slice())?;
     Ok(())
 }

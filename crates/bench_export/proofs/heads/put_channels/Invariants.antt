@@ -4,4 +4,4 @@ use Rattle.bench_export.specs.Waves.{marked, channels_text}
 use Rattle.bench_export.proofs.heads.put_channels.Given as goal
 
 abbrev pub invariant-channels : goal.invariant-channels
-invariant-channels l = l.text.items ≡ l.fn.text.items ++ channels_text (part_text l.part) (marked l.present) l.channel
+invariant-channels l = l.text.items ≡ l.fn.text.items ++ channels_text (part_text l.part) (marked l.marks) l.channel
