@@ -1,3 +1,4 @@
 pub mod Axis
 pub mod Chosen
 pub mod Labels
+pub mod Rhythm

@@ -1,10 +1,10 @@
 //! The axis: its unit, its steps and what stands there.
 ghost use Rattle.bench_draw.specs.Axis.{IsRound, unit_of};
-ghost use Rattle.std.specs.Prelude.{◌≡◌, ◌<◌, ◌≤◌, ◌*◌};
+ghost use Rattle.std.specs.Prelude.{◌≡◌, ◌<◌, ◌≤◌, ◌*◌, ◌+◌, ◌^◌, ℕ};
 
 use crate::picture::Picture;
 use crate::scale::{LEFT, Scale};
-use bench_clock::UtcTime;
+use bench_clock::TimeOfDay;
 use bench_decode::Time;
 use std::alloc::{AllocError, Global};
 use std::str;
@@ -49,7 +49,7 @@ impl Unit {
         }
     }
 
-    fn name(self) -> &'static str {
+    pub(crate) fn name(self) -> &'static str {
         match self {
             Unit::Seconds => "s",
             Unit::Milliseconds => "ms",
@@ -77,27 +77,44 @@ pub fn step_of(span: u64) -> u64
     }
 }
 
-/// Draws the axis above the channels, a line at each step down to a place, and what the times are from, with the time
-/// of day if it is known.
+/// The first tick at or behind one that is a number of steps from tick 0.
+pub fn first_step(begin: u64, step: u64) -> u64
+    requires { 0 < step }
+    ensures whole { begin + step < 2 ^ 64 → (count : ℕ) × (result ≡ step * count) }
+    ensures behind { begin + step < 2 ^ 64 → begin ≤ result }
+    ensures next { begin + step < 2 ^ 64 → result < begin + step }
+{
+    let over = begin % step;
+    if over == 0 {
+        begin
+    } else {
+        begin.saturating_add(step - over)
+    }
+}
+
+/// Draws the axis above the channels in the time of the recording: a line at each step from its tick 0 on down to a
+/// place, and when the first message began, with the time of day if it is known.
 pub(crate) fn draw_axis(
     alloc: Global,
     picture: &mut Picture,
     scale: &Scale,
-    day: Option<UtcTime>,
+    day: Option<TimeOfDay>,
     low: u64,
 ) -> Result<(), AllocError> {
-    let unit = Unit::of(scale.span);
+    let end = scale.begin.saturating_add(scale.span);
+    let unit = Unit::of(end);
     let step = step_of(scale.span);
+    let first = first_step(scale.begin, step);
     for number in 0..=10u64 {
-        let behind = step.saturating_mul(number);
-        if behind <= scale.span {
-            let x = LEFT.saturating_add(scale.tenths(scale.begin.saturating_add(behind)) / 10);
+        let tick = first.saturating_add(step.saturating_mul(number));
+        if tick <= end {
+            let x = LEFT.saturating_add(scale.tenths(tick) / 10);
             let mut text = String::new(alloc);
             write!(
                 text,
                 "<path d=\"M{x} 82V{low}\" stroke=\"#e4e4e4\"/>\n<text x=\"{x}\" y=\"78\" class=\"t\">"
             )?;
-            put_time(&mut text, unit, step, behind)?;
+            put_time(&mut text, unit, step, tick)?;
             text.push_str("</text>\n")?;
             picture.put(text.as_str())?;
         }
@@ -105,24 +122,53 @@ pub(crate) fn draw_axis(
     draw_begin(alloc, picture, scale, unit, day)
 }
 
-/// Puts a time in a unit, with a decimal where the steps have one.
-fn put_time(text: &mut String, unit: Unit, step: u64, behind: u64) -> Result<(), AllocError> {
-    let tenths = behind / (unit.ticks() / 10).max(1);
-    let (whole, part) = (tenths / 10, tenths % 10);
+/// How many decimal places a second has at most, down to a tick.
+const DECIMALS: usize = 7;
+
+/// Puts a time in a unit, with as many decimals as the steps have.
+pub(crate) fn put_time(
+    text: &mut String,
+    unit: Unit,
+    step: u64,
+    time: u64,
+) -> Result<(), AllocError> {
+    let mut part = unit.ticks();
+    let whole = time / part.max(1);
+    let mut rest = time % part.max(1);
     write!(text, "{whole}")?;
-    if step < unit.ticks() {
-        write!(text, ".{part}")?;
+    for place in 0..DECIMALS {
+        if part <= step || part < 10 {
+            return Ok(());
+        }
+        part /= 10;
+        let digit = rest / part.max(1);
+        rest %= part.max(1);
+        if place == 0 {
+            text.push('.')?;
+        }
+        write!(text, "{digit}")?;
     }
     Ok(())
 }
 
-/// Draws the unit, and when the first message began.
+/// Puts a time of day, of which one with a date is UTC.
+fn put_day(text: &mut String, time: &TimeOfDay) -> Result<(), AllocError> {
+    let written = time.text();
+    text.push_str(", ")?;
+    text.push_str(str::from_utf8(written.as_bytes()).unwrap_or(""))?;
+    match time {
+        TimeOfDay::Utc(_) => text.push_str(" UTC"),
+        TimeOfDay::OfYear(_) => Ok(()),
+    }
+}
+
+/// Draws the unit, and when the first message that is drawn began.
 fn draw_begin(
     alloc: Global,
     picture: &mut Picture,
     scale: &Scale,
     unit: Unit,
-    day: Option<UtcTime>,
+    day: Option<TimeOfDay>,
 ) -> Result<(), AllocError> {
     let name = unit.name();
     let begin = Time::of(scale.begin);
@@ -130,12 +176,11 @@ fn draw_begin(
     let mut text = String::new(alloc);
     write!(
         text,
-        "<text x=\"90\" y=\"60\">time in {name} from the start of the first message, at {seconds}.{ticks:07} s"
+        "<text x=\"90\" y=\"60\">time in {name} from tick 0 of the recording; the first message begins at \
+         {seconds}.{ticks:07} s"
     )?;
     if let Some(time) = day {
-        text.push_str(", ")?;
-        text.push_str(str::from_utf8(&time.text()).unwrap_or(""))?;
-        text.push_str(" UTC")?;
+        put_day(&mut text, &time)?;
     }
     text.push_str("</text>\n")?;
     picture.put(text.as_str())

@@ -34,8 +34,10 @@ pub struct Drawing {
 /// Draws the selected messages of a recording as SVG: a lane for each line of each channel in rising order (the first
 /// 32 of them that the file has), each message a bar over the time that it took with its number, its address, T or R,
 /// and its subaddress; all of them where there are at most 24, and else those that have the room, and the load of each
-/// line where some have not. Over the axis stands when the first of them began, by the clock too if that says it. The
-/// picture has at most 5,000,000 bytes: what there is no room for is left out. A fault is want of memory.
+/// line where some have not, by one scale for both lines of a channel; and a line where a frame begins, where commands
+/// recur with a period. The axis has the time of the recording, from its tick 0; over it stands when the first of the
+/// messages began, by the clock too if that says it. The picture has at most 5,000,000 bytes: what there is no room for
+/// is left out. A fault is want of memory.
 pub fn draw(
     alloc: Global,
     index: &Index<'_>,

@@ -11,12 +11,14 @@ text{font-size:11px;fill:#333}
 .a{font-size:10px;fill:#fff;text-anchor:middle}
 .d{font-size:9px;fill:#123;text-anchor:middle}
 .e{font-size:9px;fill:#c22}
-.l{font-size:9px}
-.n{font-size:9px;font-weight:bold}
+.l{font-size:9px;paint-order:stroke;stroke:#fff;stroke-width:2px}
+.n{font-size:9px;font-weight:bold;paint-order:stroke;stroke:#fff;stroke-width:2px}
 .r{font-size:9px;text-anchor:end}
 .t{text-anchor:middle}
 .b{stroke:#fff;stroke-width:.5}
 .p{stroke:#aaa;stroke-width:.7;fill:none}
+.f{stroke:#8a4fbf;stroke-width:.8;stroke-dasharray:4 3;fill:none}
+.g{font-size:9px;fill:#8a4fbf}
 </style>
 ";
 
@@ -31,6 +33,8 @@ const LEGEND: &str = "<rect x=\"90\" y=\"14\" width=\"14\" height=\"12\" fill=\"
 <text x=\"649\" y=\"24\">load of the line, where messages are too close for bars</text>
 <rect x=\"90\" y=\"37\" width=\"14\" height=\"3\" fill=\"#c22\"/>
 <text x=\"109\" y=\"42\">error: NR no response or late, WC word count, SY sync, UW unsound word, E other</text>
+<path class=\"f\" d=\"M637 32V46\"/>
+<text x=\"649\" y=\"42\">begin of a frame, where commands recur; its period stands under the channel</text>
 ";
 
 /// The head of a picture that ends there, with the legend.

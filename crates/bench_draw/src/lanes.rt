@@ -3,8 +3,10 @@
 use crate::bars::draw_bar;
 use crate::canvas::Canvas;
 use crate::extent::is_bar;
+use crate::frames::draw_frames;
 use crate::labels::{Label, Labels};
 use crate::load::Load;
+use crate::rhythm::Rhythm;
 use crate::rows::{Lane, Rows};
 use crate::scale::end_of;
 use bench_decode::{Form, Place};
@@ -22,15 +24,17 @@ struct Bus {
     load: Load,
 }
 
-/// A channel on the way into the picture: its number, what lanes show, how many of its messages were passed, and its
-/// lines.
+/// A channel on the way into the picture: its number, what lanes show, where they begin and end, how many of its
+/// messages were passed, its lines, and the rhythm of its messages.
 #[derive(Drop)]
 pub(crate) struct Lanes {
     pub(crate) channel: u16,
     rows: Rows,
+    heights: (u64, u64),
     passed: u64,
     on_a: Bus,
     on_b: Bus,
+    rhythm: Rhythm,
 }
 
 impl Bus {
@@ -42,14 +46,17 @@ impl Bus {
         })
     }
 
-    /// Draws what is known of a lane once all messages were passed.
-    fn draw(&self, canvas: &mut Canvas, rows: &Rows) -> Result<(), AllocError> {
+    /// Draws the labels of a lane once all messages were passed.
+    fn draw_labels(&self, canvas: &mut Canvas, rows: &Rows) -> Result<(), AllocError> {
         let (alloc, picture) = (canvas.alloc, &mut canvas.picture);
-        self.labels.draw(alloc, picture, &self.lane, rows.all)?;
-        if rows.load {
-            self.load.draw(alloc, picture, &canvas.scale, &self.lane)?;
-        }
-        Ok(())
+        self.labels.draw(alloc, picture, &self.lane, rows.all)
+    }
+
+    /// Draws the load of a lane up to a bound in percent.
+    fn draw_load(&self, canvas: &mut Canvas, bound: u64) -> Result<(), AllocError> {
+        let (alloc, picture) = (canvas.alloc, &mut canvas.picture);
+        self.load
+            .draw(alloc, picture, &canvas.scale, &self.lane, bound)
     }
 }
 
@@ -64,17 +71,39 @@ impl Lanes {
         Ok(Lanes {
             channel,
             rows: *rows,
+            heights: rows.lanes(place),
             passed: 0,
             on_a: Bus::new(alloc, rows.lane(place, false))?,
             on_b: Bus::new(alloc, rows.lane(place, true))?,
+            rhythm: Rhythm::new(alloc),
         })
     }
 }
 
-/// Draws the labels and the load of both lines.
+/// Draws the begins of frames, the labels, and the load of both lines by one scale.
 pub(crate) fn draw_lanes(canvas: &mut Canvas, lanes: &Lanes) -> Result<(), AllocError> {
-    lanes.on_a.draw(canvas, &lanes.rows)?;
-    lanes.on_b.draw(canvas, &lanes.rows)
+    draw_rhythm(canvas, lanes)?;
+    lanes.on_a.draw_labels(canvas, &lanes.rows)?;
+    lanes.on_b.draw_labels(canvas, &lanes.rows)?;
+    let (on_a, on_b) = (&lanes.on_a.load, &lanes.on_b.load);
+    if !lanes.rows.load || (on_a.is_idle() && on_b.is_idle()) {
+        return Ok(());
+    }
+    let bound = on_a.bound(&canvas.scale).max(on_b.bound(&canvas.scale));
+    lanes.on_a.draw_load(canvas, bound)?;
+    lanes.on_b.draw_load(canvas, bound)
+}
+
+/// Draws the begins of frames, where the messages have a rhythm.
+fn draw_rhythm(canvas: &mut Canvas, lanes: &Lanes) -> Result<(), AllocError> {
+    let (alloc, scale) = (canvas.alloc, &canvas.scale);
+    match lanes.rhythm.frames(alloc, scale)? {
+        Some(frames) => {
+            let (top, low) = lanes.heights;
+            draw_frames(alloc, &mut canvas.picture, scale, top, low, &frames)
+        }
+        None => Ok(()),
+    }
 }
 
 /// Draws the selected ones of a packet's messages as bars, or adds them to the load of their lane.
@@ -110,12 +139,13 @@ fn draw_message(
     seen: &Seen<'_>,
 ) -> Result<(), AllocError> {
     let rows = lanes.rows;
+    let end = end_of(seen);
+    lanes.rhythm.add(canvas.alloc, seen, end)?;
     let bus = if is_set(seen.block, LINE_B) {
         &mut lanes.on_b
     } else {
         &mut lanes.on_a
     };
-    let end = end_of(seen);
     if rows.load {
         bus.load.add(&canvas.scale, seen.stamp, end);
     }

@@ -14,14 +14,16 @@ mod drawn;
 mod extent;
 mod fault;
 mod frame;
+mod frames;
 mod labels;
 mod lanes;
 mod load;
 mod picture;
+mod rhythm;
 mod rows;
 mod scale;
 
-pub use axis::{Unit, step_of};
+pub use axis::{Unit, first_step, step_of};
 pub use drawing::{Drawing, draw, draw_from};
 pub use fault::DrawFault;
 pub use picture::MOST_BYTES;

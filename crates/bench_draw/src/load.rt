@@ -49,8 +49,13 @@ impl Load {
         u64::try_from(share).unwrap_or(1000).min(1000)
     }
 
-    /// The load up to which it is drawn, in percent: a round one that none is above.
-    fn bound(&self, scale: &Scale) -> u64 {
+    /// Whether nothing was on the line.
+    pub(crate) fn is_idle(&self) -> bool {
+        self.busy.iter().all(|busy| *busy == 0)
+    }
+
+    /// The load up to which it may be drawn, in percent: a round one that none is above.
+    pub(crate) fn bound(&self, scale: &Scale) -> u64 {
         let mut greatest = 0u64;
         for part in 0..PARTS {
             greatest = greatest.max(self.share(scale, part));
@@ -63,18 +68,15 @@ impl Load {
         100
     }
 
-    /// Draws the load as a curve with its scale, and a mark where there are errors.
+    /// Draws the load as a curve with its scale up to a bound in percent, and a mark where there are errors.
     pub(crate) fn draw(
         &self,
         alloc: Global,
         picture: &mut Picture,
         scale: &Scale,
         lane: &Lane,
+        bound: u64,
     ) -> Result<(), AllocError> {
-        if self.busy.iter().all(|busy| *busy == 0) {
-            return Ok(());
-        }
-        let bound = self.bound(scale);
         draw_bound(alloc, picture, lane, bound)?;
         self.draw_curve(alloc, picture, scale, lane, bound)?;
         for (pixel, number) in self.errors.iter().enumerate() {

@@ -58,6 +58,14 @@ impl Rows {
         TOP.saturating_add(channels.saturating_mul(self.channel_high()))
     }
 
+    /// Where the lanes of the channel at a place begin and end.
+    pub(crate) fn lanes(&self, place: u64) -> (u64, u64) {
+        (
+            self.end(place),
+            self.end(place.saturating_add(1)).saturating_sub(BETWEEN),
+        )
+    }
+
     /// The lane of line A or B of the channel at a place.
     pub(crate) fn lane(&self, place: u64, line_b: bool) -> Lane {
         let beside = if line_b { self.lane_high() } else { 0 };

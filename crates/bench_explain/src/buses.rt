@@ -31,8 +31,8 @@ pub(crate) static EXPLANATIONS: [Explanation; 7] = [
     Explanation {
         code: "device",
         means: "a file or a stream failed; - is standard input or output",
-        remedy: "See that the file is there and may be read, or that its folder is there and may be written; on a \
-            terminal the next line has the system's own words.",
+        remedy: "See that the file is there and may be read, or that its folder is there and may be written; the \
+            line behind the fault has the system's own words, if any.",
         example: "bench: device missing.ch11",
     },
     Explanation {

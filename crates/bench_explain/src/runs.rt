@@ -25,7 +25,7 @@ pub(crate) static EXPLANATIONS: [Explanation; 23] = [
     Explanation {
         code: "U4",
         means: "the out file failed once it had taken so many bytes",
-        remedy: "See that the disk has room; the file has the beginning of the recording.",
+        remedy: "See that the disk has room; what was there before the run is kept, and FILE.part has what was taken.",
         example: "bench: U4 taken 100",
     },
     Explanation {

@@ -107,13 +107,15 @@ pub(crate) static EXPLANATIONS: [Explanation; 33] = [
     Explanation {
         code: "A1",
         means: "the script needs more than 4096 operations",
-        remedy: "Use repeat where frames stand again and again.",
+        remedy: "Use repeat N { .. } where frames stand again and again, or define NAME { .. } and call NAME.",
         example: "4097 frames one behind the other",
     },
     Explanation {
         code: "A2",
         means: "the script has more than 1024 messages",
-        remedy: "Use repeat, or share the script out over several jobs.",
+        remedy: "A message counts once for each place where it is written, however often it is sent: put messages that \
+            recur into repeat N { .. }, or into define NAME { .. } with call NAME where they are sent; else share the \
+            script out over several jobs.",
         example: "1025 send frames",
     },
     Explanation {

@@ -1,4 +1,4 @@
-//! What is wrong with a text, as the readers of scripts and jobs tell it.
+//! What is wrong with a text, as the readers of scripts, jobs and rules tell it.
 
 /// What is wrong with a script.
 #[derive(Clone, Copy, Debug, PartialEq, Eq)]
@@ -61,4 +61,15 @@ pub enum LineFault {
     FaultCount,
     /// J6 L2: a place or a value of a planned fault.
     FaultRange,
+}
+
+/// What is wrong with a line of rules.
+#[derive(Clone, Copy, Debug, PartialEq, Eq)]
+pub enum RuleFault {
+    /// I1: a word that may not stand there, is missing or is left over; or no rule.
+    Word,
+    /// I2: what is no number, or no four hexadecimal digits.
+    Number,
+    /// I3: a number out of its range, a least one above the greatest, too many data words or rules.
+    Range,
 }

@@ -14,7 +14,7 @@ pub fn job_script_reason(
     fault: ScriptFault,
     place: Place,
 ) -> Result<Option<Reason>, AllocError> {
-    reason_behind(alloc, text, script_of(text), Text::Script, fault, place)
+    reason_behind(alloc, text, script_of(text), Text::Job, fault, place)
 }
 
 /// What stands behind the line `script`.

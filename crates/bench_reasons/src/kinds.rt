@@ -1,4 +1,4 @@
-//! The kinds of words that stand in scripts and jobs: which words are of a kind, and how that is said.
+//! The kinds of words that stand in scripts, jobs and rules: which words are of a kind, and how that is said.
 ghost use Rattle.std.specs.Prelude.{◌≤◌};
 
 use numerals::spelled;
@@ -60,6 +60,22 @@ pub enum Kind {
     Switch,
     /// The direction of a command.
     Direction,
+    /// The address of a terminal in a selector, or `*`.
+    AnyAddress,
+    /// A subaddress in a selector, or `*`.
+    AnySubaddress,
+    /// A mode code in a selector, or `*`.
+    AnyModeCode,
+    /// A status word, or a mask.
+    StatusWord,
+    /// A data word, perhaps with a mask, or `....`.
+    Datum,
+    /// The least or the greatest gap in front of a reply, in ticks.
+    ReplyTicks,
+    /// The least or the greatest time from one message to the next, in microseconds.
+    Microseconds,
+    /// The least or the greatest number of messages.
+    MessageCount,
 }
 
 /// What is wrong with a word.
@@ -84,7 +100,8 @@ fn number_slip(word: &[u8], digits: usize, least: u64, greatest: u64) -> Option<
     }
 }
 
-fn word_slip(word: &[u8], words: &[&str]) -> Option<Slip> {
+/// That a word is none of these, where it is none.
+pub(crate) fn word_slip(word: &[u8], words: &[&str]) -> Option<Slip> {
     for one in words {
         if one.as_bytes() == word {
             return None;
@@ -104,6 +121,29 @@ fn hexadecimal_slip(word: &[u8], digits: usize, not_zero: bool) -> Option<Slip>
     }
 }
 
+/// The same where `*` stands for any number.
+fn choice_slip(word: &[u8], least: u64, greatest: u64) -> Option<Slip> {
+    if word == b"*".as_slice() {
+        return None;
+    }
+    number_slip(word, 7, least, greatest)
+}
+
+/// Whether a word is `....`, four hexadecimal digits, or these with a slash and the four of a mask.
+fn datum_slip(word: &[u8]) -> Option<Slip> {
+    if word == b"....".as_slice() {
+        return None;
+    }
+    let (value, behind) = word.split_at(word.len().min(4));
+    match behind.split_first() {
+        None => hexadecimal_slip(value, 4, false),
+        Some((b'/', mask)) => hexadecimal_slip(value, 4, false).or(hexadecimal_slip(
+            mask, 4, false,
+        )),
+        Some(_) => Some(Slip::Form),
+    }
+}
+
 impl Kind {
     /// What is wrong with a word in the place of one of this kind. Names are not judged.
     pub fn slip(self, word: &[u8]) -> Option<Slip> {
@@ -112,7 +152,12 @@ impl Kind {
             Kind::Sync => word_slip(word, &["c", "d"]),
             Kind::Switch => word_slip(word, &["on", "off"]),
             Kind::Direction => word_slip(word, &["receive", "transmit"]),
-            Kind::DataWord => hexadecimal_slip(word, 4, false),
+            Kind::DataWord | Kind::StatusWord => hexadecimal_slip(word, 4, false),
+            Kind::Datum => datum_slip(word),
+            Kind::AnyAddress | Kind::AnySubaddress | Kind::AnyModeCode => {
+                let (least, greatest) = self.range();
+                choice_slip(word, least, greatest)
+            }
             Kind::HalfBits => hexadecimal_slip(word, 10, true),
             Kind::StartTick => number_slip(word, 15, 0, 140_737_488_355_328),
             Kind::StatusBit | Kind::NewName | Kind::Name => None,
@@ -126,10 +171,10 @@ impl Kind {
     /// The range of a number of up to seven digits.
     fn range(self) -> (u64, u64) {
         match self {
-            Kind::Address => (0, 30),
-            Kind::Subaddress => (1, 30),
+            Kind::Address | Kind::AnyAddress => (0, 30),
+            Kind::Subaddress | Kind::AnySubaddress => (1, 30),
             Kind::Count => (1, 32),
-            Kind::ModeCode => (0, 31),
+            Kind::ModeCode | Kind::AnyModeCode => (0, 31),
             Kind::Turns => (1, 10_000),
             Kind::Retries => (1, 8),
             Kind::Gap => (40, 65_535),
@@ -142,6 +187,7 @@ impl Kind {
             Kind::LateTicks => (121, 255),
             Kind::ResponseTicks => (40, 120),
             Kind::TransmitSubaddress => (1, 29),
+            Kind::ReplyTicks => (0, 255),
             _ => (0, 9_999_999),
         }
     }
@@ -188,6 +234,25 @@ impl Kind {
             Kind::TransmitSubaddress => "a host puts words up for subaddresses 1 to 29",
             Kind::Switch => "on or off stands here",
             Kind::Direction => "receive or transmit stands here",
+            _ => self.allowed_in_rules(),
+        }
+    }
+
+    /// Which words are of a kind that stands in rules alone.
+    fn allowed_in_rules(self) -> &'static str {
+        match self {
+            Kind::AnyAddress =>
+                "terminal addresses are 0 to 30, or * for any; brx, brt and bmode are those to all",
+            Kind::AnySubaddress =>
+                "subaddresses are 1 to 30, or * for any; mode commands are those of mode and bmode",
+            Kind::AnyModeCode => "mode codes are 0 to 31, or * for any",
+            Kind::StatusWord =>
+                "a status word or a mask has exactly four hexadecimal digits, as 2C00",
+            Kind::Datum =>
+                "a data word has four hexadecimal digits, as 00FF, perhaps with a mask, as 0F00/FF00, or is ....",
+            Kind::ReplyTicks => "gaps in front of replies are 0 to 255 ticks of 0.1 us",
+            Kind::Microseconds => "a period is 0 to 9999999 us",
+            Kind::MessageCount => "messages are counted from 0 to 9999999",
             _ => "another word stands here",
         }
     }

@@ -11,17 +11,17 @@ use crate::walk::{Walk, text_of};
 use std::alloc::{AllocError, Global};
 use text_lines::next_word;
 
-/// What is wrong with a word of a line: the column of its first byte, counted from 1, and how many it has.
+/// What is wrong with a word of a line, and the column of its first byte, counted from 1.
 #[derive(Clone, Copy)]
-struct Found<'a> {
-    word: &'a [u8],
-    column: u64,
-    why: &'static str,
-    remedy: &'static str,
+pub(crate) struct Found<'a> {
+    pub(crate) word: &'a [u8],
+    pub(crate) column: u64,
+    pub(crate) why: &'static str,
+    pub(crate) remedy: &'static str,
 }
 
 /// The column, counted from 1, at which so many bytes of a line are left.
-fn column_at(line: &[u8], left: usize) -> u64 {
+pub(crate) fn column_at(line: &[u8], left: usize) -> u64 {
     (line.len().saturating_sub(left) as u64).saturating_add(1)
 }
 
@@ -42,10 +42,15 @@ fn why_of(slip: Slip) -> &'static str {
     }
 }
 
-/// The first word of a line with a slip; where words are looked for, also the first that is left over, or the place
-/// of the first that is missing.
-fn find(alloc: Global, line: &[u8], slip: Slip) -> Result<Option<Found<'_>>, AllocError> {
-    let mut walk = Walk::begin(alloc, &[Symbol::Entry])?;
+/// The first word of a line with a slip, where the line is one of a job or of rules, as a symbol says; where words are
+/// looked for, also the first that is left over, or the place of the first that is missing.
+pub(crate) fn find(
+    alloc: Global,
+    line: &[u8],
+    symbol: Symbol,
+    slip: Slip,
+) -> Result<Option<Found<'_>>, AllocError> {
+    let mut walk = Walk::begin(alloc, &[symbol])?;
     let mut rest = line;
     for _ in 0..line.len() {
         let Some((word, behind)) = next_word(rest) else {
@@ -121,7 +126,7 @@ fn hidden(found: Found<'_>) -> Found<'_> {
 }
 
 /// The reason of what was found in a line.
-fn reason_of(number: u64, found: Option<Found<'_>>) -> Option<Reason> {
+pub(crate) fn reason_of(number: u64, found: Option<Found<'_>>) -> Option<Reason> {
     let found = hidden(found?);
     let place = Place {
         line: number,
@@ -137,7 +142,10 @@ fn slip_reason(
     number: u64,
     slip: Slip,
 ) -> Result<Option<Reason>, AllocError> {
-    Ok(reason_of(number, find(alloc, line_of(text, number), slip)?))
+    Ok(reason_of(
+        number,
+        find(alloc, line_of(text, number), Symbol::Entry, slip)?,
+    ))
 }
 
 /// Why a line is refused for a number that is none or out of its range, or for numbers that do not go together.

@@ -14,6 +14,8 @@ use std::alloc::{AllocError, Global};
 pub enum Text {
     /// A script.
     Script,
+    /// The script of a job.
+    Job,
     /// A line and a message, without their `send`.
     Send,
 }
@@ -46,7 +48,10 @@ pub(crate) fn reason_behind(
     let Some((symbol, open)) = wanted(alloc, script, kind, left)? else {
         return Ok(None);
     };
-    let (why, remedy) = words_for(fault, text_of(token), symbol);
+    let (why, remedy) = match of_a_job(fault, kind, text_of(token), symbol) {
+        Some(said) => said,
+        None => words_for(fault, text_of(token), symbol),
+    };
     let mut reason = Reason::at(place, token.len(), why, remedy);
     if fault == ScriptFault::End {
         if let Some(left) = open {
@@ -65,7 +70,7 @@ fn wanted(
     left: usize,
 ) -> Result<Option<(Option<Symbol>, Option<usize>)>, AllocError> {
     let walk = match kind {
-        Text::Script => walk_to(alloc, script, &[Symbol::Script], left)?,
+        Text::Script | Text::Job => walk_to(alloc, script, &[Symbol::Script], left)?,
         Text::Send => walk_to(
             alloc,
             script,
@@ -87,6 +92,38 @@ fn unclosed(text: &[u8], left: usize) -> Other {
         width: 1,
         why: "this is not closed",
     }
+}
+
+/// What is wrong with a line of a job that stands where a frame of a script is to stand, and what to do; none where the
+/// token begins no such line.
+fn of_a_job(
+    fault: ScriptFault,
+    kind: Text,
+    token: &str,
+    symbol: Option<Symbol>,
+) -> Option<(&'static str, &'static str)> {
+    if fault != ScriptFault::Token || !begins_a_line(token) {
+        return None;
+    }
+    match (symbol?, kind) {
+        (Symbol::Script | Symbol::Frames | Symbol::Block, Text::Job) => Some((
+            "this line of a job stands behind the line script",
+            "write it in front of the line script, where a job names its terminals, actions and faults",
+        )),
+        (Symbol::Script | Symbol::Frames | Symbol::Block, _) => Some((
+            "this is a line of a job, and not of a script",
+            "a script has frames alone; bench check and bench run take jobs",
+        )),
+        _ => None,
+    }
+}
+
+/// Whether a word begins a line of a job in front of its script.
+fn begins_a_line(word: &str) -> bool {
+    matches!(
+        word,
+        "channel" | "start" | "terminal" | "at" | "fault" | "faults" | "series"
+    )
 }
 
 /// What is wrong with a token, and what may stand in its place.

@@ -1,4 +1,5 @@
-//! What may stand next in a script, in a line of a job or in the text of a message, as symbols of one grammar.
+//! What may stand next in a script, in a line of a job or of rules, or in the text of a message, as symbols of one
+//! grammar.
 
 use crate::kinds::Kind;
 use crate::kinds::Kind::{
@@ -6,6 +7,7 @@ use crate::kinds::Kind::{
     MessageNumber, ModeCode, Name, NewName, Period, ReplyRun, ResponseTicks, Retries, Run,
     StartTick, StatusBit, Step, Subaddress, Switch, Sync, TransmitSubaddress, Turns,
 };
+use crate::rule_symbols::{allowed_in_rules, behind_in_rules};
 use Symbol::{
     Action, Block, Condition, Else, Message, One, OptionalWords, PlannedFault, Rest, Token, Words,
 };
@@ -41,6 +43,18 @@ pub enum Symbol {
     PlannedFault,
     /// An action of a host.
     Action,
+    /// A line of rules.
+    Rule,
+    /// The channel of a rule, or nothing.
+    RuleChannel,
+    /// The line of the bus of a rule, or nothing.
+    RuleLine,
+    /// Which messages a rule is about.
+    Selector,
+    /// What a rule asks of them.
+    Check,
+    /// The mask of a status word, or nothing.
+    Mask,
 }
 
 /// What follows the first word of a frame; none where no frame begins so.
@@ -169,6 +183,12 @@ impl Symbol {
             Symbol::Entry => behind_entry_word(token),
             Symbol::PlannedFault => behind_fault_word(token),
             Symbol::Action => behind_action_word(token),
+            Symbol::Rule
+            | Symbol::RuleChannel
+            | Symbol::RuleLine
+            | Symbol::Selector
+            | Symbol::Check
+            | Symbol::Mask => behind_in_rules(self, token),
         }
     }
 
@@ -187,7 +207,15 @@ impl Symbol {
 
     /// Whether nothing may stand in its place.
     pub fn may_be_missing(self) -> bool {
-        matches!(self, Symbol::Else | Symbol::OptionalWords | Symbol::Rest(_))
+        matches!(
+            self,
+            Symbol::Else
+                | Symbol::OptionalWords
+                | Symbol::Rest(_)
+                | Symbol::RuleChannel
+                | Symbol::RuleLine
+                | Symbol::Mask
+        )
     }
 
     /// Which tokens may stand in its place.
@@ -216,6 +244,7 @@ impl Symbol {
                 "an action is transmit, busy, service, subsystem, fault, control, vector, selftest, \
                  illegal, legal, response, deaf or mute"
             }
+            _ => allowed_in_rules(self),
         }
     }
 }

@@ -1,0 +1,70 @@
+//! What may stand next in a line of rules.
+
+use crate::kinds::Kind::{
+    AnyAddress, AnyModeCode, AnySubaddress, Channel, Datum, Line, MessageCount, Microseconds,
+    ReplyTicks, StatusWord,
+};
+use crate::symbols::Symbol;
+use crate::symbols::Symbol::{Check, Mask, One, Rest, RuleChannel, RuleLine, Selector};
+
+/// What follows the first word of a selector; none where no selector begins so.
+fn behind_selector_word(word: &str) -> Option<&'static [Symbol]> {
+    match word {
+        "any" => Some(&[]),
+        "rx" | "tx" => Some(&[One(AnyAddress), One(AnySubaddress)]),
+        "rt" => Some(&[
+            One(AnyAddress),
+            One(AnySubaddress),
+            One(AnyAddress),
+            One(AnySubaddress),
+        ]),
+        "mode" => Some(&[One(AnyAddress), One(AnyModeCode)]),
+        "brx" => Some(&[One(AnySubaddress)]),
+        "brt" => Some(&[One(AnyAddress), One(AnySubaddress), One(AnySubaddress)]),
+        "bmode" => Some(&[One(AnyModeCode)]),
+        _ => None,
+    }
+}
+
+/// What follows the name of a check; none where it is no name of one.
+pub fn behind_check_word(word: &str) -> Option<&'static [Symbol]> {
+    match word {
+        "ok" | "fail" | "clean" => Some(&[]),
+        "status" => Some(&[One(StatusWord), Mask]),
+        "data" => Some(&[Rest(Datum)]),
+        // the least and the greatest
+        "response" => Some(&[One(ReplyTicks), One(ReplyTicks)]),
+        "period" => Some(&[One(Microseconds), One(Microseconds)]),
+        "count" => Some(&[One(MessageCount), One(MessageCount)]),
+        _ => None,
+    }
+}
+
+/// What has to stand behind a word in the place of a symbol of rules; none where the word does not begin it.
+pub fn behind_in_rules(symbol: Symbol, word: &str) -> Option<&'static [Symbol]> {
+    match symbol {
+        Symbol::Rule if word == "expect" => Some(&[RuleChannel, RuleLine, Selector, Check]),
+        Symbol::RuleChannel if word == "channel" => Some(&[One(Channel)]),
+        Symbol::RuleLine if word == "line" => Some(&[One(Line)]),
+        Symbol::Selector => behind_selector_word(word),
+        Symbol::Check => behind_check_word(word),
+        Symbol::Mask if word == "mask" => Some(&[One(StatusWord)]),
+        _ => None,
+    }
+}
+
+/// Which words may stand in the place of a symbol of rules.
+pub fn allowed_in_rules(symbol: Symbol) -> &'static str {
+    match symbol {
+        Symbol::Rule => "a rule is expect [channel N] [line A|B] SELECTOR CHECK",
+        Symbol::Selector => {
+            "a selector is any, rx A S, tx A S, rt A S A S, mode A C, brx S, brt A S S or bmode C; channel N and \
+             line A or B stand in front of it, in this order"
+        }
+        Symbol::Check => {
+            "a check is ok, fail, clean, status WORD [mask WORD], data WORD .., response LOW HIGH, period LOW HIGH or \
+             count LOW HIGH"
+        }
+        _ => "another word stands here",
+    }
+}

@@ -1,0 +1,124 @@
+//! Why a line of rules is refused.
+
+use crate::fault::RuleFault;
+use crate::kinds::{Slip, word_slip};
+use crate::lines::{Found, column_at, find, reason_of};
+use crate::places::{Place, line_of};
+use crate::reason::Reason;
+use crate::rule_symbols::behind_check_word;
+use crate::symbols::Symbol;
+use crate::walk::text_of;
+use numerals::spelled;
+use std::alloc::{AllocError, Global};
+use text_lines::next_word;
+
+/// How many data words a check may have.
+const MOST_WORDS: usize = 32;
+
+/// Why a line of rules, counted from 1, is refused; none where that is no fault of it.
+pub fn rule_reason(
+    alloc: Global,
+    text: &[u8],
+    number: u64,
+    fault: RuleFault,
+) -> Result<Option<Reason>, AllocError> {
+    let line = line_of(text, number);
+    let found = match fault {
+        RuleFault::Word => word_at_fault(alloc, line)?,
+        RuleFault::Number => find(alloc, line, Symbol::Rule, Slip::Form)?,
+        RuleFault::Range => find(alloc, line, Symbol::Rule, Slip::Range)?
+            .or(turned(line))
+            .or(too_many(line)),
+    };
+    if found.is_none() && fault == RuleFault::Range {
+        return Ok(Some(one_rule_more(number, line)));
+    }
+    Ok(reason_of(number, found))
+}
+
+/// The word of a line that may not stand there, is left over, or is missing. Where a selector has a number less than it
+/// takes, so that the name of the check stands in the place of the number and the check is missing, it is the name.
+fn word_at_fault(alloc: Global, line: &[u8]) -> Result<Option<Found<'_>>, AllocError> {
+    if next_word(line).is_none() {
+        return Ok(Some(Found {
+            word: b"".as_slice(),
+            column: 1,
+            why: "no rule stands above the end of the text",
+            remedy: "write a rule a line, as expect any ok",
+        }));
+    }
+    let found = find(alloc, line, Symbol::Rule, Slip::Word)?;
+    let Some(missing) = found else {
+        return Ok(None);
+    };
+    if !missing.word.is_empty() {
+        return Ok(found);
+    }
+    match find(alloc, line, Symbol::Rule, Slip::Form)? {
+        Some(name) if behind_check_word(text_of(name.word)).is_some() => Ok(Some(Found {
+            word: name.word,
+            column: name.column,
+            why: "a check begins here, and the selector in front of it has a number less than it takes",
+            remedy: name.remedy,
+        })),
+        _ => Ok(found),
+    }
+}
+
+/// What is left of a line behind the first of its words that is one of these.
+fn behind_one_of<'a>(line: &'a [u8], names: &[&str]) -> Option<&'a [u8]> {
+    let mut rest = line;
+    for _ in 0..line.len() {
+        let (word, behind) = next_word(rest)?;
+        if word_slip(word, names).is_none() {
+            return Some(behind);
+        }
+        rest = behind;
+    }
+    None
+}
+
+/// The greatest number of a check, where it is below the least.
+fn turned(line: &[u8]) -> Option<Found<'_>> {
+    let behind = behind_one_of(line, &["response", "period", "count"])?;
+    let (low, behind) = next_word(behind)?;
+    let (high, rest) = next_word(behind)?;
+    if spelled(10, 1, 7, low)? <= spelled(10, 1, 7, high)? {
+        return None;
+    }
+    Some(Found {
+        word: high,
+        column: column_at(line, high.len().saturating_add(rest.len())),
+        why: "the greatest number is below the least",
+        remedy: "write the least, and the greatest behind it, as in count 1 20",
+    })
+}
+
+/// The thirty-third data word of a check.
+fn too_many(line: &[u8]) -> Option<Found<'_>> {
+    let mut rest = behind_one_of(line, &["data"])?;
+    for _ in 0..MOST_WORDS {
+        let (_, behind) = next_word(rest)?;
+        rest = behind;
+    }
+    let (word, behind) = next_word(rest)?;
+    Some(Found {
+        word,
+        column: column_at(line, word.len().saturating_add(behind.len())),
+        why: "this is the thirty-third data word",
+        remedy: "a message has 1 to 32 data words",
+    })
+}
+
+/// The first rule of a text that has too many.
+fn one_rule_more(number: u64, line: &[u8]) -> Reason {
+    Reason::at(
+        Place {
+            line: number,
+            column: 1,
+        },
+        line.len(),
+        "this is the ten-thousand-and-first rule",
+        "share the rules out over several texts",
+    )
+}
