@@ -1,14 +1,14 @@
 //! `bench check`: jobs tried without a recording.
 
-use crate::options::{command_of, flag, jobs, words_in};
-use crate::streams::{on_stream, printed};
-use bench_check::{Bits, print_findings, tight_frames_in, try_job};
+use crate::judged_run::ErrorStream;
+use crate::options::{Row, command_of, flag, jobs, words_in};
+use crate::streams::{flushed, listing, on_stream, printed};
+use bench_check::{Bits, Way, check_job, mistakes_in, print_mistakes};
 use bench_core::{DEFAULT_LIMIT, DEFAULT_QUEUE, DEFAULT_VERSION, Settings, judge};
-use bench_requests::{Fault, jobs_of, read_texts};
+use bench_requests::{Fault, RunRequest, jobs_of, read_texts};
 use clap::{ArgMatches, Command};
 use job_file::Job;
 use std::alloc::{AllocError, Global};
-use std::io;
 use std::io::{BufWriter, Write};
 use std::rt::Files;
 use text_lines::WriteFault;
@@ -24,24 +24,36 @@ asked as often as it may; and how much room the queue of `bench run --drop` need
 
 With --summary the messages are only counted, and what is probably a mistake goes further: a terminal that transmits
 from a subaddress where no words were put up, and messages that are answered with message_error and not sent again.
+With --strict it goes as far, and the status is 5 where anything is probably a mistake.
 
 Example:
   bench check avionics.job
+  bench check --strict avionics.job
   bench check --summary avionics.job stores.job";
 
 /// The command line of `bench check`.
 pub(crate) fn check_command<'a>(alloc: Global) -> Result<Command<'a>, AllocError> {
     let about = "Tries jobs without a recording, and says what is probably a mistake";
     let summary = "Says only what is probably a mistake, and how many messages there are";
+    let strict = "Ends with status 5 where anything is probably a mistake";
     let rows = [
         flag("summary", summary),
         flag(
             "decode",
             "Shows the bits of each status word by their names too",
         ),
+        flag("strict", strict),
         jobs(),
     ];
     command_of(alloc, "check", about, CHECK_NOTES, &[&rows])
+}
+
+/// The option of a run that is as strict.
+pub(crate) fn strict_run_option<'a>() -> Row<'a> {
+    flag(
+        "strict",
+        "Says on standard error what is probably a mistake in the jobs; status 5 where anything is",
+    )
 }
 
 /// Which jobs are to be tried, and how this is told.
@@ -49,10 +61,8 @@ pub(crate) fn check_command<'a>(alloc: Global) -> Result<Command<'a>, AllocError
 pub struct CheckRequest<'a> {
     /// The files of the jobs.
     pub jobs: Vec<&'a str>,
-    /// Whether only mistakes and counts are told.
-    pub summary: bool,
-    /// How status words are shown.
-    pub bits: Bits,
+    /// How they are tried, and what is told of them.
+    pub way: Way,
 }
 
 /// What `bench check` is asked for.
@@ -62,11 +72,14 @@ pub(crate) fn check_request<'a>(
 ) -> Result<CheckRequest<'a>, AllocError> {
     Ok(CheckRequest {
         jobs: words_in(alloc, given, "JOB")?,
-        summary: given.get_flag("summary"),
-        bits: if given.get_flag("decode") {
-            Bits::Names
-        } else {
-            Bits::Digits
+        way: Way {
+            summary: given.get_flag("summary"),
+            strict: given.get_flag("strict"),
+            bits: if given.get_flag("decode") {
+                Bits::Names
+            } else {
+                Bits::Digits
+            },
         },
     })
 }
@@ -99,38 +112,57 @@ fn judge_jobs<'a>(alloc: Global, jobs: &[Job]) -> Result<(), Fault<'a>> {
     }
 }
 
-/// Tries jobs that were judged, and prints what is to be said of them.
+/// Tries jobs that were judged, and prints what is to be said of them. Where that is asked for, it is a fault that
+/// anything is probably a mistake.
 fn print_checks<'a, R: AllocGlobal + Print>(
     rt: &R,
     request: &CheckRequest<'a>,
     texts: &[Vec<u8>],
     jobs: &[Job],
 ) -> Result<(), Fault<'a>> {
-    let mut out = on_stream("-", BufWriter::new(rt.alloc(), io::writer(rt)))?;
-    let answer = check_each(rt.alloc(), request, texts, jobs, &mut out);
-    printed(answer, &mut out)
+    let mut out = on_stream("-", BufWriter::new(rt.alloc(), listing(rt)))?;
+    match check_each(rt.alloc(), request, texts, jobs, &mut out) {
+        Ok(is_suspicious) => {
+            printed(Ok(()), &mut out)?;
+            strict_verdict(request.way.strict && is_suspicious)
+        }
+        Err(fault) => printed(Err(fault), &mut out),
+    }
 }
 
-/// Tries each job, and prints the room that all of them need together where there are several.
+/// The fault of jobs in which something is probably a mistake, where that is to be one.
+pub(crate) fn strict_verdict<'a>(is_suspicious: bool) -> Result<(), Fault<'a>> {
+    if is_suspicious {
+        Err(Fault::Suspicious)
+    } else {
+        Ok(())
+    }
+}
+
+/// Tries each job, and prints the room that all of them need together where there are several. Whether anything is
+/// probably a mistake is answered.
 fn check_each<W: Write>(
     alloc: Global,
     request: &CheckRequest<'_>,
     texts: &[Vec<u8>],
     jobs: &[Job],
     out: &mut W,
-) -> Result<(), WriteFault> {
+) -> Result<bool, WriteFault> {
     let several = jobs.len() > 1;
     let mut room = 0u64;
+    let mut is_suspicious = false;
     for ((name, text), job) in request.jobs.iter().zip(texts).zip(jobs) {
         if several {
             print_name(out, name)?;
         }
-        room = room.saturating_add(check_one(alloc, request, text, job, out)?);
+        let checked = check_job(alloc, job, text, request.way, out)?;
+        room = room.saturating_add(checked.room);
+        is_suspicious = is_suspicious || checked.is_suspicious;
     }
     if several {
         print_room(out, room)?;
     }
-    Ok(())
+    Ok(is_suspicious)
 }
 
 fn print_name<W: Write>(out: &mut W, name: &str) -> Result<(), WriteFault> {
@@ -146,20 +178,45 @@ fn print_room<W: Write>(out: &mut W, room: u64) -> Result<(), WriteFault> {
     Ok(())
 }
 
-/// Tries the job of a text, and answers how much room it needs.
-fn check_one<W: Write>(
+/// Says on the error stream what is probably a mistake in the jobs of a run, those of each under a line with the name
+/// of its file where there are several; nothing of a job that has none, and nothing where that is not asked for.
+/// Whether anything was said is answered.
+pub(crate) fn tell_mistakes<'a, E: Eprint>(
     alloc: Global,
-    request: &CheckRequest<'_>,
-    text: &[u8],
-    job: &Job,
-    out: &mut W,
-) -> Result<u64, WriteFault> {
-    let tight = tight_frames_in(alloc, text)?;
-    let findings = if request.summary {
-        try_job(alloc, job, request.bits, &mut io::sink())?
-    } else {
-        try_job(alloc, job, request.bits, out)?
-    };
-    print_findings(alloc, job, &findings, &tight, request.summary, out)?;
-    Ok(findings.room)
+    errors: &E,
+    request: &RunRequest<'a>,
+    texts: &[Vec<u8>],
+    jobs: &[Job],
+) -> Result<bool, Fault<'a>> {
+    if !request.strict {
+        return Ok(false);
+    }
+    match mistakes_told(alloc, errors, request, texts, jobs) {
+        Ok(is_suspicious) => Ok(is_suspicious),
+        Err(WriteFault::Memory) => Err(Fault::Memory),
+        Err(WriteFault::Device) => Err(Fault::Device("-")),
+    }
+}
+
+fn mistakes_told<E: Eprint>(
+    alloc: Global,
+    errors: &E,
+    request: &RunRequest<'_>,
+    texts: &[Vec<u8>],
+    jobs: &[Job],
+) -> Result<bool, WriteFault> {
+    let mut out = BufWriter::new(alloc, ErrorStream { errors })?;
+    let mut is_suspicious = false;
+    for ((name, text), job) in request.jobs.iter().zip(texts).zip(jobs) {
+        let mistakes = mistakes_in(alloc, job, text)?;
+        if !mistakes.is_empty() {
+            is_suspicious = true;
+            if jobs.len() > 1 {
+                print_name(&mut out, name)?;
+            }
+            print_mistakes(alloc, &mistakes, &mut out)?;
+        }
+    }
+    flushed(&mut out)?;
+    Ok(is_suspicious)
 }

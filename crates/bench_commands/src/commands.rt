@@ -11,7 +11,8 @@ use crate::given_words::{word_at_fault, words_of};
 use crate::hosts::{Errors, Host};
 use crate::judging::judge_recording;
 use crate::large::{dump_large, fault_of_dump};
-use crate::looking::tell_of_loss;
+use crate::left::tell_of_part;
+use crate::looking::{tell_of_loss, tell_of_unread_in};
 use crate::pointing::point;
 use crate::recording::run_jobs;
 use crate::replacing::may_write;
@@ -22,7 +23,7 @@ use bench_assemble::{AssembleFault, Sizes, assemble_text, print_sizes};
 use bench_dump::{dump, dump_with_times};
 use bench_files::{Hold, Kind, leads_to_output};
 use bench_one::{OneFault, one, print_bytes};
-use bench_requests::{Fault, is_large, read_whole, write_new};
+use bench_requests::{Fault, Listing, is_large, read_whole, unless_gone, write_new};
 use clap::Error;
 use clap::error::ErrorKind;
 use std::io;
@@ -67,10 +68,12 @@ where
         Ok(asked) => match obey(rt, errors, &asked) {
             Ok(()) => ExitCode::SUCCESS,
             Err(fault @ Fault::NotHeld) => ExitCode::from(fault.status()),
+            Err(fault @ Fault::Suspicious) => ExitCode::from(fault.status()),
             Err(fault) if fault.status() == USAGE => misused(rt, errors, &fault),
             Err(fault) => {
                 let status = stop(errors, &fault);
                 point(rt, errors, &asked, &fault);
+                tell_of_part(rt, errors, &asked, &fault);
                 status
             }
         },
@@ -89,6 +92,7 @@ fn explain<R: Print, E: Eprint>(rt: &R, errors: &E, error: &Error) -> ExitCode {
     }
     match print!(rt; "{error}") {
         Ok(()) => ExitCode::SUCCESS,
+        Err(fault) if fault.kind() == io::ErrorKind::BrokenPipe => ExitCode::SUCCESS,
         Err(fault) => stop(errors, &Fault::of_stream("-", &fault)),
     }
 }
@@ -134,7 +138,12 @@ where
         } => show(rt, errors, recording, *skip, *times),
         Request::Decode(request) => show_messages(rt, errors, request),
         Request::Step(request) => {
-            step_through(rt, errors, request, asked.context.is_shown(errors))
+            step_through(
+                rt,
+                errors,
+                request,
+                asked.context.is_shown_behind_replies(errors),
+            )
         }
         Request::Stat(request) => show_statistics(rt, errors, request),
         Request::Export(request) => export_recording(rt, errors, request),
@@ -215,16 +224,20 @@ fn show<'a, R: Files + AllocGlobal + Print + Clock, E: Eprint + IsTerminal>(
         return dump_large(rt, errors, recording, skip, times);
     }
     let bytes = read_whole(rt, recording)?;
+    let mut out = Listing::ending(io::writer(rt));
     let printed = if times {
-        dump_with_times(rt.alloc(), bytes.as_slice(), &mut io::writer(rt), skip)
+        dump_with_times(rt.alloc(), bytes.as_slice(), &mut out, skip)
     } else {
-        dump(rt.alloc(), bytes.as_slice(), &mut io::writer(rt), skip)
+        dump(rt.alloc(), bytes.as_slice(), &mut out, skip)
     };
     match printed {
         Ok(()) => {
+            if times {
+                tell_of_unread_in(rt, errors, recording, bytes.as_slice(), skip);
+            }
             tell_of_loss(rt, errors, bytes.as_slice());
             Ok(())
         }
-        Err(fault) => Err(fault_of_dump(recording, fault, false)),
+        Err(fault) => unless_gone(out.is_gone(), Err(fault_of_dump(recording, fault, false))),
     }
 }

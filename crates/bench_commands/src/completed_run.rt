@@ -1,6 +1,8 @@
 //! `bench run --complete`: jobs recorded, and the complete file made of their recording at once.
 
-use crate::completing::{fault_of, start_of, time, time_channel, time_channel_in, write_out};
+use crate::completing::{
+    fault_of, second_time, start_of, time, time_channel, time_channel_in, write_out,
+};
 use crate::hosts::{Errors, Host};
 use crate::live_run::{Run, record};
 use crate::options::{Row, file, flag};
@@ -25,10 +27,12 @@ pub struct Completing<'a> {
     pub time: Option<&'a str>,
     /// The channel of the time packets.
     pub time_channel: u16,
+    /// Whether time packets are added to a recording that has some already.
+    pub second_time: bool,
 }
 
 /// The options of `bench run` that have its recording completed.
-pub(crate) fn completing_options<'a>() -> [Row<'a>; 4] {
+pub(crate) fn completing_options<'a>() -> [Row<'a>; 5] {
     let complete = "Writes the complete file of the recording, as `bench complete` makes it";
     let setup =
         "With --complete: the text of the setup record (TMATS) to put in front, 1 to 524000 bytes";
@@ -37,6 +41,7 @@ pub(crate) fn completing_options<'a>() -> [Row<'a>; 4] {
         file("setup", setup).only_with("complete"),
         time().only_with("complete"),
         time_channel().only_with("complete"),
+        second_time(),
     ]
 }
 
@@ -49,6 +54,7 @@ pub(crate) fn completing_in<'a>(given: &ArgMatches<'a>) -> Option<Completing<'a>
         setup: given.get_str("setup"),
         time: given.get_str("time"),
         time_channel: time_channel_in(given),
+        second_time: given.get_flag("second-time"),
     })
 }
 
@@ -85,6 +91,7 @@ pub(crate) fn additions_in<'a, 'b>(
         setup: asked.setup.map(|_| setup),
         start,
         time_channel: asked.time_channel,
+        second_time: asked.second_time,
         version,
     };
     match Completion::plan(alloc, &[], &additions) {
@@ -148,6 +155,7 @@ fn with_text<'b>(additions: &Additions<'_>, text: &'b [u8]) -> Additions<'b> {
         setup: additions.setup.map(|_| text),
         start: additions.start,
         time_channel: additions.time_channel,
+        second_time: additions.second_time,
         version: additions.version,
     }
 }

@@ -26,6 +26,8 @@ pub struct CompleteRequest<'a> {
     pub time: Option<&'a str>,
     /// The channel of the time packets.
     pub time_channel: u16,
+    /// Whether time packets are added to a recording that has some already.
+    pub second_time: bool,
     /// The data type version of the setup record and of the time packets.
     pub version: u8,
     /// Whether whatever is sound of a damaged recording is completed.
@@ -39,9 +41,10 @@ const DEFAULT_TIME_CHANNEL: u16 = 65535;
 
 /// What the help of `bench complete` ends with.
 const COMPLETE_NOTES: &str = "\
-The packets of the recording go over byte for byte, each channel's in their order; of all channels the packet with the
-lowest counter goes first. An index of the recording (type 03) is left out. A recording with a fault is refused, unless
---skip is given: then what is sound goes over, and what was skipped is listed on the standard error.
+The packets of the recording go over byte for byte, each channel's in their order. Setup records (type 01) that lead
+the recording stay in front; behind them, of all channels, the packet with the lowest counter goes first. An index of
+the recording (type 03) is left out. A recording with a fault is refused, unless --skip is given: then what is sound
+goes over, and what was skipped is listed on the standard error.
 
 Example:
   bench complete flight.ch11 --out flight.ch10 --setup flight.tmats --time 2024-12-31T23:59:58";
@@ -56,6 +59,7 @@ pub(crate) fn complete_command<'a>(alloc: Global) -> Result<Command<'a>, AllocEr
         file("setup", setup),
         time(),
         time_channel(),
+        second_time(),
         version().or("6"),
         force(),
         flag("skip", "Completes what is sound in a damaged recording"),
@@ -79,6 +83,15 @@ pub(crate) fn time_channel<'a>() -> Row<'a> {
     channel("time-channel", help).or("65535")
 }
 
+/// The option that adds time packets to those that are there.
+pub(crate) fn second_time<'a>() -> Row<'a> {
+    flag(
+        "second-time",
+        "Adds time packets to a recording that has some already",
+    )
+    .only_with("time")
+}
+
 /// The channel of the time packets that was given, or else the default.
 pub(crate) fn time_channel_in(given: &ArgMatches<'_>) -> u16 {
     given
@@ -94,6 +107,7 @@ pub(crate) fn complete_request<'a>(given: &ArgMatches<'a>) -> CompleteRequest<'a
         setup: given.get_str("setup"),
         time: given.get_str("time"),
         time_channel: time_channel_in(given),
+        second_time: given.get_flag("second-time"),
         version: given.get_one::<u8>("version").unwrap_or(DEFAULT_VERSION),
         skip: given.get_flag("skip"),
         force: given.get_flag("force"),
@@ -119,6 +133,7 @@ pub fn complete_recording<'a, R: Files<File: Hold> + AllocGlobal, E: Eprint>(
         setup: request.setup.map(|_| text.as_slice()),
         start,
         time_channel: request.time_channel,
+        second_time: request.second_time,
         version: request.version,
     };
     complete_read(rt, errors, request, recording.as_slice(), &additions)
@@ -227,6 +242,9 @@ pub(crate) fn fault_of<'a>(fault: CompleteFault, name: &'a str) -> Fault<'a> {
         CompleteFault::SetupSize => Fault::Usage("the text of --setup has 1 to 524000 bytes"),
         CompleteFault::SetupTwice => Fault::Usage(
             "--setup for a recording that has computer generated data of type 01",
+        ),
+        CompleteFault::TimeTwice => Fault::Usage(
+            "--time for a recording that has time packets, without --second-time",
         ),
         CompleteFault::ChannelTaken => Fault::Usage("--time-channel has packets in the recording"),
         CompleteFault::TooLong => Fault::Usage("--time would make more than 1000000 time packets"),

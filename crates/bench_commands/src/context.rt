@@ -1,23 +1,31 @@
-//! When the lines that explain a fault stand behind it.
+//! When the lines that explain a fault, or a reply that refuses a line, stand behind it.
 
 use clap::{Arg, ArgMatches};
 use std::alloc::Global;
 use std::io::IsTerminal;
 
-/// When the lines that explain a fault stand behind it.
+/// When the lines that explain a fault, or a reply that refuses a line, stand behind it.
 #[derive(Clone, Copy, Debug, PartialEq, Eq)]
 pub enum Context {
-    /// Where the faults go to a terminal.
+    /// Behind a fault wherever it goes, as to the log of a build; behind a reply where it goes to a terminal.
     Auto,
-    /// Wherever they go, as for the log of a build.
+    /// Behind both wherever they go.
     Always,
-    /// Nowhere: the fault's line stands alone.
+    /// Nowhere: the line of the fault, or of the reply, stands alone.
     Never,
 }
 
 impl Context {
-    /// Whether they stand behind faults that go there.
-    pub(crate) fn is_shown<E: IsTerminal>(self, errors: &E) -> bool {
+    /// Whether they stand behind faults.
+    pub(crate) fn is_shown(self) -> bool {
+        match self {
+            Context::Auto | Context::Always => true,
+            Context::Never => false,
+        }
+    }
+
+    /// Whether they stand behind replies, and go there.
+    pub(crate) fn is_shown_behind_replies<E: IsTerminal>(self, errors: &E) -> bool {
         match self {
             Context::Auto => errors.is_terminal(),
             Context::Always => true,
@@ -34,7 +42,9 @@ pub(crate) fn context_option<'a>(alloc: Global) -> Arg<'a> {
         .value_parser(["auto", "always", "never"].as_slice())
         .default_value("auto")
         .global(true)
-        .help("Explains a fault in lines behind it: auto (on a terminal), always or never")
+        .help(
+            "Explains a fault in lines behind it: auto or always, or never; always explains replies of step too",
+        )
 }
 
 /// What the option says.

@@ -6,10 +6,10 @@ use crate::looking::tell_of_loss;
 use crate::selecting::{GivenSelection, given_selection, selection_in};
 use crate::watching::{Watch, open_watched, prints_to_terminal};
 use bench_decode::{Output, Shown, decode, decode_from};
-use bench_requests::{Fault, is_large, read_whole};
+use bench_requests::{Fault, Listing, is_large, read_whole, unless_gone};
 use bench_select::Selection;
 use clap::ArgMatches;
-use std::io::{self, IsTerminal};
+use std::io::{self, IsTerminal, Printer, Write};
 use std::rt::{Clock, Env, Files};
 
 /// What is to be shown of a recording.
@@ -56,14 +56,27 @@ pub(crate) fn show_messages<
         return show_large(rt, errors, request.recording, &output);
     }
     let bytes = read_whole(rt, request.recording)?;
-    let printed = decode(rt.alloc(), bytes.as_slice(), &mut io::writer(rt), &output);
-    match printed {
+    let mut out = listing_of(rt, &output);
+    match decode(rt.alloc(), bytes.as_slice(), &mut out, &output) {
         Ok(count) => {
             some_selected(count, &output)?;
             tell_of_loss(rt, errors, bytes.as_slice());
             Ok(())
         }
-        Err(fault) => Err(fault_of_dump(request.recording, fault, false)),
+        Err(fault) => unless_gone(
+            out.is_gone(),
+            Err(fault_of_dump(request.recording, fault, false)),
+        ),
+    }
+}
+
+/// Where messages are printed. What was printed tells that there is a message among those that are asked for, so that
+/// the rest decides nothing where its reader has gone; but where skips are printed among them the rest may decide.
+fn listing_of<'r, R: Print>(rt: &'r R, output: &Output) -> Listing<Printer<'r, R>> {
+    if output.skip && output.selection != Selection::all() {
+        Listing::going_on(io::writer(rt))
+    } else {
+        Listing::ending(io::writer(rt))
     }
 }
 
@@ -102,24 +115,31 @@ fn show_large<'a, R: Files + AllocGlobal + Print + Clock, E: Eprint + IsTerminal
     output: &Output,
 ) -> Result<(), Fault<'a>> {
     let watch = Watch::begin(rt, errors, name);
-    let printed = print_watched(rt, name, &watch, output);
+    let mut out = listing_of(rt, output);
+    let printed = print_watched(rt, name, &watch, output, &mut out);
     watch.end();
-    some_selected(printed?, output)?;
-    tell_of_large_loss(rt, errors, name);
-    Ok(())
+    match printed {
+        Ok(count) => {
+            some_selected(count, output)?;
+            tell_of_large_loss(rt, errors, name);
+            Ok(())
+        }
+        Err(fault) => unless_gone(out.is_gone(), Err(fault)),
+    }
 }
 
 /// Prints messages of a recording that is watched, once it is checked, and answers how many.
-fn print_watched<'a, R: Files + AllocGlobal + Print + Clock, E: Eprint + IsTerminal>(
+fn print_watched<'a, R: Files + AllocGlobal + Clock, E: Eprint + IsTerminal, W: Write>(
     rt: &R,
     name: &'a str,
     watch: &Watch<'_, R, E>,
     output: &Output,
+    out: &mut W,
 ) -> Result<u64, Fault<'a>> {
     if !output.skip {
         check_large(rt, name, watch)?;
     }
     let input = open_watched(rt, name, watch, !prints_to_terminal(rt))?;
-    let printed = decode_from(rt.alloc(), input, &mut io::writer(rt), output);
+    let printed = decode_from(rt.alloc(), input, out, output);
     answer_of_watched(name, watch, printed)
 }

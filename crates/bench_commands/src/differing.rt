@@ -3,7 +3,7 @@
 use crate::command_line::StepRequest;
 use bench_difference::difference;
 use bench_report::read_report;
-use bench_requests::{jobs_of, read_texts, read_whole};
+use bench_requests::{jobs_of, read_again, texts_again};
 use ch11_reader::Index;
 use std::alloc::AllocError;
 use std::rt::Files;
@@ -16,9 +16,9 @@ pub(crate) fn difference_of<R: Files + AllocGlobal>(
     number: u32,
 ) -> Result<Option<String>, AllocError> {
     let (Ok(recording), Ok(report), Ok(texts)) = (
-        read_whole(rt, step.recording),
-        read_whole(rt, step.report),
-        read_texts(rt, &step.jobs),
+        read_again(rt, step.recording),
+        read_again(rt, step.report),
+        texts_again(rt, &step.jobs),
     ) else {
         return Ok(None);
     };

@@ -2,7 +2,7 @@
 
 use crate::extracting::Extract;
 use crate::large::{Large, clock_of_large, fault_of_reading};
-use crate::looking::{clock_if, index_of};
+use crate::looking::{clock_if, index_of, tell_of_unread};
 use crate::watching::Watch;
 use bench_draw::{DrawFault, Drawing, draw, draw_from};
 use bench_files::{Hold, Kind};
@@ -20,11 +20,12 @@ pub fn draw_picture<'a, R: Files<File: Hold> + AllocGlobal + Clock, E: Eprint + 
     request: &Extract<'a>,
 ) -> Result<(), Fault<'a>> {
     let selection = request.judge(rt, Kind::Picture)?;
-    let drawing = if is_large(rt, request.recording) {
+    let drawn = if is_large(rt, request.recording) {
         draw_large(rt, errors, request.recording, &selection)?
     } else {
         draw_whole(rt, request.recording, &selection)?
     };
+    let drawing = &drawn.drawing;
     if drawing.messages == 0 && !request.selection.is_empty() {
         return Err(Fault::NoneSelected);
     }
@@ -34,7 +35,17 @@ pub fn draw_picture<'a, R: Files<File: Hold> + AllocGlobal + Clock, E: Eprint + 
         Kind::Picture,
         request.force,
         drawing.text.as_slice(),
-    )
+    )?;
+    tell_of_unread(errors, request.recording, drawn.unread);
+    Ok(())
+}
+
+/// A picture of a recording.
+#[derive(Drop)]
+struct Drawn {
+    drawing: Drawing,
+    /// Whether the recording has time packets of which none can be read.
+    unread: bool,
 }
 
 /// Draws a recording that is read whole.
@@ -42,12 +53,15 @@ fn draw_whole<'a, R: Files + AllocGlobal>(
     rt: &R,
     name: &'a str,
     selection: &Selection,
-) -> Result<Drawing, Fault<'a>> {
+) -> Result<Drawn, Fault<'a>> {
     let bytes = read_whole(rt, name)?;
     let index = index_of(rt.alloc(), bytes.as_slice(), false)?;
-    let clock = clock_if(rt.alloc(), bytes.as_slice(), &index, true)?;
-    match draw(rt.alloc(), &index, selection, &clock) {
-        Ok(drawing) => Ok(drawing),
+    let read = clock_if(rt.alloc(), bytes.as_slice(), &index, true)?;
+    match draw(rt.alloc(), &index, selection, &read.clock) {
+        Ok(drawing) => Ok(Drawn {
+            drawing,
+            unread: read.unread,
+        }),
         Err(fault) => Err(fault_of_drawing(name, fault)),
     }
 }
@@ -58,7 +72,7 @@ fn draw_large<'a, R: Files + AllocGlobal + Clock, E: Eprint + IsTerminal>(
     errors: &E,
     name: &'a str,
     selection: &Selection,
-) -> Result<Drawing, Fault<'a>> {
+) -> Result<Drawn, Fault<'a>> {
     let watch = Watch::begin(rt, errors, name);
     let drawn = draw_watched(rt, name, &watch, selection);
     watch.end();
@@ -71,8 +85,8 @@ fn draw_watched<'a, R: Files + AllocGlobal + Clock, E: Eprint + IsTerminal>(
     name: &'a str,
     watch: &Watch<'_, R, E>,
     selection: &Selection,
-) -> Result<Drawing, Fault<'a>> {
-    let clock = clock_of_large(rt, name, watch, false, true)?;
+) -> Result<Drawn, Fault<'a>> {
+    let read = clock_of_large(rt, name, watch, false, true)?;
     let large = Large {
         rt,
         name,
@@ -80,8 +94,11 @@ fn draw_watched<'a, R: Files + AllocGlobal + Clock, E: Eprint + IsTerminal>(
         skip: false,
         prints: false,
     };
-    match draw_from(rt.alloc(), &large, selection, &clock) {
-        Ok(drawing) => Ok(drawing),
+    match draw_from(rt.alloc(), &large, selection, &read.clock) {
+        Ok(drawing) => Ok(Drawn {
+            drawing,
+            unread: read.unread,
+        }),
         Err(fault) => Err(fault_of_drawing(name, fault)),
     }
 }

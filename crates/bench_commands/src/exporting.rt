@@ -2,7 +2,7 @@
 
 use crate::extracting::{Extract, extract_options};
 use crate::large::{clock_of_large, fault_of_reading};
-use crate::looking::{clock_if, index_of};
+use crate::looking::{clock_if, index_of, tell_of_unread};
 use crate::options::{Row, choice, command_of, flag};
 use crate::replacing::{begin_to_write, put_or_give_up};
 use crate::selecting::selection_options;
@@ -83,7 +83,8 @@ With --time a column `time` behind that of the stamp has the time of day (UTC) a
 last time packet at or before it; it is empty where the recording has none there.
 
 With --vcd the file is a value change dump (IEEE 1364), as GTKWave shows it: for each channel and line the word on the
-line, its kind (1 command, 2 data, 3 status), its terminal and the number of its message.
+line, its kind (1 command, 2 data, 3 status), its terminal and the number of its message, and whether it is of a message
+with an error. The signals of line A of channel 1 are named ch1_A_word, ch1_A_kind and so on.
 
 --channel, --line, --only, --errors, --from and --to choose messages, numbered as in the file.
 
@@ -151,7 +152,7 @@ fn columns_in(given: &ArgMatches<'_>) -> Columns {
 /// Writes the messages of a recording, or those that were selected, for other programs. The out file takes the place of
 /// what is there once it is whole; it may not be the recording itself. Where a selection has no message, nothing is
 /// written. A recording of more than 64 MiB is read packet by packet, and once more first where times of day are asked
-/// for.
+/// for, or a value change dump.
 pub fn export_recording<'a, R: Files<File: Hold> + AllocGlobal + Clock, E: Eprint + IsTerminal>(
     rt: &R,
     errors: &E,
@@ -163,25 +164,30 @@ pub fn export_recording<'a, R: Files<File: Hold> + AllocGlobal + Clock, E: Eprin
         let watch = Watch::begin(rt, errors, recording);
         let written = write_watched(rt, request, &watch, &selection);
         watch.end();
-        return written;
+        tell_of_unread(errors, recording, written?);
+        return Ok(());
     }
     let bytes = read_whole(rt, recording)?;
-    export_whole(rt, request, bytes.as_slice(), &selection)
+    let unread = export_whole(rt, request, bytes.as_slice(), &selection)?;
+    tell_of_unread(errors, recording, unread);
+    Ok(())
 }
 
-/// Writes the messages of a recording that was read whole.
+/// Writes the messages of a recording that was read whole; answers whether times of day are asked for and it has time
+/// packets of which none can be read.
 fn export_whole<'a, R: Files<File: Hold> + AllocGlobal>(
     rt: &R,
     request: &ExportRequest<'a>,
     bytes: &[u8],
     selection: &Selection,
-) -> Result<(), Fault<'a>> {
+) -> Result<bool, Fault<'a>> {
     let index = index_of(rt.alloc(), bytes, false)?;
     if !request.extract.selection.is_empty() && !selects_any(&index, selection) {
         return Err(Fault::NoneSelected);
     }
-    let clock = clock_if(rt.alloc(), bytes, &index, request.exported.is_timed())?;
-    write_whole(rt, request, &index, &clock, selection)
+    let read = clock_if(rt.alloc(), bytes, &index, request.exported.is_timed())?;
+    write_whole(rt, request, &index, &read.clock, selection)?;
+    Ok(read.unread)
 }
 
 /// Writes the messages of a recording that was read whole to the out file.
@@ -206,47 +212,80 @@ fn is_replaced<R: Files>(rt: &R, name: &str) -> bool {
     }
 }
 
-/// Writes the messages of a recording that is watched to the out file.
+/// Writes the messages of a recording that is watched to the out file; answers as `export_whole` does.
 fn write_watched<'a, R: Files<File: Hold> + AllocGlobal + Clock, E: Eprint + IsTerminal>(
     rt: &R,
     request: &ExportRequest<'a>,
     watch: &Watch<'_, R, E>,
     selection: &Selection,
-) -> Result<(), Fault<'a>> {
-    let (recording, exported) = (request.extract.recording, request.exported);
-    let input = open_watched(rt, recording, watch, true)?;
-    let clock = clock_of_large(rt, recording, watch, false, exported.is_timed())?;
-    let (file, writer) = request.begin(rt)?;
-    let written = write_large(rt.alloc(), input, selection, exported, &clock, writer);
-    put_or_give_up(
-        rt,
-        request.extract.out,
-        file,
-        some_written(request, written),
-    )
-}
-
-/// Writes what is asked for of what a reader has left; answers whether any message was selected.
-fn write_large<F: Advance + Drop, W: Write + Drop>(
-    alloc: Global,
-    input: F,
-    selection: &Selection,
-    exported: Exported,
-    clock: &RecordingClock,
-    writer: W,
-) -> Result<bool, ExportFromFault> {
-    match exported {
+) -> Result<bool, Fault<'a>> {
+    match request.exported {
         Exported::Rows { columns, timed } => {
             let table = Table {
                 columns,
                 timed,
                 selection: *selection,
             };
-            let exported = export_from(alloc, input, &table, clock, writer)?;
-            Ok(exported.selected)
+            write_rows_watched(rt, request, watch, &table)
         }
-        Exported::Waves => write_dump_from(alloc, input, selection, writer),
+        Exported::Waves => write_dump_watched(rt, request, watch, selection),
     }
+}
+
+/// Writes the rows of a recording that is watched to the out file; answers whether times of day are asked for and it
+/// has time packets of which none can be read.
+fn write_rows_watched<'a, R: Files<File: Hold> + AllocGlobal + Clock, E: Eprint + IsTerminal>(
+    rt: &R,
+    request: &ExportRequest<'a>,
+    watch: &Watch<'_, R, E>,
+    table: &Table,
+) -> Result<bool, Fault<'a>> {
+    let recording = request.extract.recording;
+    let input = open_watched(rt, recording, watch, true)?;
+    let read = clock_of_large(rt, recording, watch, false, table.timed)?;
+    let (file, writer) = request.begin(rt)?;
+    let written = write_rows_from(rt.alloc(), input, table, &read.clock, writer);
+    put_or_give_up(
+        rt,
+        request.extract.out,
+        file,
+        some_written(request, written),
+    )?;
+    Ok(read.unread)
+}
+
+/// Writes the value change dump of a recording that is watched, and opened twice, to the out file, which has no times
+/// of day.
+fn write_dump_watched<'a, R: Files<File: Hold> + AllocGlobal + Clock, E: Eprint + IsTerminal>(
+    rt: &R,
+    request: &ExportRequest<'a>,
+    watch: &Watch<'_, R, E>,
+    selection: &Selection,
+) -> Result<bool, Fault<'a>> {
+    let recording = request.extract.recording;
+    let first = open_watched(rt, recording, watch, true)?;
+    let second = open_watched(rt, recording, watch, true)?;
+    let (file, writer) = request.begin(rt)?;
+    let written = write_dump_from(rt.alloc(), first, second, selection, writer);
+    put_or_give_up(
+        rt,
+        request.extract.out,
+        file,
+        some_written(request, written),
+    )?;
+    Ok(false)
+}
+
+/// Writes rows of what a reader has left; answers whether any message was selected.
+fn write_rows_from<F: Advance + Drop, W: Write + Drop>(
+    alloc: Global,
+    input: F,
+    table: &Table,
+    clock: &RecordingClock,
+    writer: W,
+) -> Result<bool, ExportFromFault> {
+    let exported = export_from(alloc, input, table, clock, writer)?;
+    Ok(exported.selected)
 }
 
 /// The fault of an export that did not end well, and of a selection that has no message.
@@ -265,17 +304,18 @@ fn some_written<'a>(
     }
 }
 
-/// Writes a value change dump of what a reader has left; answers whether any message was selected.
+/// Writes a value change dump of a recording that two readers give; answers whether any message was selected.
 fn write_dump_from<F: Advance + Drop, W: Write + Drop>(
     alloc: Global,
-    input: F,
+    first: F,
+    second: F,
     selection: &Selection,
     writer: W,
 ) -> Result<bool, ExportFromFault> {
     let Ok(mut out) = BufWriter::new(alloc, writer) else {
         return Err(ExportFromFault::Writing(WriteFault::Memory));
     };
-    let selected = export_waves_from(alloc, input, selection, &mut out)?;
+    let selected = export_waves_from(alloc, first, second, selection, &mut out)?;
     flushed(&mut out)?;
     Ok(selected)
 }

@@ -67,8 +67,8 @@ pub(crate) fn rules_of_run<'a, R: Files + AllocGlobal>(
 
 /// The error stream, to which text is written; it is no fault where that fails, as everywhere.
 #[derive(Drop)]
-struct ErrorStream<'a, E> {
-    errors: &'a E,
+pub(crate) struct ErrorStream<'a, E> {
+    pub(crate) errors: &'a E,
 }
 
 impl<E: Eprint> Write for ErrorStream<'_, E> {

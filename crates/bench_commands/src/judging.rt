@@ -6,6 +6,7 @@ use crate::large::{Large, check_large, fault_of_reading};
 use crate::looking::index_of;
 use crate::options::{argument, command_of, file, flag, force, optional};
 use crate::replacing::may_write;
+use crate::streams::listing;
 use crate::watching::{Watch, prints_to_terminal};
 use bench_files::{Hold, Kind};
 use bench_judge::{PassFault, PrintFault, RuleVerdict, not_held};
@@ -13,7 +14,7 @@ use bench_requests::{Fault, is_large, open_to_read, read_whole, rules_of, write_
 use clap::{ArgMatches, Command};
 use std::alloc::{AllocError, Global};
 use std::env;
-use std::io::{self, BufWriter, IsTerminal};
+use std::io::{BufWriter, IsTerminal};
 use std::rt::{Env, Files};
 
 /// The rule by which a recording is judged where there is no file of rules.
@@ -201,7 +202,7 @@ fn print_judged<R: System, E: Eprint + IsTerminal>(
     judged: &Judged<'_, R, E>,
     spelled: Spelled<'_>,
 ) -> Result<Vec<RuleVerdict>, PassFault> {
-    let mut out = BufWriter::new(rt.alloc(), io::writer(rt))?;
+    let mut out = BufWriter::new(rt.alloc(), listing(rt))?;
     if !is_for_people(rt) {
         return judged.write_lines(rt.alloc(), spelled.rules, &mut out);
     }

@@ -1,17 +1,17 @@
 //! Recordings that are read packet by packet and never kept, since they may be larger than memory.
 
-use crate::looking::tell_of_missing;
+use crate::looking::{tell_of_missing, tell_of_unread};
 use crate::watching::{SystemFile, Watch, Watched, open_watched, prints_to_terminal};
-use bench_clock::{Clock as RecordingClock, clock_from};
+use bench_clock::{Clock as RecordingClock, ReadClock, clock_from};
 use bench_dump::dump_skipping_from;
 use bench_passes::{dump_in_two_passes, dump_with_times_in_two_passes};
-use bench_requests::{Fault, open_to_read, tells_of_loss};
+use bench_requests::{Fault, Listing, open_to_read, tells_of_loss, unless_gone};
 use bench_watch::Reopen;
 use ch11_check::check_from;
 use ch11_stream::{Advance, SoundPackets, StreamFault, Stretch, Stretches};
 use std::alloc::{AllocError, Global};
 use std::fs;
-use std::io::{self, Error, ErrorKind, IsTerminal, Read};
+use std::io::{self, Error, ErrorKind, IsTerminal, Read, Write};
 use std::rt::{Clock, Files};
 
 /// What a pass over a recording reads.
@@ -136,9 +136,9 @@ pub(crate) fn clock_of_large<'a, R: Files + AllocGlobal + Clock, E: Eprint + IsT
     watch: &Watch<'_, R, E>,
     skip: bool,
     timed: bool,
-) -> Result<RecordingClock, Fault<'a>> {
+) -> Result<ReadClock, Fault<'a>> {
     if !timed {
-        return Ok(RecordingClock::of(rt.alloc(), &[], &[])?);
+        return Ok(ReadClock::of(rt.alloc(), &[], &[])?);
     }
     let file = open_watched(rt, name, watch, true)?;
     let pass = Pass::over(rt.alloc(), file, skip)?;
@@ -146,7 +146,8 @@ pub(crate) fn clock_of_large<'a, R: Files + AllocGlobal + Clock, E: Eprint + IsT
 }
 
 /// Prints a recording in two passes over it, with times of day where they are asked for: nothing where the first
-/// refuses it. With `skip` what is sound of it is printed in one pass, and its times come from one before it.
+/// refuses it. With `skip` what is sound of it is printed in one pass, and its times come from one before it. Where the
+/// reader of what is printed goes away, the rest is not read.
 pub(crate) fn dump_large<'a, R: Files + AllocGlobal + Print + Clock, E: Eprint + IsTerminal>(
     rt: &R,
     errors: &E,
@@ -155,49 +156,69 @@ pub(crate) fn dump_large<'a, R: Files + AllocGlobal + Print + Clock, E: Eprint +
     times: bool,
 ) -> Result<(), Fault<'a>> {
     let watch = Watch::begin(rt, errors, name);
+    let mut out = Listing::ending(io::writer(rt));
     let printed = if skip {
-        match clock_of_large(rt, name, &watch, true, times) {
-            Ok(clock) => dump_sound_watched(rt, name, &watch, &clock),
-            Err(fault) => Err(fault),
-        }
+        dump_sound(rt, name, &watch, times, &mut out)
     } else {
-        dump_watched(rt, name, &watch, times)
+        dump_watched(rt, name, &watch, times, &mut out)
     };
     watch.end();
-    if printed.is_ok() {
-        tell_of_large_loss(rt, errors, name);
-    }
-    printed
+    let told = match printed {
+        Ok(unread) => {
+            tell_of_unread(errors, name, unread);
+            tell_of_large_loss(rt, errors, name);
+            Ok(())
+        }
+        Err(fault) => Err(fault),
+    };
+    unless_gone(out.is_gone(), told)
 }
 
-/// Prints a recording that is opened twice, while it is watched.
-fn dump_watched<'a, R: Files + AllocGlobal + Print + Clock, E: Eprint + IsTerminal>(
+/// Prints what is sound of a recording while it is watched; answers whether times of day are asked for and it has time
+/// packets of which none can be read.
+fn dump_sound<'a, R: Files + AllocGlobal + Clock, E: Eprint + IsTerminal, W: Write>(
     rt: &R,
     name: &'a str,
     watch: &Watch<'_, R, E>,
     times: bool,
-) -> Result<(), Fault<'a>> {
+    out: &mut W,
+) -> Result<bool, Fault<'a>> {
+    let read = clock_of_large(rt, name, watch, true, times)?;
+    dump_sound_watched(rt, name, watch, &read.clock, out)?;
+    Ok(read.unread)
+}
+
+/// Prints a recording that is opened twice, while it is watched; answers as `dump_sound` does.
+fn dump_watched<'a, R: Files + AllocGlobal + Clock, E: Eprint + IsTerminal, W: Write>(
+    rt: &R,
+    name: &'a str,
+    watch: &Watch<'_, R, E>,
+    times: bool,
+    out: &mut W,
+) -> Result<bool, Fault<'a>> {
     let first = open_watched(rt, name, watch, true)?;
     let second = open_watched(rt, name, watch, !prints_to_terminal(rt))?;
-    let mut out = io::writer(rt);
     let printed = if times {
-        dump_with_times_in_two_passes(rt.alloc(), first, second, &mut out)
+        dump_with_times_in_two_passes(rt.alloc(), first, second, out)
     } else {
-        dump_in_two_passes(rt.alloc(), first, second, &mut out)
+        match dump_in_two_passes(rt.alloc(), first, second, out) {
+            Ok(()) => Ok(false),
+            Err(fault) => Err(fault),
+        }
     };
     answer_of_watched(name, watch, printed)
 }
 
 /// Prints what is sound of a recording that is watched, with the times of day of this clock.
-fn dump_sound_watched<'a, R: Files + AllocGlobal + Print + Clock, E: Eprint + IsTerminal>(
+fn dump_sound_watched<'a, R: Files + AllocGlobal + Clock, E: Eprint + IsTerminal, W: Write>(
     rt: &R,
     name: &'a str,
     watch: &Watch<'_, R, E>,
     clock: &RecordingClock,
+    out: &mut W,
 ) -> Result<(), Fault<'a>> {
     let file = open_watched(rt, name, watch, !prints_to_terminal(rt))?;
-    let mut out = io::writer(rt);
-    let printed = dump_skipping_from(rt.alloc(), file, clock, &mut out);
+    let printed = dump_skipping_from(rt.alloc(), file, clock, out);
     answer_of_watched(name, watch, printed)
 }
 

@@ -23,6 +23,7 @@ mod judged;
 mod judged_run;
 mod judging;
 mod large;
+mod left;
 mod live_run;
 mod looking;
 mod looking_line;

@@ -1,6 +1,6 @@
 //! Recordings that are read whole: their packets, their clock, and whether messages are missing from them.
 
-use bench_clock::Clock;
+use bench_clock::ReadClock;
 use bench_requests::{Fault, tells_of_loss};
 use ch11_reader::Index;
 use std::alloc::{AllocError, Global};
@@ -44,13 +44,38 @@ pub(crate) fn index_of<'a, 'b>(
     Ok(Index::build(alloc, recording)?)
 }
 
+/// Says that no times of day are known, where a recording has time packets and none of them can be read.
+pub(crate) fn tell_of_unread<E: Eprint>(errors: &E, name: &str, unread: bool) {
+    if unread {
+        let _ = eprintln!(errors;
+            "bench: {name}: no time packet can be read, so no times of day are known"
+        );
+    }
+}
+
+/// The same of a recording that was read whole; with `skip` of what is sound of it.
+pub(crate) fn tell_of_unread_in<R: AllocGlobal, E: Eprint>(
+    rt: &R,
+    errors: &E,
+    name: &str,
+    bytes: &[u8],
+    skip: bool,
+) {
+    let Ok(index) = index_of(rt.alloc(), bytes, skip) else {
+        return;
+    };
+    if let Ok(read) = clock_if(rt.alloc(), bytes, &index, true) {
+        tell_of_unread(errors, name, read.unread);
+    }
+}
+
 /// The clock of a recording where times of day are asked for, and else one that tells none.
 pub(crate) fn clock_if(
     alloc: Global,
     recording: &[u8],
     index: &Index<'_>,
     timed: bool,
-) -> Result<Clock, AllocError> {
+) -> Result<ReadClock, AllocError> {
     let told = if timed { index.packets() } else { &[] };
-    Clock::of(alloc, recording, told)
+    ReadClock::of(alloc, recording, told)
 }

@@ -12,8 +12,9 @@ Each channel has a lane for bus A and one for bus B. Over the time that a messag
 with the terminal that they call, its data words, and the status words with the terminal that answered; over it
 its number, the address, R to receive or T to transmit and the subaddress; a red mark stands for an error and its
 kind. Of up to 24 messages all are labelled, of more those that have the room. Where messages are too close for
-that, the load of the line in percent is drawn; --from and --to show a part of them. Where the mouse rests on a
-bar, a browser shows the message decoded.
+that, the load of the line in percent is drawn; --from and --to show a part of them. Times are those of the
+recording, from tick 0 of its stamps. Where commands recur with a period, a dashed line marks the begin of a
+frame. Where the mouse rests on a bar, a browser shows the message decoded.
 
 Example:
   bench draw flight.ch11 --out flight.svg

@@ -1,29 +1,183 @@
-//! What is said of a recording that was named where a job or a script is read.
+//! What is said of a file that is of another kind than the one that is read in its place.
 
+use crate::command_line::Request;
 use crate::looking::is_lossy;
 use bench_files::{Kind, is_of_kind};
 use std::alloc::AllocError;
 use std::fmt::Write;
+use std::fs;
+use std::io::Read;
+use std::rt::Files;
+use text_lines::{is_comment, next_line, next_word};
 
-/// The lines for a text that is a recording: which commands show one, and that messages are missing from it where its
-/// packets say so. None where the text is no recording.
-pub(crate) fn recording_in_place<R: AllocGlobal>(
+/// How many bytes of a file are looked at, where it is not read whole (own choice).
+const BEGINNING: usize = 4096;
+
+/// What files of a bench have in them.
+#[derive(Clone, Copy, Debug, PartialEq, Eq)]
+pub(crate) enum Content {
+    Recording,
+    Report,
+    Image,
+    Rows,
+    Picture,
+    Verdicts,
+    Waves,
+    Job,
+    Rules,
+    Script,
+}
+
+impl Content {
+    /// What a file is that has it, and which commands take one.
+    fn told(self) -> &'static str {
+        match self {
+            Content::Recording => "a recording; bench dump and bench stat show what is in it",
+            Content::Report => "a report of bench run; bench step reads it beside its recording",
+            Content::Image => "an image, which bench assemble wrote",
+            Content::Rows => "a table of messages, which bench export wrote",
+            Content::Picture => "a picture, which bench draw wrote",
+            Content::Verdicts => "a JUnit report, which bench judge wrote",
+            Content::Waves => "a value change dump, which bench export wrote",
+            Content::Job => "a job; bench check tries it, and bench run records it",
+            Content::Rules => "a text of rules; bench judge reads it beside a recording",
+            Content::Script => {
+                "a script; bench assemble reads it, and a job has one behind its line script"
+            }
+        }
+    }
+}
+
+/// What a file has in it that begins so: by its first bytes, or in a text by the first word behind comments. None where
+/// neither tells.
+fn content_of(text: &[u8]) -> Option<Content> {
+    if text.is_empty() {
+        return None;
+    }
+    let kinds = [
+        (Kind::Recording, Content::Recording),
+        (Kind::Report, Content::Report),
+        (Kind::Image, Content::Image),
+        (Kind::Rows, Content::Rows),
+        (Kind::Picture, Content::Picture),
+        (Kind::Verdicts, Content::Verdicts),
+        (Kind::Waves, Content::Waves),
+    ];
+    for (kind, content) in kinds {
+        if is_of_kind(kind, text) {
+            return Some(content);
+        }
+    }
+    content_behind(first_word(text))
+}
+
+/// The first word of a text that is in no comment; empty where there is none.
+fn first_word(text: &[u8]) -> &[u8] {
+    let mut rest = text;
+    for _ in 0..text.len() {
+        let Some((line, behind)) = next_line(rest) else {
+            return b"";
+        };
+        match next_word(line) {
+            Some((word, _)) if !is_comment(word) => return word,
+            _ => rest = behind,
+        }
+    }
+    b""
+}
+
+/// What a text has in it that begins with this word.
+fn content_behind(word: &[u8]) -> Option<Content> {
+    match std::str::from_utf8(word) {
+        Ok("channel" | "start" | "terminal" | "at" | "fault" | "faults" | "series") => {
+            Some(Content::Job)
+        }
+        Ok("expect") => Some(Content::Rules),
+        Ok("define" | "send" | "retry" | "gap" | "repeat" | "if" | "until" | "call" | "frame") => {
+            Some(Content::Script)
+        }
+        _ => None,
+    }
+}
+
+/// The lines for a file that begins so where another content is wanted: what it is, and where the command takes one;
+/// of a recording, that messages are missing from it where its packets say so. None where the file is what is wanted,
+/// or does not tell.
+pub(crate) fn other_in_place<R: AllocGlobal>(
     rt: &R,
+    request: &Request<'_>,
+    wanted: Content,
     name: &str,
     text: &[u8],
 ) -> Result<Option<String>, AllocError> {
-    if text.is_empty() || !is_of_kind(Kind::Recording, text) {
+    let Some(found) = content_of(text) else {
+        return Ok(None);
+    };
+    if found == wanted {
         return Ok(None);
     }
+    let told = found.told();
     let mut out = String::new(rt.alloc());
-    write!(
-        out,
-        "  {name} is a recording; bench dump and bench stat show what is in it\n"
-    )?;
-    if is_lossy(rt, text) {
+    write!(out, "  {name} is {told}\n")?;
+    out.push_str(order_of(request))?;
+    if found == Content::Recording && is_lossy(rt, text) {
         out.push_str(
             "  messages are missing from this recording: packets with the overflow flag\n",
         )?;
     }
     Ok(Some(out))
+}
+
+/// In which order a command takes files of more than one kind.
+fn order_of(request: &Request<'_>) -> &'static str {
+    match request {
+        Request::Step(_) => {
+            "  bench step takes the recording, then the report of its run, then the jobs of it\n"
+        }
+        Request::Judge(_) => "  bench judge takes the recording, then the rules\n",
+        _ => "",
+    }
+}
+
+/// The same of a file that is read as a recording: its beginning is read once more, where it is a plain file.
+pub(crate) fn no_recording<R: Files + AllocGlobal>(
+    rt: &R,
+    request: &Request<'_>,
+) -> Result<Option<String>, AllocError> {
+    let Some(name) = recording_in(request) else {
+        return Ok(None);
+    };
+    let mut beginning = vec![in rt.alloc(); 0u8; BEGINNING]?;
+    match read_beginning(rt, name, &mut beginning) {
+        Some(count) => {
+            let (text, _) = beginning.split_at(count.min(beginning.len()));
+            other_in_place(rt, request, Content::Recording, name, text)
+        }
+        None => Ok(None),
+    }
+}
+
+/// Reads the beginning of a plain file, and answers how many bytes it has.
+fn read_beginning<R: Files>(rt: &R, name: &str, beginning: &mut [u8]) -> Option<usize> {
+    match fs::metadata(rt, name) {
+        Ok(about) if about.is_file() => {}
+        _ => return None,
+    }
+    let mut file = fs::open(rt, name).ok()?;
+    file.read(beginning).ok()
+}
+
+/// The file that a request names as a recording, if any.
+fn recording_in<'a>(request: &Request<'a>) -> Option<&'a str> {
+    match request {
+        Request::Dump { recording, .. } => Some(*recording),
+        Request::Decode(request) => Some(request.recording),
+        Request::Stat(request) => Some(request.recording),
+        Request::Export(request) => Some(request.extract.recording),
+        Request::Draw(request) => Some(request.recording),
+        Request::Complete(request) => Some(request.recording),
+        Request::Judge(request) => Some(request.recording),
+        Request::Step(request) => Some(request.recording),
+        _ => None,
+    }
 }

@@ -1,34 +1,35 @@
-//! What stands behind a fault line, on a terminal or where it is asked for: the place in the text that was refused
-//! with the reason, the system's own words, or what the fault's code means. The line itself and the exit status stay
-//! as they are.
+//! What stands behind a fault line, unless it is asked to stand alone: the place in the text that was refused with the
+//! reason, the system's own words, or what the fault's code means. The line itself and the exit status stay as they
+//! are.
 
 use crate::command_line::{Asked, Request};
 use crate::differing::difference_of;
-use crate::misplaced::recording_in_place;
-use crate::reasoning::{reason_of_job, reason_of_script};
+use crate::misplaced::{Content, no_recording, other_in_place};
+use crate::reasoning::{reason_of_job, reason_of_rules, reason_of_script};
 use crate::refusing::refusal_of;
 use bench_assemble::AssembleFault;
 use bench_explain::explain;
 use bench_one::OneFault;
 use bench_reasons::{Place, Reason, Text, explained, put_place};
-use bench_requests::{Fault, read_whole};
+use bench_requests::{Fault, read_again};
 use frame_text::Cause;
 use job_file::{JobError, read_job};
+use judge_rules::RuleError;
 use std::alloc::{AllocError, Global};
 use std::fmt::Write;
 use std::io;
 use std::io::IsTerminal;
 use std::rt::Files;
 
-/// Explains a fault behind its line, where that is asked for. A text is read once more for it, and where that fails,
-/// or memory is refused, nothing is shown.
+/// Explains a fault behind its line, unless that is to stand alone. A text is read once more for it, and where that
+/// fails, or memory is refused, nothing is shown.
 pub fn point<R: Files + AllocGlobal, E: Eprint + IsTerminal>(
     rt: &R,
     errors: &E,
     asked: &Asked<'_>,
     fault: &Fault<'_>,
 ) {
-    if !asked.context.is_shown(errors) {
+    if !asked.context.is_shown() {
         return;
     }
     if let Fault::System { code, .. } = fault {
@@ -70,16 +71,16 @@ fn particular<R: Files + AllocGlobal>(
             text_lines(rt, "TEXT", text.as_bytes(), Text::Send, *cause, *place)
         }
         (Fault::Script(AssembleFault::Text { cause, place }), Request::Assemble { script, .. }) => {
-            script_at_fault(rt, script, *cause, *place)
+            script_at_fault(rt, request, script, *cause, *place)
         }
-        (Fault::Job(error), _) => job_at_fault(rt, jobs_in(request), error),
+        (Fault::Job(error), _) => job_at_fault(rt, request, error),
         (Fault::Run(error), _) => refusal_of(rt, request, *error),
+        (Fault::Recording(refusal), _) if refusal.offset == 0 => no_recording(rt, request),
         (Fault::Report(error), Request::Step(step)) => {
-            line_at_fault(rt, step.report, error.line, fault)
+            report_at_fault(rt, request, step.report, error.line, fault)
         }
-        (Fault::Rules(error), Request::Judge(judge)) => {
-            line_at_fault(rt, judge.rules.unwrap_or(""), error.line, fault)
-        }
+        (Fault::Rules(error), _) => rules_at_fault(rt, request, error),
+        (Fault::NoneSelected, _) => crossed_bounds(rt, request),
         (Fault::Mismatch { channel, number }, Request::Step(step)) => {
             difference_of(rt, step, *channel, *number)
         }
@@ -97,28 +98,19 @@ fn jobs_in<'r, 'a>(request: &'r Request<'a>) -> &'r [&'a str] {
     }
 }
 
-/// Why the script in this file is refused, as lines.
+/// Why the script in this file is refused, as lines: that it is of another kind, or the reason of its text.
 fn script_at_fault<R: Files + AllocGlobal>(
     rt: &R,
+    request: &Request<'_>,
     name: &str,
     cause: Cause,
     place: frame_text::Place,
 ) -> Result<Option<String>, AllocError> {
-    let Ok(text) = read_whole(rt, name) else {
+    let Ok(text) = read_again(rt, name) else {
         return Ok(None);
     };
-    script_lines(rt, name, text.as_slice(), cause, place)
-}
-
-/// Why a script is refused, as lines: that it is a recording, or the reason of its text.
-fn script_lines<R: AllocGlobal>(
-    rt: &R,
-    name: &str,
-    text: &[u8],
-    cause: Cause,
-    place: frame_text::Place,
-) -> Result<Option<String>, AllocError> {
-    match recording_in_place(rt, name, text)? {
+    let text = text.as_slice();
+    match other_in_place(rt, request, Content::Script, name, text)? {
         Some(lines) => Ok(Some(lines)),
         None => text_lines(rt, name, text, Text::Script, cause, place),
     }
@@ -150,19 +142,21 @@ fn told<R: AllocGlobal>(
     }
 }
 
-/// Why the first of these jobs is refused that is refused so.
+/// Why the first of the jobs of a request is refused that is refused so.
 fn job_at_fault<R: Files + AllocGlobal>(
     rt: &R,
-    names: &[&str],
+    request: &Request<'_>,
     error: &JobError,
 ) -> Result<Option<String>, AllocError> {
-    for name in names {
-        let Ok(text) = read_whole(rt, name) else {
+    for name in jobs_in(request) {
+        let Ok(text) = read_again(rt, name) else {
             return Ok(None);
         };
         match refusal_of_job(rt.alloc(), text.as_slice()) {
             None => {}
-            Some(found) if found == *error => return job_lines(rt, name, text.as_slice(), error),
+            Some(found) if found == *error => {
+                return job_lines(rt, request, name, text.as_slice(), error);
+            }
             Some(_) => return Ok(None),
         }
     }
@@ -177,14 +171,15 @@ fn refusal_of_job(alloc: Global, text: &[u8]) -> Option<JobError> {
     }
 }
 
-/// Why a job is refused, as lines: that it is a recording, or what there is to say of its text.
+/// Why a job is refused, as lines: that it is of another kind, or what there is to say of its text.
 fn job_lines<R: AllocGlobal>(
     rt: &R,
+    request: &Request<'_>,
     name: &str,
     text: &[u8],
     error: &JobError,
 ) -> Result<Option<String>, AllocError> {
-    if let Some(lines) = recording_in_place(rt, name, text)? {
+    if let Some(lines) = other_in_place(rt, request, Content::Job, name, text)? {
         return Ok(Some(lines));
     }
     match error {
@@ -210,18 +205,72 @@ fn line_lines<R: AllocGlobal>(
     Ok(Some(out))
 }
 
-/// The line of a report or of rules that is refused, and what that means.
-fn line_at_fault<R: Files + AllocGlobal>(
+/// Why a report is refused, as lines: that it is of another kind, or its line with what that means.
+fn report_at_fault<R: Files + AllocGlobal>(
     rt: &R,
+    request: &Request<'_>,
     name: &str,
     line: u64,
     fault: &Fault<'_>,
 ) -> Result<Option<String>, AllocError> {
-    let Ok(text) = read_whole(rt, name) else {
+    let Ok(text) = read_again(rt, name) else {
         return Ok(None);
     };
+    let text = text.as_slice();
+    if let Some(lines) = other_in_place(rt, request, Content::Report, name, text)? {
+        return Ok(Some(lines));
+    }
     let fault = format!(in rt.alloc(); "{fault}")?;
-    line_lines(rt, name, text.as_slice(), line, fault.as_str())
+    line_lines(rt, name, text, line, fault.as_str())
+}
+
+/// The file of rules that a request names; none where it names none.
+fn rules_in<'a>(request: &Request<'a>) -> Option<&'a str> {
+    match request {
+        Request::Judge(judge) => judge.rules,
+        Request::Run { request: run, .. } => run.judge,
+        _ => None,
+    }
+}
+
+/// Why rules are refused, as lines: that their file is of another kind, or the reason of their text.
+fn rules_at_fault<R: Files + AllocGlobal>(
+    rt: &R,
+    request: &Request<'_>,
+    error: &RuleError,
+) -> Result<Option<String>, AllocError> {
+    let Some(name) = rules_in(request) else {
+        return Ok(None);
+    };
+    let Ok(text) = read_again(rt, name) else {
+        return Ok(None);
+    };
+    let text = text.as_slice();
+    match other_in_place(rt, request, Content::Rules, name, text)? {
+        Some(lines) => Ok(Some(lines)),
+        None => told(rt, name, text, reason_of_rules(rt.alloc(), text, error)?),
+    }
+}
+
+/// That the first message which is asked for stands behind the last one, as a line; none where it does not.
+fn crossed_bounds<R: AllocGlobal>(
+    rt: &R,
+    request: &Request<'_>,
+) -> Result<Option<String>, AllocError> {
+    let selection = match request {
+        Request::Decode(request) => &request.selection,
+        Request::Stat(request) => &request.selection,
+        Request::Export(request) => &request.extract.selection,
+        Request::Draw(extract) => &extract.selection,
+        _ => return Ok(None),
+    };
+    let Some((from, to)) = selection.crossed() else {
+        return Ok(None);
+    };
+    let line = format!(in rt.alloc();
+        "  --from {from} stands behind --to {to}: no message lies between; give the first one as --from\n"
+    )?;
+    Ok(Some(line))
 }
 
 /// What a fault's code means, as lines.

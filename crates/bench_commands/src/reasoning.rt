@@ -1,11 +1,12 @@
-//! Faults of scripts and jobs as those that have their reasons in words.
+//! Faults of scripts, jobs and rules as those that have their reasons in words.
 
 use bench_reasons::{
-    LineFault, MessageFault, Place, Reason, ScriptFault, Text, job_script_reason, line_reason,
-    script_reason,
+    LineFault, MessageFault, Place, Reason, RuleFault, ScriptFault, Text, job_script_reason,
+    line_reason, rule_reason, script_reason,
 };
 use frame_text::Cause;
 use job_file::JobError;
+use judge_rules::RuleError;
 use mil_host::BadAction;
 use mil_line::LineError;
 use mil_message::BadMessage;
@@ -35,6 +36,21 @@ pub(crate) fn reason_of_job(
         }
         JobError::Assembly { .. } | JobError::Loading { .. } | JobError::Memory => Ok(None),
     }
+}
+
+/// Why rules are refused; none where their text alone does not say.
+pub(crate) fn reason_of_rules(
+    alloc: Global,
+    text: &[u8],
+    error: &RuleError,
+) -> Result<Option<Reason>, AllocError> {
+    let fault = match error.fault {
+        judge_rules::RuleFault::Word => RuleFault::Word,
+        judge_rules::RuleFault::Number => RuleFault::Number,
+        judge_rules::RuleFault::Range => RuleFault::Range,
+        judge_rules::RuleFault::Memory => return Ok(None),
+    };
+    rule_reason(alloc, text, error.line, fault)
 }
 
 fn place_of(place: frame_text::Place) -> Place {

@@ -1,5 +1,6 @@
 //! `bench run`: jobs recorded into a file, and their report beside it.
 
+use crate::checking::{strict_verdict, tell_mistakes};
 use crate::completed_run::{Completing, additions_in, record_completed, setup_in, start_in};
 use crate::completing::setup_text;
 use crate::hosts::{Errors, Host};
@@ -27,7 +28,8 @@ use std::rt::Files;
 /// files are read before the first of them is judged. Recording and report take the place of what is there together,
 /// once both are whole; jobs and settings are judged behind whether they can be written. Rules are read and judged
 /// before all that; the recording is judged by them behind its counts. Where that is asked for, the complete file of
-/// the recording stands in its place.
+/// the recording stands in its place. Behind the counts it is also said what is probably a mistake in the jobs, where
+/// that is asked for: a fault of its own then, behind all others.
 pub fn run_jobs<'a, R: Host, E: Errors>(
     rt: &R,
     errors: &E,
@@ -68,10 +70,11 @@ where
         show: None,
     };
     record_and_tell(rt, errors, request, going, run, additions, files)?;
-    match rules {
-        Some(rules) => judge_run(rt, errors, request, &rules),
-        None => Ok(()),
+    let is_suspicious = tell_mistakes(rt.alloc(), errors, request, &texts, &jobs)?;
+    if let Some(rules) = rules {
+        judge_run(rt, errors, request, &rules)?;
     }
+    strict_verdict(is_suspicious)
 }
 
 /// Records a run into files that were begun, and prints how much was recorded, behind the messages where these are

@@ -2,7 +2,7 @@
 
 use crate::command_line::Request;
 use bench_core::WorldError;
-use bench_requests::{RunRequest, jobs_of, read_texts};
+use bench_requests::{RunRequest, jobs_of, texts_again};
 use job_file::Job;
 use std::alloc::AllocError;
 use std::fmt::Write;
@@ -58,7 +58,7 @@ fn jobs_of_one_channel<R: Files + AllocGlobal>(
     rt: &R,
     names: &[&str],
 ) -> Result<Option<String>, AllocError> {
-    let Ok(texts) = read_texts(rt, names) else {
+    let Ok(texts) = texts_again(rt, names) else {
         return Ok(None);
     };
     let Ok(jobs) = jobs_of(rt.alloc(), &texts) else {

@@ -1,5 +1,6 @@
 //! The command line of `bench run`.
 
+use crate::checking::strict_run_option;
 use crate::completed_run::completing_options;
 use crate::judged_run::judge_option;
 use crate::live_run::going_options;
@@ -17,7 +18,7 @@ message that finds the queue full is refused, and listed in the report by its nu
 were is said on standard error (the guide says how much room a queue needs so that none is).
 
 Recording and report are written under the names FILE.part, and take the place of what is there together, once
-both are whole: a run that is interrupted leaves what was there. After U4 the recording has what the file took.
+both are whole: a run that fails (U4), or is interrupted, leaves what was there, and in FILE.part what was taken.
 No file is written over that is read, that another run is writing, or that is of another kind.
 
 With --live a line `CHANNEL ADDRESS ACTION` of the standard input is an action as behind `at` in a job; it acts at the
@@ -29,6 +30,9 @@ out there, and how many were is told, but the run waits for nothing.
 
 With --judge the recording is read back behind the counts and judged by rules, as bench judge does: status 5 where
 one is not held. Recording and report are kept either way. The rules are read first: a fault of theirs costs no run.
+
+With --strict what is probably a mistake in the jobs, as bench check --strict finds it, is said on standard error
+behind the counts: status 5 where there is anything. Recording and report are kept either way.
 
 With --complete the file is what `bench complete` makes of the recording, which is kept in memory until it ends:
 a setup record first, a time packet each second, packets in order of time. --setup, --time and --time-channel are
@@ -67,13 +71,14 @@ fn setting_options<'a>() -> [Row<'a>; 5] {
 }
 
 /// The files of a run but its jobs.
-fn file_options<'a>() -> [Row<'a>; 5] {
+fn file_options<'a>() -> [Row<'a>; 6] {
     let prologue =
         "Packets to put in front of all others, such as a setup record (TMATS); none of MIL-STD-1553 messages";
     let report = "The file to write the report to; it is written only where the recording is whole";
     [
         file("prologue", prologue),
         judge_option(),
+        strict_run_option(),
         file("out", "The file to write the recording to").required(),
         file("report", report).required(),
         force(),
@@ -91,6 +96,7 @@ pub(crate) fn run_request<'a>(
         queue: given.get_one::<u32>("queue").unwrap_or(DEFAULT_QUEUE),
         drops: given.get_flag("drop"),
         force: given.get_flag("force"),
+        strict: given.get_flag("strict"),
         prologue: given.get_str("prologue"),
         judge: given.get_str("judge"),
         out: given.get_str("out").unwrap_or(""),

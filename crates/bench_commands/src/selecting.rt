@@ -29,6 +29,19 @@ impl GivenSelection<'_> {
     }
 }
 
+impl<'a> GivenSelection<'a> {
+    /// Its bounds, where both are numbers of messages or both times, and the first is above the last.
+    pub(crate) fn crossed(&self) -> Option<(&'a str, &'a str)> {
+        let (from, to) = (self.from?, self.to?);
+        let is_crossed = match (read_bound(from.as_bytes())?, read_bound(to.as_bytes())?) {
+            (Bound::Number(first), Bound::Number(last)) => first > last,
+            (Bound::Time(first), Bound::Time(last)) => first > last,
+            _ => false,
+        };
+        if is_crossed { Some((from, to)) } else { None }
+    }
+}
+
 /// The options that choose messages.
 pub(crate) fn selection_options<'a>() -> [Row<'a>; 6] {
     let only =

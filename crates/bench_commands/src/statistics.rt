@@ -1,12 +1,12 @@
 //! `bench stat`: the figures of a recording.
 
 use crate::large::{answer_of_reading, clock_of_large, tell_of_large_loss};
-use crate::looking::{clock_if, index_of, tell_of_loss};
+use crate::looking::{clock_if, index_of, tell_of_loss, tell_of_unread};
 use crate::options::{argument, choice, command_of, flag};
 use crate::selecting::{GivenSelection, given_selection, selection_in, selection_options};
-use crate::streams::{on_stream, printed};
+use crate::streams::{listing, on_stream, printed};
 use crate::watching::{Watch, open_watched};
-use bench_clock::Clock as RecordingClock;
+use bench_clock::{Clock as RecordingClock, ReadClock};
 use bench_requests::{Fault, is_large, read_whole};
 use bench_select::Selection;
 use bench_stat::{
@@ -109,8 +109,16 @@ pub fn show_statistics<'a, R: Files + AllocGlobal + Print + Clock, E: Eprint + I
     if selection != Selection::all() && counts_nothing(figures.as_slice()) {
         return Err(Fault::NoneSelected);
     }
-    let clock = clock_if(rt.alloc(), bytes.as_slice(), &index, request.shown.time)?;
-    print_indexed(rt, &index, &selection, &clock, figures.as_slice(), request)?;
+    let read = clock_if(rt.alloc(), bytes.as_slice(), &index, request.shown.time)?;
+    print_indexed(
+        rt,
+        &index,
+        &selection,
+        &read.clock,
+        figures.as_slice(),
+        request,
+    )?;
+    tell_of_unread(errors, request.recording, read.unread);
     tell_of_loss(rt, errors, bytes.as_slice());
     Ok(())
 }
@@ -120,7 +128,7 @@ pub fn show_statistics<'a, R: Files + AllocGlobal + Print + Clock, E: Eprint + I
 struct Counted {
     figures: Vec<ChannelFigures>,
     told: ToldChannels,
-    clock: RecordingClock,
+    times: ReadClock,
 }
 
 /// The same for a recording that is read packet by packet. Nothing is printed in front of the last pass that it takes.
@@ -135,6 +143,7 @@ fn show_large<'a, R: Files + AllocGlobal + Print + Clock, E: Eprint + IsTerminal
     watch.end();
     let counted = counted?;
     print_counted(rt, &counted, request)?;
+    tell_of_unread(errors, request.recording, counted.times.unread);
     tell_of_large_loss(rt, errors, request.recording);
     Ok(())
 }
@@ -150,12 +159,12 @@ fn count_watched<'a, R: Files + AllocGlobal + Clock, E: Eprint + IsTerminal>(
     if *selection != Selection::all() && counts_nothing(figures.as_slice()) {
         return Err(Fault::NoneSelected);
     }
-    let clock = clock_of_large(rt, request.recording, watch, false, request.shown.time)?;
+    let times = clock_of_large(rt, request.recording, watch, false, request.shown.time)?;
     let told = told_watched(rt, request, watch, selection, figures.as_slice())?;
     Ok(Counted {
         figures,
         told,
-        clock,
+        times,
     })
 }
 
@@ -200,7 +209,7 @@ fn print_indexed<'a, R: AllocGlobal + Print>(
     figures: &[ChannelFigures],
     request: &StatRequest<'a>,
 ) -> Result<(), Fault<'a>> {
-    let mut out = on_stream("-", BufWriter::new(rt.alloc(), io::writer(rt)))?;
+    let mut out = on_stream("-", BufWriter::new(rt.alloc(), listing(rt)))?;
     let told = Indexed { index, selection };
     let answer = print_figures(rt.alloc(), &mut out, &told, clock, figures, request);
     printed(answer, &mut out)
@@ -212,8 +221,8 @@ fn print_counted<'a, R: AllocGlobal + Print>(
     counted: &Counted,
     request: &StatRequest<'a>,
 ) -> Result<(), Fault<'a>> {
-    let mut out = on_stream("-", BufWriter::new(rt.alloc(), io::writer(rt)))?;
-    let (told, clock) = (&counted.told, &counted.clock);
+    let mut out = on_stream("-", BufWriter::new(rt.alloc(), listing(rt)))?;
+    let (told, clock) = (&counted.told, &counted.times.clock);
     let figures = counted.figures.as_slice();
     let answer = print_figures(rt.alloc(), &mut out, told, clock, figures, request);
     printed(answer, &mut out)

@@ -5,7 +5,7 @@ use crate::large::answer_of_reading;
 use crate::streams::on_stream;
 use bench_reasons::Explained;
 use bench_report::{Report, ReportError, ReportFault, read_report};
-use bench_requests::{Fault, jobs_of, read_texts, read_whole};
+use bench_requests::{Fault, Listing, jobs_of, read_texts, read_whole, unless_gone};
 use bench_step::{Prompted, step};
 use ch11_check::check_from;
 use job_file::Job;
@@ -76,7 +76,7 @@ fn walk<'a, R: AllocGlobal + Input<Reader: IsTerminal> + Print, E: Eprint + IsTe
         Err(error) => return Err(Fault::of_stream("-", &error)),
     };
     let out = on_stream("-", BufWriter::new(rt.alloc(), io::writer(rt)))?;
-    let mut out = Explained::begin(out, errors, explains);
+    let mut out = Listing::ending(Explained::begin(out, errors, explains));
     match step(
         rt.alloc(),
         manner,
@@ -87,6 +87,6 @@ fn walk<'a, R: AllocGlobal + Input<Reader: IsTerminal> + Print, E: Eprint + IsTe
         &mut out,
     ) {
         Ok(()) => Ok(()),
-        Err(fault) => Err(Fault::of_step(&fault)),
+        Err(fault) => unless_gone(out.is_gone(), Err(Fault::of_step(&fault))),
     }
 }

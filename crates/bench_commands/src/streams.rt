@@ -1,8 +1,8 @@
 //! Files and streams that fail, and printing to the standard output.
 
-use bench_requests::Fault;
+use bench_requests::{Fault, Listing};
 use std::io;
-use std::io::{BufWriter, Write};
+use std::io::{BufWriter, Printer, Write};
 use text_lines::WriteFault;
 
 /// What a call on the file or stream with this name answered, `-` for standard input and output; or its fault.
@@ -19,12 +19,18 @@ pub(crate) trait Printable {
     fn print_to<W: Write>(&self, out: &mut W) -> io::Result<()>;
 }
 
+/// The standard output as a listing goes there that is made to its end also where its reader has gone, since the end
+/// decides what the command comes to, or comes soon.
+pub(crate) fn listing<R: Print>(rt: &R) -> Listing<Printer<'_, R>> {
+    Listing::going_on(io::writer(rt))
+}
+
 /// Prints to the standard output through one buffer, all of which is handed on.
 pub(crate) fn print_to_output<R: AllocGlobal + Print, P: Printable>(
     rt: &R,
     printable: &P,
 ) -> io::Result<()> {
-    let mut out = BufWriter::new(rt.alloc(), io::writer(rt))?;
+    let mut out = BufWriter::new(rt.alloc(), listing(rt))?;
     printable.print_to(&mut out)?;
     out.flush()
 }

@@ -156,21 +156,6 @@ impl<'a, F: OpenFile + Write + Hold + Drop> OutFile<'a, F> {
         Ok(())
     }
 
-    /// Takes the bytes out of what was there, where anything was; nothing may have been written.
-    pub fn empty_old<R: Files<File = F>>(self, rt: &R) -> io::Result<()> {
-        match &self.way {
-            Way::Beside { is_new: true, .. } => {
-                self.give_up(rt);
-                Ok(())
-            }
-            Way::Beside { .. } => self.take_place(rt),
-            Way::Straight => match &self.file {
-                Some(file) if file.metadata()?.is_file() => file.set_len(0),
-                _ => Ok(()),
-            },
-        }
-    }
-
     /// Leaves what was there, and nothing of what was written.
     pub fn give_up<R: Files<File = F>>(self, rt: &R) {
         if let Way::Beside { part, .. } = &self.way {

@@ -3,3 +3,4 @@ pub mod Requests
 pub mod Apart
 pub mod Endings
 pub mod Losses
+pub mod Listings

@@ -15,7 +15,7 @@ use Rattle.bench_requests.specs.declared.fault.Fault.{Fault}
 use Rattle.bench_requests.specs.declared.fault.Fault.TheVariants.{Text, Script, Recording, Report, Mismatch, Job, Run}
 use Rattle.bench_requests.specs.declared.fault.Fault.TheVariants.{Sink, Device, System, Unknown, Rules, NotHeld, Memory}
 use Rattle.bench_requests.specs.declared.fault.Fault.TheVariants.{OneFile, Busy, OtherKind, OtherPart, Usage}
-use Rattle.bench_requests.specs.declared.fault.Fault.TheVariants.{NoneSelected}
+use Rattle.bench_requests.specs.declared.fault.Fault.TheVariants.{NoneSelected, Suspicious}
 
 abbrev pub status_of : Fault → ℕ
 -- the input was refused
@@ -36,6 +36,8 @@ status_of (System name code) = 3
 status_of Memory = 4
 -- a rule is not held
 status_of NotHeld = 5
+-- something in a job is probably a mistake, where this is asked for
+status_of Suspicious = 5
 -- two files of the command line are one
 status_of (OneFile written other) = 2
 -- another process writes the file
@@ -43,6 +45,7 @@ status_of (Busy name) = 3
 -- a file of another kind would be written over
 status_of (OtherKind name kind) = 2
 status_of (OtherPart name kind) = 2
+-- no message can be selected
 status_of (Usage text) = 2
 
 -- the fault of a recording that is read whole

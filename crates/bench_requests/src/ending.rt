@@ -1,12 +1,10 @@
 //! What becomes of the files of a run that gave no recording.
 
-/// What becomes of the files of a run that gave no recording.
+/// What becomes of the files of a run that gave no recording. The recording and the report that were there stay.
 #[derive(Clone, Copy, Debug, PartialEq, Eq)]
 pub enum Ending {
-    /// What was there stays; where no recording was, an empty one is made.
+    /// Where no recording was, an empty one is made.
     Refused,
-    /// What was there stays; what was recorded until then stays beside it.
+    /// Where no recording was, none is made; what was recorded until then stays beside it.
     Broken,
-    /// What the out file took stands in its place, and the report of an earlier run is emptied.
-    Failed,
 }

@@ -25,6 +25,6 @@ pub fn ending_of_run<S>(error: &RunError<S>) -> Ending
         RunError::ChannelTwice { .. } => Ending::Refused,
         RunError::Prologue { .. } => Ending::Refused,
         RunError::Memory { .. } => Ending::Broken,
-        RunError::Sink { .. } => Ending::Failed,
+        RunError::Sink { .. } => Ending::Broken,
     }
 }

@@ -1,4 +1,5 @@
 //! Why `bench` stops, and with which exit status.
+ghost use Rattle.bench_requests.specs.Listings.{is_of_output};
 ghost use Rattle.bench_requests.specs.Status.{status_of, fault_of, fault_of_reading, fault_of_settings};
 ghost use Rattle.bench_requests.specs.Status.{IsOfOut, IsOfStep};
 ghost use Rattle.bench_requests.specs.declared.fault.Fault.TheVariants as faults;
@@ -63,6 +64,9 @@ pub enum Fault<'a> {
     /// A rule is not held. All was printed.
     #[error("a rule is not held")]
     NotHeld,
+    /// Something in a job is probably a mistake, where this is asked for. All was printed.
+    #[error("something is probably a mistake")]
+    Suspicious,
     /// Memory was refused.
     #[error("memory")]
     Memory,
@@ -84,7 +88,8 @@ pub enum Fault<'a> {
 }
 
 impl<'a> Fault<'a> {
-    /// The exit status: 1 input refused, 2 usage, 3 device, 4 memory, 5 a rule is not held.
+    /// The exit status: 1 input refused, 2 usage, 3 device, 4 memory, 5 a rule is not held, or something is
+    /// probably a mistake where this is asked for.
     pub fn status(&self) -> u8
         ensures { result ≡ status_of self.now }
     {
@@ -97,10 +102,20 @@ impl<'a> Fault<'a> {
             Fault::Sink { .. } | Fault::Device(_) => 3,
             Fault::System { .. } => 3,
             Fault::Memory => 4,
-            Fault::NotHeld => 5,
+            Fault::NotHeld | Fault::Suspicious => 5,
             Fault::OneFile { .. } | Fault::Usage(_) => 2,
             Fault::Busy(_) => 3,
             Fault::OtherKind { .. } | Fault::OtherPart { .. } => 2,
+        }
+    }
+
+    /// Whether it is a fault of the standard output, which has no name but `-`.
+    pub fn is_of_output(&self) -> bool
+        ensures { result ≡ is_of_output self.now }
+    {
+        match self {
+            Fault::Device(name) | Fault::System { name, .. } => *name == "-",
+            _ => false,
         }
     }
 

@@ -49,6 +49,32 @@ pub fn read_whole<'a, R: Files + AllocGlobal>(rt: &R, name: &'a str) -> Result<V
     }
 }
 
+/// Refuses to read once more what is no plain file.
+fn again<'a, R: Files>(rt: &R, name: &'a str) -> Result<(), Fault<'a>> {
+    match fs::metadata(rt, name) {
+        Ok(about) if about.is_file() => Ok(()),
+        _ => Err(Fault::Device(name)),
+    }
+}
+
+/// All bytes of a file that was read before. What is no plain file, as a pipe, can be read once alone: it is a device
+/// fault, and not opened.
+pub fn read_again<'a, R: Files + AllocGlobal>(rt: &R, name: &'a str) -> Result<Vec<u8>, Fault<'a>> {
+    again(rt, name)?;
+    read_whole(rt, name)
+}
+
+/// All bytes of each of these files, which were read before.
+pub fn texts_again<'a, R: Files + AllocGlobal>(
+    rt: &R,
+    names: &[&'a str],
+) -> Result<Vec<Vec<u8>>, Fault<'a>> {
+    for name in names {
+        again(rt, name)?;
+    }
+    read_texts(rt, names)
+}
+
 /// All bytes of each of these files, which are read in their order.
 pub fn read_texts<'a, R: Files + AllocGlobal>(
     rt: &R,

@@ -1,5 +1,5 @@
-//! What the commands of `bench` make of a request: its files, its jobs, its settings, and why it is refused with
-//! which exit status.
+//! What the commands of `bench` make of a request: its files, its jobs, its settings, a listing that nobody reads to
+//! its end, and why it is refused with which exit status.
 //!
 //! It may know: jobs, headers, the reader, the packets of a stream, reports, the bench one step at a time, runs, rules,
 //! files, words of a text, and the faults of `bench_one`, `bench_assemble`, `bench_dump` and `bench_step`. It has
@@ -12,6 +12,7 @@ mod endings;
 mod fault;
 mod files;
 mod jobs;
+mod listing;
 mod losses;
 mod rules;
 mod run_files;
@@ -22,10 +23,11 @@ pub use ending::Ending;
 pub use endings::{ending_of_run, ending_of_settings};
 pub use fault::Fault;
 pub use files::{
-    begin, is_large, open_to_read, put_in_place, read_texts, read_whole, replaceable, write_new,
-    writer_of,
+    begin, is_large, open_to_read, put_in_place, read_again, read_texts, read_whole, replaceable,
+    texts_again, write_new, writer_of,
 };
 pub use jobs::jobs_of;
+pub use listing::{Listing, unless_gone};
 pub use losses::tells_of_loss;
 pub use rules::rules_of;
 pub use run_files::RunFiles;

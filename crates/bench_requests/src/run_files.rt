@@ -59,34 +59,26 @@ impl<'a, F: OpenFile + Write + Hold + Drop> RunFiles<'a, F> {
         writer_of(rt, self.out_name, &mut self.out)
     }
 
-    /// Ends a run that gave no recording.
+    /// Ends a run that gave no recording: the recording and the report that were there stay.
     pub fn end<R: Files<File = F>>(self, rt: &R, ending: Ending) -> Result<(), Fault<'a>> {
         let RunFiles {
             out_name,
-            report_name,
+            report_name: _,
             out,
             report,
             are_output: _,
         } = self;
-        let (name, answer) = match ending {
-            Ending::Refused => {
-                report.give_up(rt);
-                (out_name, out.leave_empty(rt))
-            }
-            Ending::Broken => {
-                report.give_up(rt);
-                out.leave(rt);
-                return Ok(());
-            }
-            Ending::Failed => match out.take_place(rt) {
-                Ok(()) => (report_name, report.empty_old(rt)),
-                Err(error) => {
-                    report.give_up(rt);
-                    (out_name, Err(error))
-                }
+        report.give_up(rt);
+        match ending {
+            Ending::Refused => match out.leave_empty(rt) {
+                Ok(()) => Ok(()),
+                Err(error) => Err(Fault::of_stream(out_name, &error)),
             },
-        };
-        answer.map_err(|error| Fault::of_stream(name, &error))
+            Ending::Broken => {
+                out.leave(rt);
+                Ok(())
+            }
+        }
     }
 
     /// Writes the report of a recording that is whole, and gives both their places.

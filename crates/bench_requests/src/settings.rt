@@ -16,6 +16,8 @@ pub struct RunRequest<'a> {
     pub drops: bool,
     /// Whether files of another kind may be replaced.
     pub force: bool,
+    /// Whether a run ends with a fault of its own where something in its jobs is probably a mistake.
+    pub strict: bool,
     /// The file of the packets that stand in front of all others.
     pub prologue: Option<&'a str>,
     /// The file of the rules to judge the recording by, if any.
