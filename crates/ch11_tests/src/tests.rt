@@ -10,4 +10,5 @@ mod messages;
 mod readers;
 mod recordings;
 mod skips;
+mod time_packets;
 mod writers;

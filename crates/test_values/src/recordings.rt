@@ -13,27 +13,30 @@ pub const FOREIGN: [u8; 96] = [
 
 /// What `bench export --vcd` writes of it: a command at tick 0, three data words, and a status word behind 8.0 µs.
 pub const FOREIGN_DUMP: &str = "\
-$comment kind: 1 command word, 2 data word, 3 status word; z: the line is idle $end\n\
+$comment kind: 1 command word, 2 data word, 3 status word; z: the line is idle; \
+error: 1 from the start to the end of a message with an error $end\n\
 $timescale 100 ns $end\n\
 $scope module channel_1 $end\n\
 $scope module A $end\n\
-$var reg 16 wA1 word $end\n\
-$var reg 2 kA1 kind $end\n\
-$var reg 5 tA1 terminal $end\n\
-$var integer 64 mA1 message $end\n\
+$var reg 16 wA1 ch1_A_word $end\n\
+$var reg 2 kA1 ch1_A_kind $end\n\
+$var reg 5 tA1 ch1_A_terminal $end\n\
+$var integer 64 mA1 ch1_A_message $end\n\
+$var reg 1 eA1 ch1_A_error $end\n\
 $upscope $end\n\
 $scope module B $end\n\
-$var reg 16 wB1 word $end\n\
-$var reg 2 kB1 kind $end\n\
-$var reg 5 tB1 terminal $end\n\
-$var integer 64 mB1 message $end\n\
+$var reg 16 wB1 ch1_B_word $end\n\
+$var reg 2 kB1 ch1_B_kind $end\n\
+$var reg 5 tB1 ch1_B_terminal $end\n\
+$var integer 64 mB1 ch1_B_message $end\n\
+$var reg 1 eB1 ch1_B_error $end\n\
 $upscope $end\n\
 $upscope $end\n\
 $enddefinitions $end\n\
 #0\n\
 $dumpvars\n\
-bz wA1\nbz kA1\nbz tA1\nbz mA1\n\
-bz wB1\nbz kB1\nbz tB1\nbz mB1\n\
+bz wA1\nbz kA1\nbz tA1\nbz mA1\n0eA1\n\
+bz wB1\nbz kB1\nbz tB1\nbz mB1\n0eB1\n\
 $end\n\
 b10100000100011 wA1\nb1 kA1\nb101 tA1\nb1 mA1\n\
 #200\n\

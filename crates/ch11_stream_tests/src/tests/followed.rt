@@ -87,6 +87,7 @@ fn of_pair() -> Flow {
     Flow {
         messages: 2,
         errors: 1,
+        begun: 10_000,
         ended: Some(11_060),
         least_gap: 8_960,
         greatest_gap: 8_960,

@@ -5,7 +5,7 @@ use crate::tests::streams::{Slow, reader_of};
 use bench_judge::{RuleVerdict, judge_from};
 use bench_passes::dump_in_two_passes;
 use bench_select::Selection;
-use bench_stat::{ChannelFigures, Errors, TerminalFigures, Traffic, stat_from};
+use bench_stat::{ChannelFigures, Errors, Stretches, TerminalFigures, Traffic, stat_from};
 use ch11_check::check_from;
 use ch11_header::HeaderError;
 use ch11_reader::{Fault, Refusal};
@@ -83,6 +83,13 @@ pub(crate) fn pair_figures() -> ChannelFigures {
             begin: 0,
             last: 10_000,
             end: 11_060,
+            stretches: Stretches {
+                falls: 0,
+                past: 0,
+                latest: 10_000,
+                begin: 0,
+                end: 11_060,
+            },
         },
         errors: Errors {
             messages: 1,
@@ -115,6 +122,35 @@ fn figures_come_from_packets(rt: HostRuntime) {
     are(&rt, figures.as_slice(), &[pair_figures()]);
     same(&rt, &count_of(&rt, rt.alloc(), &[]), &0);
     same(&rt, &count_of(&rt, rt.alloc(), &FOREIGN[..32]), &0);
+}
+
+/// The pair, where the first message begins at 10,000 and the second at 0: two stretches of 1,060 ticks.
+fn fallen() -> [u8; 192] {
+    let mut file = pair();
+    file[72] = 0x10;
+    file[73] = 0x27;
+    file[168] = 0;
+    file[169] = 0;
+    file
+}
+
+#[test]
+fn spans_are_those_of_stretches(rt: HostRuntime) {
+    let found = counted(rt.alloc(), reader_of(&fallen(), 1));
+    let figures = found.ok().expect(&rt, "figures");
+    let traffic = figures.first().expect(&rt, "a channel").traffic;
+    let stretches = Stretches {
+        falls: 1,
+        past: 1_060,
+        latest: 0,
+        begin: 0,
+        end: 1_060,
+    };
+    same(&rt, &traffic.stretches, &stretches);
+    same(&rt, &traffic.span(), &2_120);
+    same(&rt, &traffic.load(), &Some(10_000));
+    let wanted = (traffic.begin, traffic.last, traffic.end);
+    same(&rt, &wanted, &(0, 10_000, 11_060));
 }
 
 #[test]

@@ -82,7 +82,7 @@ fn timed() -> [u8; 364] {
 /// The clock tells this at a stamp.
 fn tells(rt: &impl Abort, clock: &Clock, stamp: u64, text: &str) {
     match clock.at(stamp) {
-        Some(time) => are_bytes(rt, &time.text(), text.as_bytes()),
+        Some(time) => are_bytes(rt, time.text().as_bytes(), text.as_bytes()),
         None => same(rt, &"", &text),
     }
 }
@@ -103,7 +103,7 @@ fn a_clock_comes_from_packets(rt: HostRuntime) {
     let file = timed();
     for most in [1, 7, usize::MAX] {
         let found = clock_from(rt.alloc(), reader_of(&file, most));
-        let clock = found.ok().expect(&rt, "a clock");
+        let clock = found.ok().expect(&rt, "a clock").clock;
         tells(&rt, &clock, 999, "");
         tells(&rt, &clock, 1000, "2024-12-31T23:59:58.0000000");
         tells(&rt, &clock, 20_000_999, "2024-12-31T23:59:59.9999999");
@@ -114,7 +114,41 @@ fn a_clock_comes_from_packets(rt: HostRuntime) {
 #[test]
 fn a_file_without_time_packets_has_no_clock(rt: HostRuntime) {
     let found = clock_from(rt.alloc(), reader_of(&FOREIGN, 1));
-    same(&rt, &found.ok().expect(&rt, "a clock").is_empty(), &true);
+    let read = found.ok().expect(&rt, "a clock");
+    same(&rt, &read.clock.is_empty(), &true);
+    same(&rt, &read.unread, &false);
+}
+
+/// A body with bit 10 of its first word set tells nothing.
+const OTHER: [u8; 12] = [0x30, 7, 0, 0, 0, 0x59, 0x59, 0x23, 0x31, 0x12, 0x24, 0x20];
+
+/// Whether the time packets of a file are none that can be read.
+fn is_unread(rt: &impl Abort, alloc: Global, file: &[u8]) -> bool {
+    let found = clock_from(alloc, reader_of(file, 7));
+    found.ok().expect(rt, "a clock").unread
+}
+
+#[test]
+fn time_packets_that_can_not_be_read_are_told(rt: HostRuntime) {
+    let alloc = rt.alloc();
+    let mut file = [0u8; 136];
+    put_time(&mut file, 0, 1000, &OTHER);
+    put_message(&mut file, 36, 1000);
+    put_time(&mut file, 100, 2000, &OTHER);
+    same(&rt, &is_unread(&rt, alloc, &file[..100]), &true);
+    same(&rt, &is_unread(&rt, alloc, &file), &true);
+    let second = reader_of(&file[36..100], 7);
+    let line = "packet 0 channel 1 type 19 seq 0 flags 80 messages 1
+message 1 channel 1 stamp 1000 block 0000 gaps 0050 words 2823 0001 0002 0003 2800
+";
+    wrote(
+        &rt,
+        dumped(alloc, reader_of(&file, 1), second),
+        Ok(true),
+        line,
+    );
+    put_time(&mut file, 100, 2000, &NEW_YEAR);
+    same(&rt, &is_unread(&rt, alloc, &file), &false);
 }
 
 /// The third time packet ends too early, has another sync pattern, or the reader fails in it.
@@ -166,8 +200,12 @@ fn bytes_of_other_packets_are_passed(rt: HostRuntime) {
     are_bytes(&rt, packets.bytes(), &[]);
 }
 
-/// What is printed of two readers' files with times of day, and how that ends.
-fn dumped(alloc: Global, first: Slow<'_>, second: Slow<'_>) -> (Result<(), StreamFault>, Vec<u8>) {
+/// What is printed of two readers' files with times of day, and whether none of the time packets can be read.
+fn dumped(
+    alloc: Global,
+    first: Slow<'_>,
+    second: Slow<'_>,
+) -> (Result<bool, StreamFault>, Vec<u8>) {
     let mut out = Vec::new(alloc);
     let answer = dump_with_times_in_two_passes(alloc, first, second, &mut out);
     (answer, out)
@@ -185,10 +223,10 @@ fn times_are_printed_in_the_second_pass(rt: HostRuntime) {
     let (file, plain) = (timed(), pair());
     let (first, second) = (reader_of(&file, 1), reader_of(&file, 7));
     let text = timed_text(&rt, alloc, "packet 164 channel 0 type 11 skipped\n");
-    wrote(&rt, dumped(alloc, first, second), Ok(()), &text);
+    wrote(&rt, dumped(alloc, first, second), Ok(false), &text);
     // the pair has no time packet
     let (first, second) = (reader_of(&plain, 7), reader_of(&plain, 1));
-    wrote(&rt, dumped(alloc, first, second), Ok(()), PAIR_TEXT);
+    wrote(&rt, dumped(alloc, first, second), Ok(false), PAIR_TEXT);
 }
 
 #[test]
@@ -213,7 +251,7 @@ fn clock_of_sound(rt: &impl Abort, alloc: Global, file: &[u8]) -> Clock {
     let sound = SoundPackets::over(alloc, reader_of(file, 7))
         .ok()
         .expect(rt, "memory");
-    clock_from(alloc, sound).ok().expect(rt, "a clock")
+    clock_from(alloc, sound).ok().expect(rt, "a clock").clock
 }
 
 /// A damaged recording is printed with the times of day that its sound packets tell. Where the second time packet is

@@ -35,50 +35,62 @@ fn add_word(rt: &impl Abort, alloc: Global, dump: &mut String, tick: u64, word: 
     dump.push_str(&lines).expect(rt, "memory");
 }
 
-/// The dump of the pair: that of the foreign file, and the same words again from tick 10,000 on.
+/// The dump of the pair: that of the foreign file, whose message has an error, and the same words again from tick
+/// 10,000 on, without one.
 fn pair_dump(rt: &impl Abort, alloc: Global) -> String {
-    let mut dump = String::new(alloc);
-    dump.push_str(FOREIGN_DUMP).expect(rt, "memory");
+    let (begin, end) = FOREIGN_DUMP.split_once("#200\n").expect(rt, "a word");
+    let first = format!(in alloc; "{begin}1eA1\n#200\n{end}0eA1\n");
+    let mut dump = first.expect(rt, "memory");
     for (tick, word, kind) in SECOND_MESSAGE {
         add_word(rt, alloc, &mut dump, tick, word, kind);
     }
     dump
 }
 
-/// The dump of a reader's file, and whether a message is selected or why there is no dump.
+/// The dump of a recording that two readers give, and whether a message is selected or why there is no dump.
 fn dumped(
     alloc: Global,
-    input: Slow<'_>,
+    first: Slow<'_>,
+    second: Slow<'_>,
     selection: &Selection,
 ) -> (Result<bool, ExportFromFault>, Vec<u8>) {
     let mut out = Vec::new(alloc);
-    let answer = export_waves_from(alloc, input, selection, &mut out);
+    let answer = export_waves_from(alloc, first, second, selection, &mut out);
     (answer, out)
+}
+
+/// The dump of a file that is read twice, one byte a time.
+fn dumped_of(
+    alloc: Global,
+    file: &[u8],
+    selection: &Selection,
+) -> (Result<bool, ExportFromFault>, Vec<u8>) {
+    dumped(alloc, reader_of(file, 1), reader_of(file, 1), selection)
 }
 
 #[test]
 fn changes_come_from_packets(rt: HostRuntime) {
     let all = Selection::all();
     let file = pair();
-    let found = dumped(rt.alloc(), reader_of(&file, 1), &all);
+    let found = dumped_of(rt.alloc(), &file, &all);
     wrote(&rt, found, Ok(true), &pair_dump(&rt, rt.alloc()));
     let other = Selection {
         channel: Some(2),
         ..all
     };
-    let found = dumped(rt.alloc(), reader_of(&file, 1), &other);
+    let found = dumped_of(rt.alloc(), &file, &other);
     wrote(&rt, found, Ok(false), EMPTY_DUMP);
 }
 
-/// Nothing is written where a packet can't be read.
+/// Nothing is written where the first pass can't read a packet.
 #[test]
 fn a_damaged_file_has_no_dump(rt: HostRuntime) {
     let all = Selection::all();
     let (file, broken) = (pair(), damaged());
     let refused = Err(ExportFromFault::Reading(StreamFault::Refused(refusal())));
-    let found = dumped(rt.alloc(), reader_of(&broken, 1), &all);
+    let found = dumped(rt.alloc(), reader_of(&broken, 1), reader_of(&file, 1), &all);
     wrote(&rt, found, refused, "");
     let failed = Err(ExportFromFault::Reading(StreamFault::Device));
-    let found = dumped(rt.alloc(), failing(&file, 100), &all);
+    let found = dumped(rt.alloc(), failing(&file, 100), reader_of(&file, 1), &all);
     wrote(&rt, found, failed, "");
 }

@@ -2,9 +2,9 @@
 ghost use Rattle.std.specs.Prelude.{◌<◌};
 
 use crate::tests::dumps::dumped;
-use crate::tests::equal::{are_bytes, same};
+use crate::tests::equal::{are_bytes, reads, same};
 use crate::tests::readers::built;
-use bench_clock::{Clock, UtcTime, body_of, read_second};
+use bench_clock::{Clock, PacketTime, UtcTime, YearTime, body_of, is_time_body, read_time};
 use bench_dump::dump_with_times;
 use std::process::Abort;
 use test_values::FOREIGN;
@@ -34,28 +34,15 @@ const BODIES: [(u64, [u8; 12]); 5] = [
     ),
 ];
 
-/// Bytes that are the body of no second: another format, another bit of the leap year, hundredths, a second 60, a digit
-/// above 9, an hour 24, a day 0, 29 February of another year, a month 13, and a year before 1970.
-const NO_BODIES: [[u8; 12]; 10] = [
-    [0x10, 3, 0, 0, 0, 0x59, 0x59, 0x23, 0x31, 0x12, 0x24, 0x20],
-    [0x30, 2, 0, 0, 0, 0x59, 0x59, 0x23, 0x31, 0x12, 0x24, 0x20],
-    [0x30, 3, 0, 0, 1, 0x59, 0x59, 0x23, 0x31, 0x12, 0x24, 0x20],
-    [0x30, 3, 0, 0, 0, 0x60, 0x59, 0x23, 0x31, 0x12, 0x24, 0x20],
-    [0x30, 3, 0, 0, 0, 0x0A, 0x59, 0x23, 0x31, 0x12, 0x24, 0x20],
-    [0x30, 3, 0, 0, 0, 0x59, 0x59, 0x24, 0x31, 0x12, 0x24, 0x20],
-    [0x30, 3, 0, 0, 0, 0x59, 0x59, 0x23, 0x00, 0x12, 0x24, 0x20],
-    [0x30, 2, 0, 0, 0, 0x59, 0x59, 0x23, 0x29, 0x02, 0x23, 0x20],
-    [0x30, 3, 0, 0, 0, 0x59, 0x59, 0x23, 0x31, 0x13, 0x24, 0x20],
-    [0x30, 2, 0, 0, 0, 0x59, 0x59, 0x23, 0x31, 0x12, 0x69, 0x19],
-];
-
-/// The body of a second is these bytes, which are read again; one byte fewer is no body.
+/// A second has this body, which is read again; one byte fewer is no body.
 fn is_body(rt: &impl Abort, second: u64, body: &[u8; 12])
     requires { second < 253402300800 }
 {
     same(rt, &body_of(second), body);
-    same(rt, &read_second(body), &Some(second));
-    same(rt, &read_second(&body[..11]), &None);
+    let ticks = second * 10_000_000;
+    same(rt, &read_time(body), &Some(PacketTime::Utc(ticks)));
+    same(rt, &is_time_body(body), &true);
+    same(rt, &is_time_body(&body[..11]), &false);
 }
 
 #[test]
@@ -64,9 +51,6 @@ fn bodies_are_read_as_they_are_written(rt: HostRuntime) {
         if second < 253_402_300_800 {
             is_body(&rt, second, &body);
         }
-    }
-    for body in NO_BODIES {
-        same(&rt, &read_second(&body), &None);
     }
 }
 
@@ -90,6 +74,29 @@ fn times_are_printed(rt: HostRuntime) {
         ticks: 2_534_023_007_999_999_999,
     };
     prints(&rt, last, "9999-12-31T23:59:59.9999999");
+}
+
+/// The text of a time of a year.
+fn prints_in_year(rt: &impl Abort, time: YearTime, wanted: &str) {
+    are_bytes(rt, &time.text(), wanted.as_bytes());
+}
+
+#[test]
+fn times_of_a_year_are_printed(rt: HostRuntime) {
+    prints_in_year(&rt, YearTime { ticks: 0 }, "001:00:00:00.0000000");
+    // 59 days, 12 hours, 34 minutes and 56.7800001 seconds
+    let leap = YearTime {
+        ticks: 51_428_967_800_001,
+    };
+    prints_in_year(&rt, leap, "060:12:34:56.7800001");
+    let short = YearTime {
+        ticks: 315_359_999_999_999,
+    };
+    prints_in_year(&rt, short, "365:23:59:59.9999999");
+    let last = YearTime {
+        ticks: 316_223_999_999_999,
+    };
+    prints_in_year(&rt, last, "366:23:59:59.9999999");
 }
 
 /// Time packets on channel 7: at tick 10,000,000 it is 2024-12-31T23:59:59, at tick 20,000,000 2025-01-01T00:00:00.
@@ -128,10 +135,12 @@ fn timed() -> [u8; 168] {
     file
 }
 
-/// The time at a stamp, in ticks behind 1970-01-01T00:00:00, is this one.
-fn tells(rt: &impl Abort, clock: &Clock, stamp: u64, wanted: Option<u64>) {
-    let found = clock.at(stamp).map(|time| time.ticks);
-    same(rt, &found, &wanted);
+/// The time at a stamp is this one, none where there is no text.
+pub(crate) fn tells(rt: &impl Abort, clock: &Clock, stamp: u64, wanted: &str) {
+    match clock.at(stamp) {
+        Some(time) => are_bytes(rt, time.text().as_bytes(), wanted.as_bytes()),
+        None => reads(rt, "", wanted),
+    }
 }
 
 /// A stamp has the time of the last time packet at or before it, and what has passed since.
@@ -142,12 +151,12 @@ fn stamps_have_times_of_day(rt: HostRuntime) {
     let clock = Clock::of(rt.alloc(), &file, index.packets()).expect(&rt, "memory");
     same(&rt, &clock.is_empty(), &false);
     for (stamp, wanted) in [
-        (0, None),
-        (9_999_999, None),
-        (10_000_000, Some(17_356_895_990_000_000)),
-        (15_000_001, Some(17_356_895_995_000_001)),
-        (20_000_000, Some(17_356_896_000_000_000)),
-        (u64::MAX, None),
+        (0, ""),
+        (9_999_999, ""),
+        (10_000_000, "2024-12-31T23:59:59.0000000"),
+        (15_000_001, "2024-12-31T23:59:59.5000001"),
+        (20_000_000, "2025-01-01T00:00:00.0000000"),
+        (u64::MAX, ""),
     ] {
         tells(&rt, &clock, stamp, wanted);
     }

@@ -1,6 +1,6 @@
 //! What `bench check` says of jobs, worked out by hand.
 use crate::looks::made::{TRANSFER, job_of};
-use bench_check::{Bits, print_findings, tight_frames_in, try_job};
+use bench_check::{Bits, Way, check_job, mistakes_in, print_mistakes};
 use std::alloc::Global;
 use std::process::Abort;
 
@@ -157,42 +157,195 @@ probably a mistake:
 queue 6: with room for so many nothing of this job is refused
 ";
 
-/// A job, whether it is told by its summary alone, how bits are written, and what is printed.
-type Row = (&'static str, bool, Bits, &'static str);
+/// A frame of 100.0 µs with three messages: each takes two words, a response of 8.0 and a status word, 66.0, and starts
+/// 2.0 behind the one before it. So the third ends at 202.0. At worst each has a pause of 16.0 in front of it and a
+/// late status word of 30.0.
+const OVERRUN: &str = "channel 1
+terminal 5
+script
+frame 100 { repeat 3 { send A rx 5 1 [0001] } }
+send A mode 5 1
+";
+
+const OVERRAN: &str = "message 1 at 0.0 us: send A rx 5 1 [0001]
+  status 2800, block clear
+message 2 at 68.0 us: send A rx 5 1 [0001]
+  status 2800, block clear
+message 3 at 136.0 us: send A rx 5 1 [0001]
+  status 2800, block clear
+frame 100 us, begun at 0.0 us: 102.0 us too long
+message 4 at 204.0 us: send A mode 5 1
+  status 2800, block clear
+probably a mistake:
+  frame 1 of the script, of 100 us, may take 258.0 us: late replies, each retry and each poll counted
+  the frame of 100 us that ends behind message 3 is 102.0 us (1020 ticks) too long
+queue 5: with room for so many nothing of this job is refused
+";
+
+const OVERRAN_SUMMARY: &str = "messages 4, with an error 0
+probably a mistake:
+  frame 1 of the script, of 100 us, may take 258.0 us: late replies, each retry and each poll counted
+  the frame of 100 us that ends behind message 3 is 102.0 us (1020 ticks) too long
+queue 5: with room for so many nothing of this job is refused
+";
+
+/// Three turns of a frame of 100.0 µs whose message takes 106.0; from the second on it starts 2.0 behind the beginning
+/// of its frame, since the frame before it overran. The frame of 300.0 behind them ends in time.
+const OVERRUNS: &str = "channel 1
+terminal 5
+script
+repeat 3 { frame 100 { send A rx 5 1 [0001 0002 0003] } }
+frame 300 { send A mode 5 1 }
+";
+
+const OVERRUNS_SUMMARY: &str = "messages 4, with an error 0
+probably a mistake:
+  frame 1 of the script, of 100 us, may take 126.0 us: late replies, each retry and each poll counted
+  the frame of 100 us that ends behind message 1 is 6.0 us (60 ticks) too long
+  the frame of 100 us that ends behind message 2 is 8.0 us (80 ticks) too long
+  the frame of 100 us that ends behind message 3 is 8.0 us (80 ticks) too long
+queue 5: with room for so many nothing of this job is refused
+";
+
+/// Nothing but a subaddress that was never filled, which is looked for in a summary, and by one that is strict.
+const UNFILLED: &str = "channel 1
+terminal 5
+script
+send A tx 5 4 1
+";
+
+const UNFILLED_MESSAGES: &str = "message 1 at 0.0 us: send A tx 5 4 1
+  status 2800, block clear
+nothing looks like a mistake
+queue 2: with room for so many nothing of this job is refused
+";
+
+const UNFILLED_STRICT: &str = "message 1 at 0.0 us: send A tx 5 4 1
+  status 2800, block clear
+probably a mistake:
+  terminal 5 transmits from subaddress 4 in message 1, and no words were put up there
+queue 2: with room for so many nothing of this job is refused
+";
+
+/// Messages one by one, with status words as digits, or with the names of their bits.
+const DIGITS: Way = Way {
+    summary: false,
+    strict: false,
+    bits: Bits::Digits,
+};
+
+const NAMES: Way = Way {
+    summary: false,
+    strict: false,
+    bits: Bits::Names,
+};
+
+/// A summary.
+const SUMMARY: Way = Way {
+    summary: true,
+    strict: false,
+    bits: Bits::Digits,
+};
+
+/// All that is looked for, with the messages or with a summary.
+const STRICT: Way = Way {
+    summary: false,
+    strict: true,
+    bits: Bits::Digits,
+};
+
+const STRICT_SUMMARY: Way = Way {
+    summary: true,
+    strict: true,
+    bits: Bits::Digits,
+};
+
+/// A job, how it is checked, what is printed, how much room it needs and whether anything is probably a mistake.
+type Row = (&'static str, Way, &'static str, u64, bool);
 
 const ROWS: [Row; 8] = [
-    (MISTAKEN, false, Bits::Digits, MISTAKES),
-    (TRANSFER, false, Bits::Digits, TRANSFERRED),
-    (FAULTY, false, Bits::Digits, FAULTED),
-    (ODD, true, Bits::Digits, ODDITIES),
-    (REPEATED, false, Bits::Names, REPEATED_NAMES),
-    (REPEATED, true, Bits::Digits, REPEATED_SUMMARY),
-    (MAY_OVERRUN, true, Bits::Digits, MAY_OVERRUN_SUMMARY),
-    (FIVE_FRAMES, true, Bits::Digits, FIVE_FRAMES_SUMMARY),
+    (MISTAKEN, DIGITS, MISTAKES, 3, true),
+    (TRANSFER, DIGITS, TRANSFERRED, 3, false),
+    (FAULTY, DIGITS, FAULTED, 4, false),
+    (ODD, SUMMARY, ODDITIES, 6, true),
+    (REPEATED, NAMES, REPEATED_NAMES, 3, false),
+    (REPEATED, SUMMARY, REPEATED_SUMMARY, 3, false),
+    (MAY_OVERRUN, SUMMARY, MAY_OVERRUN_SUMMARY, 10, true),
+    (FIVE_FRAMES, SUMMARY, FIVE_FRAMES_SUMMARY, 6, true),
+];
+
+/// The same of frames that overran, and of jobs that are checked strictly.
+const STRICT_ROWS: [Row; 7] = [
+    (OVERRUN, DIGITS, OVERRAN, 5, true),
+    (OVERRUN, SUMMARY, OVERRAN_SUMMARY, 5, true),
+    (OVERRUNS, SUMMARY, OVERRUNS_SUMMARY, 5, true),
+    (FAULTY, STRICT, FAULTED, 4, false),
+    (ODD, STRICT_SUMMARY, ODDITIES, 6, true),
+    (UNFILLED, DIGITS, UNFILLED_MESSAGES, 2, false),
+    (UNFILLED, STRICT, UNFILLED_STRICT, 2, true),
 ];
 
 /// What the job of a row comes to.
 fn comes_to(rt: &impl Abort, alloc: Global, row: &Row) {
-    let (text, summary, bits, wanted) = row;
+    let (text, way, wanted, room, is_suspicious) = row;
     let job = job_of(rt, alloc, text);
     let mut out = Vec::new(alloc);
-    let findings = try_job(alloc, &job, *bits, &mut out)
+    let checked = check_job(alloc, &job, text.as_bytes(), *way, &mut out)
         .ok()
-        .expect(rt, "findings");
-    let tight = tight_frames_in(alloc, text.as_bytes())
-        .ok()
-        .expect(rt, "frames");
-    if *summary {
-        out.clear();
-    }
-    let printed = print_findings(alloc, &job, &findings, &tight, *summary, &mut out);
-    assert!(rt; printed.is_ok());
+        .expect(rt, "a check");
     assert_eq!(rt; out.as_slice(), wanted.as_bytes());
+    assert_eq!(rt; checked.room, *room);
+    assert_eq!(rt; checked.is_suspicious, *is_suspicious);
 }
 
 #[test]
 fn jobs_are_tried(rt: HostRuntime) {
     for row in &ROWS {
         comes_to(&rt, rt.alloc(), row);
+    }
+}
+
+#[test]
+fn overruns_and_strict_checks_are_told(rt: HostRuntime) {
+    for row in &STRICT_ROWS {
+        comes_to(&rt, rt.alloc(), row);
+    }
+}
+
+/// Jobs, and all that is probably a mistake in them.
+const MISTAKES_ALONE: [(&str, &str); 3] = [
+    (
+        UNFILLED,
+        "probably a mistake:
+  terminal 5 transmits from subaddress 4 in message 1, and no words were put up there
+",
+    ),
+    (
+        OVERRUNS,
+        "probably a mistake:
+  frame 1 of the script, of 100 us, may take 126.0 us: late replies, each retry and each poll counted
+  the frame of 100 us that ends behind message 1 is 6.0 us (60 ticks) too long
+  the frame of 100 us that ends behind message 2 is 8.0 us (80 ticks) too long
+  the frame of 100 us that ends behind message 3 is 8.0 us (80 ticks) too long
+",
+    ),
+    (FAULTY, "nothing looks like a mistake\n"),
+];
+
+/// All that is probably a mistake in a job.
+fn are_found(rt: &impl Abort, alloc: Global, text: &str, wanted: &str) {
+    let job = job_of(rt, alloc, text);
+    let mistakes = mistakes_in(alloc, &job, text.as_bytes())
+        .ok()
+        .expect(rt, "mistakes");
+    let mut out = Vec::new(alloc);
+    assert!(rt; print_mistakes(alloc, &mistakes, &mut out).is_ok());
+    assert_eq!(rt; out.as_slice(), wanted.as_bytes());
+}
+
+#[test]
+fn mistakes_are_found(rt: HostRuntime) {
+    for (text, wanted) in &MISTAKES_ALONE {
+        are_found(&rt, rt.alloc(), text, wanted);
     }
 }

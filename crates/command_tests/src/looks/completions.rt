@@ -24,6 +24,7 @@ fn additions<'a>(setup: Option<&'a [u8]>, time: &str, time_channel: u16) -> Addi
         setup,
         start: UtcSecond::read(time),
         time_channel,
+        second_time: false,
         version: 6,
     }
 }
@@ -85,6 +86,99 @@ fn misuses_are_refused(rt: HostRuntime) {
     is_refused(&rt, rt.alloc(), &FOREIGN, &twice, CompleteFault::SetupTwice);
     let taken = additions(None, START, 1);
     is_refused(&rt, rt.alloc(), &file, &taken, CompleteFault::ChannelTaken);
+}
+
+/// A poll at tick 12,345.
+const EARLY: &str = "channel 1\nterminal 5\nstart 12345\nscript\nsend A mode 5 1\n";
+
+/// The setup record of the text AB, on this channel and with this counter (its low two bytes) and checksum.
+fn setup_of(channel: u8, counter: [u8; 2], sum: [u8; 2]) -> [u8; 32] {
+    let [low, high] = counter;
+    let [first, second] = sum;
+    [
+        0x25, 0xEB, channel, 0x00, 0x20, 0x00, 0x00, 0x00, 0x06, 0x00, 0x00, 0x00, 0x06, 0x00,
+        0x00, 0x01, low, high, 0x00, 0x00, 0x00, 0x00, first, second, 0x0C, 0x00, 0x00, 0x00, 0x41,
+        0x42, 0x00, 0x00,
+    ]
+}
+
+/// The time packet of `START` at tick 0, on this channel and with this checksum.
+fn time_of(channel: u8, sum: u8) -> [u8; 36] {
+    [
+        0x25, 0xEB, channel, 0x00, 0x24, 0x00, 0x00, 0x00, 0x0C, 0x00, 0x00, 0x00, 0x06, 0x00,
+        0x00, 0x11, 0x00, 0x00, 0x00, 0x00, 0x00, 0x00, sum, 0xFC, 0x30, 0x03, 0x00, 0x00, 0x00,
+        0x58, 0x59, 0x23, 0x31, 0x12, 0x24, 0x20,
+    ]
+}
+
+/// One behind the other.
+fn joined(rt: &impl Abort, alloc: Global, parts: &[&[u8]]) -> Vec<u8> {
+    let mut file = Vec::new(alloc);
+    for part in parts {
+        file.extend_from_slice(part).expect(rt, "memory");
+    }
+    file
+}
+
+/// Time packets that are added to a complete file stand behind its setup record, and the file stays so; beside time
+/// packets others have to be asked for, and a channel of their own.
+#[test]
+fn times_stand_behind_the_setup_record(rt: HostRuntime) {
+    let alloc = rt.alloc();
+    let file = recorded(&rt, alloc, &[EARLY]);
+    let setup = setup_of(0, [0x39, 0x30], [0x8A, 0x1C]);
+    let named = joined(&rt, alloc, &[&setup, &file]);
+    let text = additions(Some(b"AB"), "", 65535);
+    is_completed(&rt, alloc, &file, &text, &named);
+    let timed = joined(&rt, alloc, &[&setup, &time_of(7, 0x62), &file]);
+    is_completed(&rt, alloc, &named, &additions(None, START, 7), &timed);
+    is_completed(&rt, alloc, &timed, &additions(None, "", 65535), &timed);
+    let mut other = additions(None, START, 8);
+    is_refused(&rt, alloc, &timed, &other, CompleteFault::TimeTwice);
+    other.second_time = true;
+    let wanted = joined(
+        &rt,
+        alloc,
+        &[&setup, &time_of(7, 0x62), &time_of(8, 0x63), &file],
+    );
+    is_completed(&rt, alloc, &timed, &other, &wanted);
+    other.time_channel = 7;
+    is_refused(&rt, alloc, &timed, &other, CompleteFault::ChannelTaken);
+}
+
+/// Data of type 11 that is no time packet, for its thirteenth month, is none to be second to.
+#[test]
+fn another_body_is_no_time_packet(rt: HostRuntime) {
+    let alloc = rt.alloc();
+    let mut untold = time_of(7, 0x62);
+    untold[33] = 0x13;
+    let wanted = joined(&rt, alloc, &[&untold, &time_of(8, 0x63)]);
+    is_completed(&rt, alloc, &untold, &additions(None, START, 8), &wanted);
+}
+
+/// Setup records in front of a foreign recording stay there in their order, whatever their counters, also around an
+/// index (type 03), which is left out; one behind another packet is merged.
+#[test]
+fn setup_records_lead(rt: HostRuntime) {
+    let alloc = rt.alloc();
+    let file = recorded(&rt, alloc, &[EARLY]);
+    let mut index = time_of(7, 0x62);
+    index[15] = 0x03;
+    index[23] = 0xEE;
+    let first = setup_of(0, [0x3A, 0x30], [0x8B, 0x1C]);
+    let second = setup_of(9, [0x00, 0x00], [0x5A, 0xEC]);
+    let behind = setup_of(3, [0x01, 0x00], [0x55, 0xEC]);
+    let foreign = joined(
+        &rt,
+        alloc,
+        &[&index, &first, &index, &second, &file, &behind],
+    );
+    let wanted = joined(&rt, alloc, &[&first, &second, &behind, &file]);
+    let none = additions(None, "", 65535);
+    is_completed(&rt, alloc, &foreign, &none, &wanted);
+    is_completed(&rt, alloc, &wanted, &none, &wanted);
+    let twice = additions(Some(b"AB"), "", 65535);
+    is_refused(&rt, alloc, &foreign, &twice, CompleteFault::SetupTwice);
 }
 
 /// Times of the years 1970 to 2099 as seconds, and texts that are none.

@@ -10,7 +10,7 @@ use std::process::Abort;
 use test_values::FOREIGN;
 
 /// A message by block status word, gap times word, stamp and words.
-type Message = (u16, u16, u64, &'static [u16]);
+pub(crate) type Message = (u16, u16, u64, &'static [u16]);
 
 /// Messages, and the line of each as the first of channel 1.
 const ROWS: [(Message, &str); 25] = [
@@ -191,7 +191,7 @@ fn bytes_of(rt: &impl Abort, alloc: Global, words: &[u16]) -> Vec<u8> {
 }
 
 /// The line of a message.
-fn line_of(rt: &impl Abort, alloc: Global, message: Message, shown: Shown) -> Vec<u8> {
+pub(crate) fn line_of(rt: &impl Abort, alloc: Global, message: Message, shown: Shown) -> Vec<u8> {
     let (block, gaps, stamp, words) = message;
     let bytes = bytes_of(rt, alloc, words);
     let seen = Seen {

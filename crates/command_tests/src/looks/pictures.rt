@@ -4,7 +4,7 @@ use crate::looks::equal::same_in;
 use crate::looks::made::{FORMS, RETRY, recorded};
 use crate::looks::selections::selected;
 use bench_clock::Clock;
-use bench_draw::{MOST_BYTES, draw};
+use bench_draw::{MOST_BYTES, draw, first_step};
 use bench_select::{Bound, Selection};
 use ch11_reader::Index;
 use judge_rules::Bus;
@@ -50,9 +50,10 @@ const FOREIGN_ROWS: [Row; 2] = [
             ("class=\"t\">", 11),
             ("class=\"t\">100</text>", 1),
             (
-                "time in \u{b5}s from the start of the first message, at 0.0000000 s<",
+                "time in \u{b5}s from tick 0 of the recording; the first message begins at 0.0000000 s<",
                 1,
             ),
+            ("class=\"f\" d=", 1),
         ],
     ),
     (2, 9, &[("no message is selected", 1)]),
@@ -80,8 +81,8 @@ const RETRY_ROWS: [Row; 2] = [
     ),
 ];
 
-/// Of many messages no bar, but the mark of the one that has an error, and the load of line B; 24 of them with their
-/// labels, and of 60, twenty pixels for each, one in three, where a label takes fifty.
+/// Of many messages no bar, but the mark of the one that has an error, and the load of line B, with the same scale at
+/// line A; 24 of them with their labels, and of 60, twenty pixels for each, one in three, where a label takes fifty.
 const MANY_ROWS: [Row; 4] = [
     (
         1,
@@ -89,7 +90,8 @@ const MANY_ROWS: [Row; 4] = [
         &[
             ("<g>", 0),
             ("<title>message 200</title>", 1),
-            ("class=\"r\">100 %</text>", 1),
+            ("class=\"r\">100 %</text>", 2),
+            ("class=\"f\" d=", 1),
         ],
     ),
     (1, 100, &[("<g>", 100), ("class=\"r\">", 0)]),
@@ -104,21 +106,79 @@ const SPARSE_ROWS: [Row; 1] = [(
     100,
     &[
         ("<g>", 0),
-        ("class=\"r\">10 %</text>", 1),
+        ("class=\"r\">10 %</text>", 2),
         ("d=\"M90 146H90V114.0", 1),
         ("time in ms from", 1),
     ],
 )];
 
-/// A poll at 1.5 seconds, behind the time packet of 2024-12-31T23:59:59 at the first.
+/// A poll at 1.5 seconds, behind the time packet of 2024-12-31T23:59:59 at the first. Ten steps of 5 µs go into its
+/// 46.0 µs, the last of them 45 µs behind its start.
 const LATE_ROWS: [Row; 1] = [(
     1,
     1,
-    &[(
-        "time in \u{b5}s from the start of the first message, at 1.5000000 s, 2024-12-31T23:59:59.5000000 UTC<",
-        1,
-    )],
+    &[
+        (
+            "time in s from tick 0 of the recording; the first message begins at 1.5000000 s, \
+             2024-12-31T23:59:59.5000000 UTC<",
+            1,
+        ),
+        ("class=\"t\">", 10),
+        ("class=\"t\">1.500000</text>", 1),
+        ("class=\"t\">1.500045</text>", 1),
+    ],
 )];
+
+/// Ten frames of 1 ms: message A of each at its begin, message B 48.0 µs behind it. The last ends at 9.094 ms, so that
+/// a frame takes 131.9 pixels.
+const FRAMES: &str =
+    "channel 7\nterminal 5\nscript\nrepeat 10 { frame 1000 { send A mode 5 1 send B mode 5 2 } }\n";
+
+/// A mark over both lanes for each begin, and one in the legend; from the second message on the first frame has no
+/// begin. Three messages of a command tell no period, four do.
+const FRAMES_ROWS: [Row; 4] = [
+    (
+        1,
+        20,
+        &[
+            ("class=\"f\" d=", 11),
+            ("class=\"f\" d=\"M90.0 92V260\"", 1),
+            ("class=\"f\" d=\"M221.9 92V260\"", 1),
+            ("class=\"g\">1 ms</text>", 1),
+        ],
+    ),
+    (2, 20, &[("class=\"f\" d=", 10), ("class=\"g\">", 1)]),
+    (3, 8, &[("class=\"f\" d=", 1), ("class=\"g\">", 0)]),
+    (3, 10, &[("class=\"f\" d=", 5), ("class=\"g\">", 1)]),
+];
+
+/// The same with a message of the third frame that has no reply and is tried again: that begins no frame.
+const RETRIED: &str = "channel 7\nterminal 5\nfault 5 mute 1\nscript\n\
+    repeat 10 { frame 1000 { retry 1 send A mode 5 1 send B mode 5 2 } }\n";
+
+const RETRIED_ROWS: [Row; 1] = [(
+    1,
+    21,
+    &[("class=\"f\" d=", 11), ("class=\"g\">1 ms</text>", 1)],
+)];
+
+/// A hundred frames take 12.1 pixels each, a hundred and twenty 10.0, which is too close: there every second one is
+/// marked, by the first of the messages that it has alone.
+const NARROW: &str = "channel 7\nterminal 5\nscript\n\
+    repeat 60 { frame 1000 { send A mode 5 1 send A mode 5 2 } frame 1000 { send A mode 5 1 send A mode 5 3 } }\n";
+
+const NARROW_ROWS: [Row; 2] = [
+    (
+        1,
+        200,
+        &[("class=\"f\" d=", 101), ("class=\"g\">1 ms</text>", 1)],
+    ),
+    (
+        1,
+        240,
+        &[("class=\"f\" d=", 61), ("class=\"g\">2 ms</text>", 1)],
+    ),
+];
 
 /// The forms of messages by their labels.
 const FORMS_ROWS: [Row; 1] = [(
@@ -190,6 +250,32 @@ fn pieces_stand_where_they_should(rt: HostRuntime) {
     are_drawn(&rt, rt.alloc(), &dated, 1, &LATE_ROWS);
     let forms = recorded(&rt, rt.alloc(), &[FORMS]);
     are_drawn(&rt, rt.alloc(), &forms, 6, &FORMS_ROWS);
+}
+
+#[test]
+fn begins_of_frames_are_marked(rt: HostRuntime) {
+    let frames = recorded(&rt, rt.alloc(), &[FRAMES]);
+    are_drawn(&rt, rt.alloc(), &frames, 20, &FRAMES_ROWS);
+    let retried = recorded(&rt, rt.alloc(), &[RETRIED]);
+    are_drawn(&rt, rt.alloc(), &retried, 21, &RETRIED_ROWS);
+    let narrow = recorded(&rt, rt.alloc(), &[NARROW]);
+    are_drawn(&rt, rt.alloc(), &narrow, 240, &NARROW_ROWS);
+}
+
+/// The first multiple of a step at or behind a tick.
+const STEPS: [(u64, u64, u64); 5] = [
+    (0, 50, 0),
+    (1, 50, 50),
+    (50, 50, 50),
+    (51, 50, 100),
+    (15_000_001, 200, 15_000_200),
+];
+
+#[test]
+fn steps_are_told_from_tick_nought(rt: HostRuntime) {
+    for (begin, step, wanted) in STEPS {
+        assert_eq!(rt; first_step(begin, step), wanted);
+    }
 }
 
 /// Of the messages of three retries those of a channel, on a line, with an error, and from a bound on: how many they

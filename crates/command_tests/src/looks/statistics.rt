@@ -150,6 +150,47 @@ const LOAD_PAGE: &[&str] = &[
 ",
 ];
 
+/// The retry recording twice, one behind the other: twice 573.1 of 625.1 µs.
+const TWICE_PAGE: &[&str] = &[
+    "channel 1\n  span      1250.2 us\n  stamps    fall once: the span is that of 2 stretches\n",
+    "  messages  12\n  words     54\n  bus load  91.68 %\n",
+    "  errors    6 messages: no response or late 6, word count 2, sync 0, unsound word 0, other 0\n",
+    "  retries   6 on the other line\n",
+    BY_TERMINAL,
+    "         5         12          0          0          6          8       8.0     10.27         17.1\n",
+];
+
+/// The same three times.
+const THRICE_PAGE: &[&str] = &[
+    "channel 1\n  span      1875.3 us\n  stamps    fall 2 times: the span is that of 3 stretches\n",
+    "  messages  18\n  words     81\n  bus load  91.68 %\n",
+    "  errors    9 messages: no response or late 9, word count 3, sync 0, unsound word 0, other 0\n",
+    "  retries   9 on the other line\n",
+    BY_TERMINAL,
+    "         5         18          0          0          9         12       8.0     10.27         17.1\n",
+    "  load      over time is not told where stamps fall\n",
+];
+
+/// The same twice with more: no gap lies between the two, and the sequence number of the second begins anew.
+const TWICE_LONG_PAGE: &[&str] = &[
+    "messages are missing from channel 1: packets with the overflow flag 0, jumps of the sequence number 1\n",
+    "channel 1\n  span      1.2502 ms\n  stamps    fall once: the span is that of 2 stretches\n",
+    "  messages  12, 9598.46 a second\n  words     54\n  bus load  91.68 %\n",
+    "  gaps      4.0 us least, 18.0 us greatest\n",
+    "  errors    6 messages: no response or late 6, word count 2, sync 0, unsound word 0, other 0\n",
+    "  retries   6 on the other line\n",
+    "  status    8",
+    NO_BITS,
+    BY_SUBADDRESS,
+    "         5    R           1         12          6           4.0             18.0       9598.46\n",
+];
+
+/// The same twice in tables: no slice is told.
+const TWICE_ROWS: &[&str] = &[
+    "channel,terminal,receive,transmit,mode,errors,responses,least_us,mean_us,greatest_us\n",
+    "1,5,12,0,0,6,8,8.0,10.27,17.1\n\nchannel,begin_us,end_us,load_percent\n",
+];
+
 /// A page or tables: of which file, only of its messages with an error, only of this channel, what is shown, and the
 /// texts that are printed, one behind the other.
 type Row = (File, bool, Option<u16>, Shown, &'static [&'static str]);
@@ -159,6 +200,8 @@ type Row = (File, bool, Option<u16>, Shown, &'static [&'static str]);
 enum File {
     Empty,
     Retry,
+    Twice,
+    Thrice,
     Transfer,
     Foreign,
     Lossy,
@@ -181,10 +224,24 @@ const LOAD: Shown = Shown {
     ..PLAIN
 };
 
-const PAGES: [Row; 9] = [
+const ONLY_LOAD: Shown = Shown {
+    load: true,
+    ..PLAIN
+};
+
+const PAGES: [Row; 12] = [
     (File::Empty, false, None, PLAIN, &[]),
     (File::Retry, false, None, PLAIN, RETRY_PAGE),
     (File::Foreign, false, None, PLAIN, FOREIGN_PAGE),
+    (File::Twice, false, None, PLAIN, TWICE_PAGE),
+    (File::Thrice, false, None, ONLY_LOAD, THRICE_PAGE),
+    (
+        File::Twice,
+        false,
+        None,
+        LONG_BY_SUBADDRESS,
+        TWICE_LONG_PAGE,
+    ),
     (File::Transfer, false, Some(1), PLAIN, TRANSFER_PAGE),
     (File::Transfer, false, Some(2), LONG, &[]),
     (File::Retry, true, None, PLAIN, ERRORS_PAGE),
@@ -193,11 +250,12 @@ const PAGES: [Row; 9] = [
     (File::Transfer, false, None, LOAD, LOAD_PAGE),
 ];
 
-const TABLES: [Row; 4] = [
+const TABLES: [Row; 5] = [
     (File::Transfer, false, None, PLAIN, &[TRANSFER_ROWS]),
     (File::Channels, false, None, PLAIN, &[CHANNELS_ROWS]),
     (File::Channels, false, Some(1), PLAIN, &[TRANSFER_ROWS]),
     (File::Retry, false, None, LONG_BY_SUBADDRESS, LONG_ROWS),
+    (File::Twice, false, None, ONLY_LOAD, TWICE_ROWS),
 ];
 
 /// The bytes of a file. In the lossy one the packet with the message has the overflow flag, which is added to the sum
@@ -209,6 +267,8 @@ fn bytes_of(rt: &impl Abort, alloc: Global, file: File) -> Vec<u8> {
     match file {
         File::Empty => Vec::new(alloc),
         File::Retry => recorded(rt, alloc, &[RETRY]),
+        File::Twice => recorded(rt, alloc, &[RETRY, RETRY]),
+        File::Thrice => recorded(rt, alloc, &[RETRY, RETRY, RETRY]),
         File::Transfer => recorded(rt, alloc, &[TRANSFER]),
         File::Channels => recorded(rt, alloc, &[FORMS, TRANSFER]),
         File::Foreign => Vec::from_array(alloc, FOREIGN).ok().expect(rt, "memory"),

@@ -1,8 +1,8 @@
 //! What is said of mistakes, with the mark under the word at fault; the lines are those that stand behind the fault of
 //! a command.
 use bench_reasons::{
-    LineFault, MessageFault, Place, Reason, ScriptFault, Text, explained, job_script_reason,
-    line_reason, script_reason,
+    LineFault, MessageFault, Place, Reason, RuleFault, ScriptFault, Text, explained,
+    job_script_reason, line_reason, rule_reason, script_reason,
 };
 use std::alloc::Global;
 use std::process::Abort;
@@ -80,7 +80,14 @@ fn numbers_of_messages_are_marked(rt: HostRuntime) {
 }
 
 /// Scripts with a fault of another kind, at which column it is, and what is said.
-const SCRIPTS: [(&str, ScriptFault, u64, &str); 4] = [
+const SCRIPTS: [(&str, ScriptFault, u64, &str); 5] = [
+    (
+        "at 1 5 busy on",
+        ScriptFault::Token,
+        1,
+        "  a:1\n  | at 1 5 busy on\n  | ^^\n  this is a line of a job, and not of a script; a script has frames alone; \
+         bench check and bench run take jobs\n",
+    ),
     (
         "send C rx 5 1 [0001]",
         ScriptFault::Token,
@@ -156,18 +163,148 @@ fn lines_of_jobs_are_marked(rt: HostRuntime) {
     }
 }
 
+/// Jobs with a fault in their script, at which column of line 3 it is, and what is said.
+const JOBS: [(&str, ScriptFault, u64, &str); 4] = [
+    (
+        "channel 1\nscript\nsend A rx 5 31 [0001]\n",
+        ScriptFault::Message(MessageFault::Subaddress),
+        8,
+        "  a:3\n  | send A rx 5 31 [0001]\n  |             ^^\n  this number is out of its range; subaddresses are 1 \
+         to 30; 0 and 31 are those of mode commands, mode0 and mode\n",
+    ),
+    (
+        "channel 1\nscript\nfault 1 mute 1\n",
+        ScriptFault::Token,
+        1,
+        "  a:3\n  | fault 1 mute 1\n  | ^^^^^\n  this line of a job stands behind the line script; write it in front \
+         of the line script, where a job names its terminals, actions and faults\n",
+    ),
+    (
+        "channel 1\nscript\nrepeat 2 { at 1 5 busy on }\n",
+        ScriptFault::Token,
+        12,
+        "  a:3\n  | repeat 2 { at 1 5 busy on }\n  |            ^^\n  this line of a job stands behind the line \
+         script; write it in front of the line script, where a job names its terminals, actions and faults\n",
+    ),
+    (
+        "channel 1\nscript\nsend fault 1\n",
+        ScriptFault::Token,
+        6,
+        "  a:3\n  | send fault 1\n  |      ^^^^^\n  this cannot stand here; a line is A or B, for bus A or bus B\n",
+    ),
+];
+
 #[test]
 fn a_script_of_a_job_has_its_place_in_the_whole_text(rt: HostRuntime) {
     let alloc = rt.alloc();
-    let text = "channel 1\nscript\nsend A rx 5 31 [0001]\n";
-    let fault = ScriptFault::Message(MessageFault::Subaddress);
-    let reason = job_script_reason(alloc, text.as_bytes(), fault, place(3, 8)).ok();
+    for (text, fault, column, wanted) in JOBS {
+        let reason = job_script_reason(alloc, text.as_bytes(), fault, place(3, column)).ok();
+        is_said(&rt, alloc, text, reason.expect(&rt, "memory"), wanted);
+    }
+}
+
+/// Rules, at which line they have which fault, and what is said.
+const RULES: [(&str, u64, RuleFault, &str); 11] = [
+    (
+        "expect any ok\nexpect rx 31 1 ok\n",
+        2,
+        RuleFault::Range,
+        "  a:2\n  | expect rx 31 1 ok\n  |           ^^\n  this number is out of its range; terminal addresses are 0 \
+         to 30, or * for any; brx, brt and bmode are those to all\n",
+    ),
+    (
+        "expect tx 5 ok",
+        1,
+        RuleFault::Word,
+        "  a:1\n  | expect tx 5 ok\n  |             ^^\n  a check begins here, and the selector in front of it has a \
+         number less than it takes; subaddresses are 1 to 30, or * for any; mode commands are those of mode and \
+         bmode\n",
+    ),
+    (
+        "expect any",
+        1,
+        RuleFault::Word,
+        "  a:1\n  | expect any\n  |           ^\n  a word is missing here; a check is ok, fail, clean, status WORD \
+         [mask WORD], data WORD .., response LOW HIGH, period LOW HIGH or count LOW HIGH\n",
+    ),
+    (
+        "expect any ok ok",
+        1,
+        RuleFault::Word,
+        "  a:1\n  | expect any ok ok\n  |               ^^\n  nothing more may stand in this line; take it out\n",
+    ),
+    (
+        "expect line C any ok",
+        1,
+        RuleFault::Word,
+        "  a:1\n  | expect line C any ok\n  |             ^\n  this word cannot stand here; a line is A or B, for bus \
+         A or bus B\n",
+    ),
+    (
+        "# none\n",
+        2,
+        RuleFault::Word,
+        "  a:2\n  | \n  | ^\n  no rule stands above the end of the text; write a rule a line, as expect any ok\n",
+    ),
+    (
+        "expect channel 1 mode 5 2 status 12",
+        1,
+        RuleFault::Number,
+        "  a:1\n  | expect channel 1 mode 5 2 status 12\n  |                                  ^^\n  this is not \
+         written as a number that may stand here; a status word or a mask has exactly four hexadecimal digits, as \
+         2C00\n",
+    ),
+    (
+        "expect brx * data 0001 0F00/FF0",
+        1,
+        RuleFault::Number,
+        "  a:1\n  | expect brx * data 0001 0F00/FF0\n  |                        ^^^^^^^^\n  this is not written as a \
+         number that may stand here; a data word has four hexadecimal digits, as 00FF, perhaps with a mask, as \
+         0F00/FF00, or is ....\n",
+    ),
+    (
+        "expect any response 0 256",
+        1,
+        RuleFault::Range,
+        "  a:1\n  | expect any response 0 256\n  |                       ^^^\n  this number is out of its range; gaps \
+         in front of replies are 0 to 255 ticks of 0.1 us\n",
+    ),
+    (
+        "expect any count 9 3",
+        1,
+        RuleFault::Range,
+        "  a:1\n  | expect any count 9 3\n  |                    ^\n  the greatest number is below the least; write \
+         the least, and the greatest behind it, as in count 1 20\n",
+    ),
+    (
+        "expect any data .... .... .... .... .... .... .... .... .... .... .... .... .... .... .... .... .... .... \
+         .... .... .... .... .... .... .... .... .... .... .... .... .... .... ....",
+        1,
+        RuleFault::Range,
+        "  a:1\n  | .... .... .... .... .... .... .... .... .... .... .... .... .... .... .... .... ....\n  |         \
+         \u{20}                                                                       ^^^^\n  this is the \
+         thirty-third data word; a message has 1 to 32 data words\n",
+    ),
+];
+
+#[test]
+fn lines_of_rules_are_marked(rt: HostRuntime) {
+    for (text, number, fault, wanted) in RULES {
+        let reason = rule_reason(rt.alloc(), text.as_bytes(), number, fault).ok();
+        is_said(&rt, rt.alloc(), text, reason.expect(&rt, "memory"), wanted);
+    }
+}
+
+/// The first rule that is one too many has no word at fault.
+#[test]
+fn a_rule_too_many_is_marked_whole(rt: HostRuntime) {
+    let reason = rule_reason(rt.alloc(), b"expect any ok", 1, RuleFault::Range).ok();
     is_said(
         &rt,
-        alloc,
-        text,
+        rt.alloc(),
+        "expect any ok",
         reason.expect(&rt, "memory"),
-        "  a:3\n  | send A rx 5 31 [0001]\n  |             ^^\n  this number is out of its range; subaddresses are 1 \
-         to 30; 0 and 31 are those of mode commands, mode0 and mode\n",
+        "  a:1\n  | expect any ok\n  | ^^^^^^^^^^^^^\n  this is the ten-thousand-and-first rule; share the rules out \
+         over several texts\n",
     );
 }
