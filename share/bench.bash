@@ -53,17 +53,20 @@ _bench() {
         one) options="--channel --version $options" ;;
         assemble) options="--force $options" ;;
         run)
-            options="--prologue --judge --complete --setup --time --time-channel --out --report --force $options"
+            options="--prologue --judge --strict --complete --setup --time --time-channel --second-time $options"
+            options="--out --report --force $options"
             options="--live --pace --show --version --limit --queue --hold --drop $options"
             ;;
-        check) options="--summary --decode $options" ;;
+        check) options="--summary --decode --strict $options" ;;
         dump) options="--skip --time --decode --by-time --channel --line --only --errors --from --to $options" ;;
         stat) options="--csv --long --by --load --time --channel --line --only --errors --from --to $options" ;;
         export)
             options="--out --force --frames --hex --time --vcd $options"
             options="--channel --line --only --errors --from --to $options"
             ;;
-        complete) options="--out --force --setup --time --time-channel --version --skip $options" ;;
+        complete)
+            options="--out --force --setup --time --time-channel --second-time --version --skip $options"
+            ;;
         judge) options="--junit --force --skip $options" ;;
         draw) options="--out --force --channel --line --only --errors --from --to $options" ;;
     esac
