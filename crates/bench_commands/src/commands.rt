@@ -1,35 +1,19 @@
-//! The commands of `bench`: each reads its files, calls one proved function, and prints.
+//! The commands of `bench`: which of them is asked for is done, and how the process ends then.
 
-use crate::checking::check_jobs;
 use crate::command_line::{self, Asked, Request};
-use crate::completing::complete_recording;
-use crate::decoding::show_messages;
-use crate::drawing::draw_picture;
-use crate::explaining::show_explanations;
-use crate::exporting::export_recording;
 use crate::given_words::{word_at_fault, words_of};
-use crate::hosts::{Errors, Host};
-use crate::judging::judge_recording;
-use crate::large::{dump_large, fault_of_dump};
 use crate::left::tell_of_part;
-use crate::looking::{tell_of_loss, tell_of_unread_in};
 use crate::pointing::point;
-use crate::recording::run_jobs;
-use crate::replacing::may_write;
-use crate::statistics::show_statistics;
-use crate::stepping::step_through;
-use crate::streams::{Printable, on_stream, print_to_output};
-use bench_assemble::{AssembleFault, Sizes, assemble_text, print_sizes};
-use bench_dump::{dump, dump_with_times};
-use bench_files::{Hold, Kind, leads_to_output};
-use bench_one::{OneFault, one, print_bytes};
-use bench_requests::{Fault, Listing, is_large, read_whole, unless_gone, write_new};
+use bench_requests::Fault;
 use clap::Error;
 use clap::error::ErrorKind;
+use command_export::{completing, drawing, exporting};
+use command_judge::{checking, judging};
+use command_listing::{dumping, statistics};
+use command_parts::hosts::{Errors, Host};
+use command_step::{assembling, explaining, one_message, stepping};
 use std::io;
-use std::io::{IsTerminal, Write};
 use std::process::ExitCode;
-use std::rt::{Clock, Files};
 
 /// The exit status of a usage fault.
 const USAGE: u8 = 2;
@@ -110,134 +94,23 @@ fn stop<E: Eprint>(errors: &E, fault: &Fault<'_>) -> ExitCode {
     ExitCode::from(fault.status())
 }
 
+/// Does what is asked.
 fn obey<'a, R: Host, E: Errors>(rt: &R, errors: &E, asked: &Asked<'a>) -> Result<(), Fault<'a>>
 where
     R::Reader: 'static,
 {
     match &asked.request {
-        Request::One {
-            channel,
-            version,
-            text,
-        } => run_one(rt, *channel, *version, text),
-        Request::Assemble {
-            script,
-            image,
-            force,
-        } => run_assemble(rt, errors, script, image, *force),
-        Request::Run {
-            request,
-            completing,
-            going,
-        } => run_jobs(rt, errors, request, completing.as_ref(), going),
-        Request::Check(request) => check_jobs(rt, request),
-        Request::Dump {
-            recording,
-            skip,
-            times,
-        } => show(rt, errors, recording, *skip, *times),
-        Request::Decode(request) => show_messages(rt, errors, request),
-        Request::Step(request) => {
-            step_through(
-                rt,
-                errors,
-                request,
-                asked.context.is_shown_behind_replies(errors),
-            )
-        }
-        Request::Stat(request) => show_statistics(rt, errors, request),
-        Request::Export(request) => export_recording(rt, errors, request),
-        Request::Draw(request) => draw_picture(rt, errors, request),
-        Request::Complete(request) => complete_recording(rt, errors, request),
-        Request::Explain { codes } => show_explanations(rt, codes),
-        Request::Judge(request) => judge_recording(rt, errors, request),
-    }
-}
-
-fn run_one<'a, R: AllocGlobal + Print>(
-    rt: &R,
-    channel: u16,
-    version: u8,
-    text: &'a str,
-) -> Result<(), Fault<'a>> {
-    let bytes = match one(rt.alloc(), channel, version, text.as_bytes()) {
-        Ok(bytes) => bytes,
-        Err(OneFault::Memory) => return Err(Fault::Memory),
-        Err(fault) => return Err(Fault::Text(fault)),
-    };
-    let packet = PacketBytes {
-        bytes: bytes.as_slice(),
-    };
-    on_stream("-", print_to_output(rt, &packet))
-}
-
-/// The bytes of a packet.
-#[derive(Drop)]
-struct PacketBytes<'a> {
-    bytes: &'a [u8],
-}
-
-impl<'a> Printable for PacketBytes<'a> {
-    fn print_to<W: Write>(&self, out: &mut W) -> io::Result<()> {
-        print_bytes(out, self.bytes)
-    }
-}
-
-fn run_assemble<'a, R: Files<File: Hold> + AllocGlobal + Print, E: Eprint>(
-    rt: &R,
-    errors: &E,
-    script: &'a str,
-    image: &'a str,
-    force: bool,
-) -> Result<(), Fault<'a>> {
-    may_write(rt, image, Kind::Image, force, &[script])?;
-    let text = read_whole(rt, script)?;
-    let (bytes, sizes) = match assemble_text(rt.alloc(), text.as_slice()) {
-        Ok(made) => made,
-        Err(AssembleFault::Memory) => return Err(Fault::Memory),
-        Err(fault) => return Err(Fault::Script(fault)),
-    };
-    let is_output = leads_to_output(rt, image);
-    write_new(rt, image, Kind::Image, force, bytes.as_slice())?;
-    if is_output {
-        let _ = eprintln!(errors; "{sizes}");
-        return Ok(());
-    }
-    on_stream("-", print_to_output(rt, &sizes))
-}
-
-impl Printable for Sizes {
-    fn print_to<W: Write>(&self, out: &mut W) -> io::Result<()> {
-        print_sizes(out, self)
-    }
-}
-
-/// Prints a recording. One of more than 64 MiB is read packet by packet.
-fn show<'a, R: Files + AllocGlobal + Print + Clock, E: Eprint + IsTerminal>(
-    rt: &R,
-    errors: &E,
-    recording: &'a str,
-    skip: bool,
-    times: bool,
-) -> Result<(), Fault<'a>> {
-    if is_large(rt, recording) {
-        return dump_large(rt, errors, recording, skip, times);
-    }
-    let bytes = read_whole(rt, recording)?;
-    let mut out = Listing::ending(io::writer(rt));
-    let printed = if times {
-        dump_with_times(rt.alloc(), bytes.as_slice(), &mut out, skip)
-    } else {
-        dump(rt.alloc(), bytes.as_slice(), &mut out, skip)
-    };
-    match printed {
-        Ok(()) => {
-            if times {
-                tell_of_unread_in(rt, errors, recording, bytes.as_slice(), skip);
-            }
-            tell_of_loss(rt, errors, bytes.as_slice());
-            Ok(())
-        }
-        Err(fault) => unless_gone(out.is_gone(), Err(fault_of_dump(recording, fault, false))),
+        Request::One(request) => one_message::run(rt, request),
+        Request::Assemble(request) => assembling::run(rt, errors, request),
+        Request::Run(request) => command_run::run(rt, errors, request),
+        Request::Check(request) => checking::run(rt, request),
+        Request::Dump(request) => dumping::run(rt, errors, request),
+        Request::Step(request) => stepping::run(rt, errors, request, asked.context),
+        Request::Stat(request) => statistics::run(rt, errors, request),
+        Request::Export(request) => exporting::run(rt, errors, request),
+        Request::Draw(request) => drawing::run(rt, errors, request),
+        Request::Judge(request) => judging::run(rt, errors, request),
+        Request::Complete(request) => completing::run(rt, errors, request),
+        Request::Explain(request) => explaining::run(rt, request),
     }
 }

@@ -1,17 +1,17 @@
 //! Where jobs, report and recording do not agree: what was expected, and what the recording has.
 
-use crate::command_line::StepRequest;
 use bench_difference::difference;
 use bench_report::read_report;
 use bench_requests::{jobs_of, read_again, texts_again};
 use ch11_reader::Index;
+use command_step::stepping;
 use std::alloc::AllocError;
 use std::rt::Files;
 
 /// The lines that say so. The files are read once more, and there are none where that fails.
 pub(crate) fn difference_of<R: Files + AllocGlobal>(
     rt: &R,
-    step: &StepRequest<'_>,
+    step: &stepping::Request<'_>,
     channel: u16,
     number: u32,
 ) -> Result<Option<String>, AllocError> {

@@ -16,15 +16,10 @@ pub(crate) fn tell_of_part<R: Files + AllocGlobal, E: Eprint>(
     if !asked.context.is_shown() {
         return;
     }
-    let Request::Run {
-        request,
-        completing,
-        ..
-    } = &asked.request
-    else {
+    let Request::Run(request) = &asked.request else {
         return;
     };
-    if let Some(part) = part_left(rt, request, completing.is_some(), fault) {
+    if let Some(part) = part_left(rt, &request.run, request.completing.is_some(), fault) {
         let _ = eprintln!(errors; "  what was taken stands in {part}; bench dump --skip shows it");
     }
 }

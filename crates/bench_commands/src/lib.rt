@@ -1,44 +1,20 @@
-//! The commands of `bench`: the command line, the files, the faults and the exit statuses; each command calls
-//! proved functions of crates below.
+//! The commands of `bench`: the command line, and the faults with the lines behind them and the exit statuses; each
+//! command stands in a crate below.
 //!
-//! It may know: all commands, and what their calls take and give. It has no tests: each command is tried by
-//! `.ci/commands`, and its faults by `.ci/faults`. It has no wrong bodies.
+//! It may know: all commands, what commands share, and requests; for the lines behind a fault messages, host actions,
+//! gaps and planned faults, the text of scripts, jobs, the reader, reports, rules, files, words of a text, the bench
+//! one step at a time, `bench_one`, `bench_assemble`, `bench_explain`, `bench_reasons` and `bench_difference`. It has
+//! no tests: each command is tried by `.ci/commands`, and its faults by `.ci/faults`. It has no wrong bodies.
 #![tactic(auto)]
 
-mod checking;
 mod command_line;
 mod commands;
-mod completed_run;
-mod completing;
-mod context;
-mod decoding;
 mod differing;
-mod drawing;
-mod explaining;
-mod exporting;
-mod extracting;
 mod given_words;
-mod hosts;
-mod judged;
-mod judged_run;
-mod judging;
-mod large;
 mod left;
-mod live_run;
-mod looking;
-mod looking_line;
 mod misplaced;
-mod options;
 mod pointing;
 mod reasoning;
-mod recording;
 mod refusing;
-mod replacing;
-mod run_line;
-mod selecting;
-mod statistics;
-mod stepping;
-mod streams;
-mod watching;
 
 pub use commands::run;

@@ -1,8 +1,9 @@
 //! What is said of a file that is of another kind than the one that is read in its place.
 
 use crate::command_line::Request;
-use crate::looking::is_lossy;
 use bench_files::{Kind, is_of_kind};
+use command_listing::dumping;
+use command_parts::looking::is_lossy;
 use std::alloc::AllocError;
 use std::fmt::Write;
 use std::fs;
@@ -170,11 +171,11 @@ fn read_beginning<R: Files>(rt: &R, name: &str, beginning: &mut [u8]) -> Option<
 /// The file that a request names as a recording, if any.
 fn recording_in<'a>(request: &Request<'a>) -> Option<&'a str> {
     match request {
-        Request::Dump { recording, .. } => Some(*recording),
-        Request::Decode(request) => Some(request.recording),
+        Request::Dump(dumping::Request::Packets(packets)) => Some(packets.recording),
+        Request::Dump(dumping::Request::Messages(messages)) => Some(messages.recording),
         Request::Stat(request) => Some(request.recording),
         Request::Export(request) => Some(request.extract.recording),
-        Request::Draw(request) => Some(request.recording),
+        Request::Draw(request) => Some(request.extract.recording),
         Request::Complete(request) => Some(request.recording),
         Request::Judge(request) => Some(request.recording),
         Request::Step(request) => Some(request.recording),

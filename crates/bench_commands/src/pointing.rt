@@ -12,6 +12,7 @@ use bench_explain::explain;
 use bench_one::OneFault;
 use bench_reasons::{Place, Reason, Text, explained, put_place};
 use bench_requests::{Fault, read_again};
+use command_listing::dumping;
 use frame_text::Cause;
 use job_file::{JobError, read_job};
 use judge_rules::RuleError;
@@ -67,11 +68,11 @@ fn particular<R: Files + AllocGlobal>(
     fault: &Fault<'_>,
 ) -> Result<Option<String>, AllocError> {
     match (fault, request) {
-        (Fault::Text(OneFault::Text { cause, place }), Request::One { text, .. }) => {
-            text_lines(rt, "TEXT", text.as_bytes(), Text::Send, *cause, *place)
+        (Fault::Text(OneFault::Text { cause, place }), Request::One(one)) => {
+            text_lines(rt, "TEXT", one.text.as_bytes(), Text::Send, *cause, *place)
         }
-        (Fault::Script(AssembleFault::Text { cause, place }), Request::Assemble { script, .. }) => {
-            script_at_fault(rt, request, script, *cause, *place)
+        (Fault::Script(AssembleFault::Text { cause, place }), Request::Assemble(assemble)) => {
+            script_at_fault(rt, request, assemble.script, *cause, *place)
         }
         (Fault::Job(error), _) => job_at_fault(rt, request, error),
         (Fault::Run(error), _) => refusal_of(rt, request, *error),
@@ -91,7 +92,7 @@ fn particular<R: Files + AllocGlobal>(
 /// The jobs that a request names.
 fn jobs_in<'r, 'a>(request: &'r Request<'a>) -> &'r [&'a str] {
     match request {
-        Request::Run { request: run, .. } => run.jobs.as_slice(),
+        Request::Run(request) => request.run.jobs.as_slice(),
         Request::Check(request) => request.jobs.as_slice(),
         Request::Step(step) => step.jobs.as_slice(),
         _ => &[],
@@ -228,7 +229,7 @@ fn report_at_fault<R: Files + AllocGlobal>(
 fn rules_in<'a>(request: &Request<'a>) -> Option<&'a str> {
     match request {
         Request::Judge(judge) => judge.rules,
-        Request::Run { request: run, .. } => run.judge,
+        Request::Run(request) => request.run.judge,
         _ => None,
     }
 }
@@ -258,10 +259,10 @@ fn crossed_bounds<R: AllocGlobal>(
     request: &Request<'_>,
 ) -> Result<Option<String>, AllocError> {
     let selection = match request {
-        Request::Decode(request) => &request.selection,
+        Request::Dump(dumping::Request::Messages(messages)) => &messages.selection,
         Request::Stat(request) => &request.selection,
         Request::Export(request) => &request.extract.selection,
-        Request::Draw(extract) => &extract.selection,
+        Request::Draw(request) => &request.extract.selection,
         _ => return Ok(None),
     };
     let Some((from, to)) = selection.crossed() else {

@@ -15,14 +15,15 @@ pub(crate) fn refusal_of<R: Files + AllocGlobal>(
     error: WorldError,
 ) -> Result<Option<String>, AllocError> {
     match (error, request) {
-        (WorldError::Settings, Request::Run { request: run, .. }) => Ok(Some(setting_at_fault(
-            rt, run,
-        )?)),
+        (WorldError::Settings, Request::Run(request)) => {
+            Ok(Some(setting_at_fault(rt, &request.run)?))
+        }
         (WorldError::Settings, Request::Check(request)) => {
             Ok(Some(count_of_jobs(rt, request.jobs.len())?))
         }
-        (WorldError::ChannelTwice, Request::Run { request: run, .. }) => jobs_of_one_channel(
-            rt, &run.jobs,
+        (WorldError::ChannelTwice, Request::Run(request)) => jobs_of_one_channel(
+            rt,
+            &request.run.jobs,
         ),
         (WorldError::ChannelTwice, Request::Check(request)) => jobs_of_one_channel(
             rt,

@@ -1,0 +1,167 @@
+//! `bench draw`: the messages of a recording as a picture.
+
+use bench_draw::{DrawFault, Drawing, draw, draw_from};
+use bench_files::{Hold, Kind};
+use bench_requests::{Fault, is_large, read_whole, write_new};
+use bench_select::Selection;
+use bench_watch::Watch;
+use clap::{ArgMatches, Command};
+use command_parts::extracting::{Extract, extract_options};
+use command_parts::large::{Large, clock_of_large, fault_of_reading};
+use command_parts::looking::{clock_if, index_of, tell_of_unread};
+use command_parts::options::command_of;
+use command_parts::selecting::selection_options;
+use std::alloc::{AllocError, Global};
+use std::io::IsTerminal;
+use std::rt::{Clock, Files};
+
+/// What the help of `bench draw` ends with.
+const NOTES: &str = "\
+Each channel has a lane for bus A and one for bus B. Over the time that a message took stand its command words
+with the terminal that they call, its data words, and the status words with the terminal that answered; over it
+its number, the address, R to receive or T to transmit and the subaddress; a red mark stands for an error and its
+kind. Of up to 24 messages all are labelled, of more those that have the room. Where messages are too close for
+that, the load of the line in percent is drawn; --from and --to show a part of them. Times are those of the
+recording, from tick 0 of its stamps. Where commands recur with a period, a dashed line marks the begin of a
+frame. Where the mouse rests on a bar, a browser shows the message decoded.
+
+Example:
+  bench draw flight.ch11 --out flight.svg
+  bench draw flight.ch11 --out retry.svg --channel 2 --from 15 --to 20";
+
+/// The command line of `bench draw`.
+pub fn command<'a>(alloc: Global) -> Result<Command<'a>, AllocError> {
+    let about = "Draws the messages of a recording over time, as a picture for a browser";
+    let out = "The file to write the picture to, as SVG";
+    let rows = extract_options("The Chapter 11 file to draw", out);
+    let selection = selection_options();
+    command_of(alloc, "draw", about, NOTES, &[&rows, &selection])
+}
+
+/// What is to be drawn, and where to.
+#[derive(Debug, Drop)]
+pub struct Request<'a> {
+    /// Which messages, and the file to write to.
+    pub extract: Extract<'a>,
+}
+
+/// What a command line asks of `bench draw`.
+pub fn request_in<'a>(given: &ArgMatches<'a>) -> Request<'a> {
+    Request {
+        extract: Extract::given(given),
+    }
+}
+
+/// The fault of a recording with this name that was not drawn.
+fn fault_of_drawing<'a>(name: &'a str, fault: DrawFault) -> Fault<'a> {
+    match fault {
+        DrawFault::Opening(error) => Fault::of_stream(name, &error),
+        DrawFault::Recording(fault) => fault_of_reading(name, fault),
+    }
+}
+
+/// Writes the messages of a recording, or those that were selected, as a picture. The out file takes the place of what
+/// is there once it is whole; it may not be the recording itself. Where a selection has no message, nothing is written,
+/// and that is said. A recording of more than 64 MiB is read packet by packet.
+pub fn run<'a, R: Files<File: Hold> + AllocGlobal + Clock, E: Eprint + IsTerminal>(
+    rt: &R,
+    errors: &E,
+    request: &Request<'a>,
+) -> Result<(), Fault<'a>> {
+    let extract = &request.extract;
+    let selection = extract.judge(rt, Kind::Picture)?;
+    let drawn = draw_recording(rt, errors, extract.recording, &selection)?;
+    put_picture(rt, extract, &drawn.drawing)?;
+    tell_of_unread(errors, extract.recording, drawn.unread);
+    Ok(())
+}
+
+/// Puts a picture into the out file. One without a message is none where messages were chosen.
+fn put_picture<'a, R: Files<File: Hold> + AllocGlobal>(
+    rt: &R,
+    extract: &Extract<'a>,
+    drawing: &Drawing,
+) -> Result<(), Fault<'a>> {
+    if drawing.messages == 0 && !extract.selection.is_empty() {
+        return Err(Fault::NoneSelected);
+    }
+    let (kind, text) = (Kind::Picture, drawing.text.as_slice());
+    write_new(rt, extract.out, kind, extract.force, text)
+}
+
+/// A picture of a recording.
+#[derive(Drop)]
+struct Drawn {
+    drawing: Drawing,
+    /// Whether the recording has time packets of which none can be read.
+    unread: bool,
+}
+
+/// Draws a recording, read whole or packet by packet.
+fn draw_recording<'a, R: Files + AllocGlobal + Clock, E: Eprint + IsTerminal>(
+    rt: &R,
+    errors: &E,
+    name: &'a str,
+    selection: &Selection,
+) -> Result<Drawn, Fault<'a>> {
+    if is_large(rt, name) {
+        draw_large(rt, errors, name, selection)
+    } else {
+        draw_whole(rt, name, selection)
+    }
+}
+
+/// Draws a recording that is read whole.
+fn draw_whole<'a, R: Files + AllocGlobal>(
+    rt: &R,
+    name: &'a str,
+    selection: &Selection,
+) -> Result<Drawn, Fault<'a>> {
+    let bytes = read_whole(rt, name)?;
+    let index = index_of(rt.alloc(), bytes.as_slice(), false)?;
+    let read = clock_if(rt.alloc(), bytes.as_slice(), &index, true)?;
+    match draw(rt.alloc(), &index, selection, &read.clock) {
+        Ok(drawing) => Ok(Drawn {
+            drawing,
+            unread: read.unread,
+        }),
+        Err(fault) => Err(fault_of_drawing(name, fault)),
+    }
+}
+
+/// Draws a recording that is read packet by packet.
+fn draw_large<'a, R: Files + AllocGlobal + Clock, E: Eprint + IsTerminal>(
+    rt: &R,
+    errors: &E,
+    name: &'a str,
+    selection: &Selection,
+) -> Result<Drawn, Fault<'a>> {
+    let watch = Watch::begin(rt, errors, name);
+    let drawn = draw_watched(rt, name, &watch, selection);
+    watch.end();
+    drawn
+}
+
+/// Draws a recording that is watched: a pass for its clock, and those of the picture.
+fn draw_watched<'a, R: Files + AllocGlobal + Clock, E: Eprint + IsTerminal>(
+    rt: &R,
+    name: &'a str,
+    watch: &Watch<'_, R, E>,
+    selection: &Selection,
+) -> Result<Drawn, Fault<'a>> {
+    let read = clock_of_large(rt, name, watch, false, true)?;
+    let large = Large {
+        rt,
+        name,
+        watch,
+        skip: false,
+        prints: false,
+    };
+    match draw_from(rt.alloc(), &large, selection, &read.clock) {
+        Ok(drawing) => Ok(Drawn {
+            drawing,
+            unread: read.unread,
+        }),
+        Err(fault) => Err(fault_of_drawing(name, fault)),
+    }
+}

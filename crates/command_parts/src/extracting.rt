@@ -1,0 +1,57 @@
+//! Messages of a recording that are written to a file of another kind, as `bench export` and `bench draw` do.
+
+use crate::options::{Row, argument, file, force};
+use crate::replacing::may_write;
+use crate::selecting::{GivenSelection, given_selection, selection_in};
+use bench_files::Kind;
+use bench_requests::Fault;
+use bench_select::Selection;
+use clap::ArgMatches;
+use std::rt::Files;
+
+/// Which messages are written, and where to.
+#[derive(Debug, Drop)]
+pub struct Extract<'a> {
+    /// The file of the recording.
+    pub recording: &'a str,
+    /// The file to write to.
+    pub out: &'a str,
+    /// Which of its messages.
+    pub selection: GivenSelection<'a>,
+    /// Whether a file of another kind may be replaced.
+    pub force: bool,
+}
+
+/// What says so on a command line, but for the options that choose messages: the recording and the out file, as the
+/// help describes them.
+pub fn extract_options<'a>(recording: &'a str, out: &'a str) -> [Row<'a>; 3] {
+    [
+        argument("RECORDING", recording),
+        file("out", out).required(),
+        force(),
+    ]
+}
+
+impl<'a> Extract<'a> {
+    /// What a command line says of it.
+    pub fn given(given: &ArgMatches<'a>) -> Extract<'a> {
+        Extract {
+            recording: given.get_str("RECORDING").unwrap_or(""),
+            out: given.get_str("out").unwrap_or(""),
+            selection: given_selection(given),
+            force: given.get_flag("force"),
+        }
+    }
+
+    /// The selection that is asked for. Its fault comes before that of an out file that is not to be replaced by one of
+    /// this kind, or that is the recording itself.
+    pub fn judge<R: Files + AllocGlobal>(
+        &self,
+        rt: &R,
+        kind: Kind,
+    ) -> Result<Selection, Fault<'a>> {
+        let selection = selection_in(&self.selection)?;
+        may_write(rt, self.out, kind, self.force, &[self.recording])?;
+        Ok(selection)
+    }
+}
