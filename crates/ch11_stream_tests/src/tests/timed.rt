@@ -135,9 +135,10 @@ fn time_packets_that_can_not_be_read_are_told(rt: HostRuntime) {
     put_time(&mut file, 0, 1000, &OTHER);
     put_message(&mut file, 36, 1000);
     put_time(&mut file, 100, 2000, &OTHER);
-    same(&rt, &is_unread(&rt, alloc, &file[..100]), &true);
+    let front = file.get(..100).unwrap_or(&[]);
+    same(&rt, &is_unread(&rt, alloc, front), &true);
     same(&rt, &is_unread(&rt, alloc, &file), &true);
-    let second = reader_of(&file[36..100], 7);
+    let second = reader_of(file.get(36..100).unwrap_or(&[]), 7);
     let line = "packet 0 channel 1 type 19 seq 0 flags 80 messages 1
 message 1 channel 1 stamp 1000 block 0000 gaps 0050 words 2823 0001 0002 0003 2800
 ";

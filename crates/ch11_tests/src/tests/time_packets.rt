@@ -207,6 +207,15 @@ fn clock_of(rt: &impl Abort, alloc: Global, file: &[u8]) -> ReadClock {
     ReadClock::of(alloc, file, index.packets()).expect(rt, "memory")
 }
 
+/// Packets, one behind the other.
+fn joined(rt: &impl Abort, alloc: Global, packets: &[[u8; 36]]) -> Vec<u8> {
+    let mut file = Vec::new(alloc);
+    for packet in packets {
+        file.extend_from_slice(packet).expect(rt, "memory");
+    }
+    file
+}
+
 /// The last half second of day 365, of a year of 365 days and of one of 366.
 const SHORT: [u8; 10] = [0x30, 0, 0, 0, 0x50, 0x59, 0x59, 0x23, 0x65, 3];
 
@@ -249,12 +258,14 @@ fn years_end(rt: HostRuntime) {
 /// above those before it does not count.
 #[test]
 fn forms_follow_one_rule(rt: HostRuntime) {
-    let mut file = [0u8; 144];
-    file[..36].copy_from_slice(&packet_of(1000, &LEAP));
-    file[36..72].copy_from_slice(&packet_of(2000, &DATE));
-    file[72..108].copy_from_slice(&packet_of(2000, &SHORT));
-    file[108..].copy_from_slice(&packet_of(3000, &SHORT));
-    let read = clock_of(&rt, rt.alloc(), &file);
+    let packets = [
+        packet_of(1000, &LEAP),
+        packet_of(2000, &DATE),
+        packet_of(2000, &SHORT),
+        packet_of(3000, &SHORT),
+    ];
+    let file = joined(&rt, rt.alloc(), &packets);
+    let read = clock_of(&rt, rt.alloc(), file.as_slice());
     for (stamp, text) in [
         (999, ""),
         (1999, "365:23:59:59.5000999"),
@@ -266,18 +277,19 @@ fn forms_follow_one_rule(rt: HostRuntime) {
     }
 }
 
+/// The first ten bytes of the body with a date, which are none.
+const CUT: [u8; 10] = [0x30, 3, 0, 0, 0x50, 0x59, 0x59, 0x23, 0x31, 0x12];
+
 /// Whether a recording of one packet of type 11, or of two, has time packets of which none can be read.
 #[test]
 fn clocks_tell_that_nothing_can_be_read(rt: HostRuntime) {
     let alloc = rt.alloc();
-    let other = packet_of(1000, DATE.get(..10).unwrap_or(&[]));
+    let other = packet_of(1000, &CUT);
     let read = clock_of(&rt, alloc, &other);
     same(&rt, &read.unread, &true);
     same(&rt, &read.clock.is_empty(), &true);
-    let mut file = [0u8; 72];
-    file[..36].copy_from_slice(&other);
-    file[36..].copy_from_slice(&packet_of(1000, &SHORT));
-    let read = clock_of(&rt, alloc, &file);
+    let file = joined(&rt, alloc, &[other, packet_of(1000, &SHORT)]);
+    let read = clock_of(&rt, alloc, file.as_slice());
     same(&rt, &read.unread, &false);
     tells(&rt, &read.clock, 1000, "365:23:59:59.5000000");
     same(&rt, &clock_of(&rt, alloc, &[]).unread, &false);
