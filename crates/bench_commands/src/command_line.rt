@@ -124,7 +124,36 @@ pub fn misused(alloc: Global, fault: &Fault<'_>) -> Result<Error, AllocError> {
     bench_command(alloc)?.error(ErrorKind::ArgumentConflict, text.as_str())
 }
 
+/// The command line with all commands.
 fn bench_command<'a>(alloc: Global) -> Result<Command<'a>, AllocError> {
+    let bench = without_commands(alloc);
+    let bench = with(bench, one_message::command(alloc));
+    let bench = with(bench, assembling::command(alloc));
+    let bench = with(bench, command_run::command(alloc));
+    let bench = with(bench, checking::command(alloc));
+    let bench = with(bench, dumping::command(alloc));
+    let bench = with(bench, stepping::command(alloc));
+    let bench = with(bench, statistics::command(alloc));
+    let bench = with(bench, exporting::command(alloc));
+    let bench = with(bench, drawing::command(alloc));
+    let bench = with(bench, judging::command(alloc));
+    let bench = with(bench, completing::command(alloc));
+    with(bench, explaining::command(alloc))
+}
+
+/// A command line with one more command behind those that it has, where both could be made.
+fn with<'a>(
+    bench: Result<Command<'a>, AllocError>,
+    command: Result<Command<'a>, AllocError>,
+) -> Result<Command<'a>, AllocError> {
+    match (bench, command) {
+        (Ok(bench), Ok(command)) => bench.subcommand(command),
+        _ => Err(AllocError),
+    }
+}
+
+/// The command line without its commands.
+fn without_commands<'a>(alloc: Global) -> Result<Command<'a>, AllocError> {
     Command::new(alloc, "bench")
         .about(
             "A test bench for MIL-STD-1553B data buses with a recorder of IRIG 106-17 Chapter 11",
@@ -132,22 +161,10 @@ fn bench_command<'a>(alloc: Global) -> Result<Command<'a>, AllocError> {
         .version("0.1.0")
         .bin_name("bench")?
         .subcommand_required(true)
-        .arg(context_option(alloc))?
         .arg_required_else_help(true)
         .after_help(
             "Exit status: 0 done, 1 the input was refused, 2 usage, 3 a file or a stream failed, 4 no memory, 5 a rule \
              is not held.",
         )
-        .subcommand(one_message::command(alloc)?)?
-        .subcommand(assembling::command(alloc)?)?
-        .subcommand(command_run::command(alloc)?)?
-        .subcommand(checking::command(alloc)?)?
-        .subcommand(dumping::command(alloc)?)?
-        .subcommand(stepping::command(alloc)?)?
-        .subcommand(statistics::command(alloc)?)?
-        .subcommand(exporting::command(alloc)?)?
-        .subcommand(drawing::command(alloc)?)?
-        .subcommand(judging::command(alloc)?)?
-        .subcommand(completing::command(alloc)?)?
-        .subcommand(explaining::command(alloc)?)
+        .arg(context_option(alloc))
 }

@@ -87,18 +87,38 @@ fn first_word(text: &[u8]) -> &[u8] {
     b""
 }
 
+/// The words with which lines of a job begin.
+const JOB_WORDS: &[&str] = &[
+    "channel", "start", "terminal", "at", "fault", "faults", "series",
+];
+
+/// The words with which frames of a script begin.
+const SCRIPT_WORDS: &[&str] = &[
+    "define", "send", "retry", "gap", "repeat", "if", "until", "call", "frame",
+];
+
 /// What a text has in it that begins with this word.
 fn content_behind(word: &[u8]) -> Option<Content> {
-    match std::str::from_utf8(word) {
-        Ok("channel" | "start" | "terminal" | "at" | "fault" | "faults" | "series") => {
-            Some(Content::Job)
-        }
-        Ok("expect") => Some(Content::Rules),
-        Ok("define" | "send" | "retry" | "gap" | "repeat" | "if" | "until" | "call" | "frame") => {
-            Some(Content::Script)
-        }
-        _ => None,
+    if is_one_of(word, JOB_WORDS) {
+        return Some(Content::Job);
     }
+    if word == b"expect".as_slice() {
+        return Some(Content::Rules);
+    }
+    if is_one_of(word, SCRIPT_WORDS) {
+        return Some(Content::Script);
+    }
+    None
+}
+
+/// Whether a word is one of these.
+fn is_one_of(word: &[u8], words: &[&str]) -> bool {
+    for known in words {
+        if known.as_bytes() == word {
+            return true;
+        }
+    }
+    false
 }
 
 /// The lines for a file that begins so where another content is wanted: what it is, and where the command takes one;
