@@ -8,8 +8,8 @@ use Rattle.mil_message.specs.declared.outcome_test.OutcomeTest.TheVariants.{Bit}
 use Rattle.frame_tree.specs.Tree.{Condition, asked, negated, both, either}
 use Rattle.frame_tree.specs.Bounds.{operators}
 use Rattle.frame_text.specs.Tokens.{tokens}
-use Rattle.frame_text.specs.Reading.{Tokens, ◌>>=◌, same_bytes, past, to_the_end}
-use Rattle.frame_text.specs.Conditions.{Reader, condition_at, condition_from, condition_of, condition_word, below_at, name_at, bit_or_misplaced, pair_at, condition_of_text}
+use Rattle.frame_text.specs.Reading.{Tokens, at_first, cause_alone, ◌>>=◌, same_bytes, past, to_the_end}
+use Rattle.frame_text.specs.Conditions.{Reader, condition_at, condition_from, condition_of, condition_word, below_at, name_at, bit_or_misplaced, pair_at, whole_condition, condition_of_text}
 use Rattle.frame_text.specs.declared.faults.Cause.{Cause}
 use Rattle.frame_text.specs.declared.faults.Cause.TheVariants as cause
 use Rattle.frame_text.specs.declared.keywords.ConditionWord.{ConditionWord}
@@ -18,7 +18,7 @@ use Rattle.frame_text.proofs.Soundness.{bind_ok, ok_is, condition_ok}
 use Rattle.frame_grammar.specs.Conditions.{SpellCondition, HasCondition}
 use Rattle.frame_grammar.specs.Conditions.{SpellCondition as rule}
 use Rattle.frame_grammar.specs.Laws.{ConditionsAreDerived}
-use Rattle.frame_grammar.proofs.Pieces.{same_is, of_choice, past_ok, end_ok, three, begun}
+use Rattle.frame_grammar.proofs.Pieces.{same_is, of_choice, answered_is, whole_ok, first_ok, past_ok, end_ok, three, begun}
 
 -- the word that begins a condition
 abbrev Stands : ConditionWord → List ℕ → Type 0
@@ -93,19 +93,22 @@ word_spelled below all key.Bit w ts x s e =
     let v = name_spelled ts n.0 n.1 in
     subst (Spelled (w ∷ ts)) (ok_is _ x n.2) (codes "bit" ∷ v.0 ∷ [], begun s v.1, rule.bit v.2)
 word_spelled below all key.Not w ts x s e =
-    let r = bind_ok below _ x e in
+    let r = bind_ok (at_first (w ∷ ts) below) _ x e in
+    let known = first_ok (w ∷ ts) below r.0 r.1 in
     let a = bind_ok (r.0 ts) _ x r.2 in
-    let p = all r.0 r.1 ts a.0 a.1 in
+    let p = all r.0 known ts a.0 a.1 in
     subst (Spelled (w ∷ ts)) (ok_is _ x a.2) (codes "not" ∷ p.0, begun s p.1, rule.not p.2)
 word_spelled below all key.All w ts x s e =
-    let r = bind_ok below _ x e in
+    let r = bind_ok (at_first (w ∷ ts) below) _ x e in
+    let known = first_ok (w ∷ ts) below r.0 r.1 in
     let a = bind_ok (pair_at r.0 ts) _ x r.2 in
-    let p = pair_spelled r.0 (all r.0 r.1) ts a.0 a.1 in
+    let p = pair_spelled r.0 (all r.0 known) ts a.0 a.1 in
     subst (Spelled (w ∷ ts)) (ok_is _ x a.2) (codes "all" ∷ codes "(" ∷ p.0 ++ p.1 ++ codes ")" ∷ [], in_front (codes "all") w ts p.0 p.1 a.0.1 s p.2, rule.all p.3 p.4)
 word_spelled below all key.Any w ts x s e =
-    let r = bind_ok below _ x e in
+    let r = bind_ok (at_first (w ∷ ts) below) _ x e in
+    let known = first_ok (w ∷ ts) below r.0 r.1 in
     let a = bind_ok (pair_at r.0 ts) _ x r.2 in
-    let p = pair_spelled r.0 (all r.0 r.1) ts a.0 a.1 in
+    let p = pair_spelled r.0 (all r.0 known) ts a.0 a.1 in
     subst (Spelled (w ∷ ts)) (ok_is _ x a.2) (codes "any" ∷ codes "(" ∷ p.0 ++ p.1 ++ codes ")" ∷ [], in_front (codes "any") w ts p.0 p.1 a.0.1 s p.2, rule.any p.3 p.4)
 word_spelled below all key.NoCondition w ts x s e = absurd (cc)
 
@@ -114,7 +117,7 @@ unfolding condition_from below_at
 condition_spelled d [] x e = absurd (cc)
 condition_spelled zero (w ∷ ts) x e = word_spelled (Err cause.Depth) (λ reader i. absurd (cc)) (condition_word w) w ts x (stands w) e
 condition_spelled (suc d) (w ∷ ts) x e =
-    word_spelled (Ok (condition_at d)) (λ reader i. subst AllSpelled (ok_is _ reader i) (condition_spelled d)) (condition_word w) w ts x (stands w) e
+    word_spelled (Ok (condition_at d)) (λ reader i. subst AllSpelled (answered_is _ reader i) (condition_spelled d)) (condition_word w) w ts x (stands w) e
 
 pair_read : (reader : Reader) (a b : Condition) (one other rest : Tokens) → reader (one ++ (other ++ codes ")" ∷ rest)) ≡ Ok (a, other ++ codes ")" ∷ rest) → reader (other ++ codes ")" ∷ rest) ≡ Ok (b, codes ")" ∷ rest)
     → pair_at reader (codes "(" ∷ one ++ other ++ codes ")" ∷ [] ++ rest) ≡ Ok ((a, b), rest)
@@ -147,7 +150,7 @@ conditions_derived text c = (forth, back)
   where
     forth : condition_of_text text ≡ Ok c → HasCondition text c
     forth e =
-        let x = bind_ok (condition_at 16 (tokens text)) _ c e in
+        let x = bind_ok (condition_at 16 (tokens text)) _ c (whole_ok (whole_condition text) c e) in
         let z = end_ok x.0 c x.2 in
         let p = condition_spelled 16 (tokens text) x.0 x.1 in
         let all : p.0 ≡ tokens text = sym (p.1 ∙ ap (λ u. p.0 ++ u) z.1 ∙ append-nil p.0) in
@@ -157,5 +160,5 @@ conditions_derived text c = (forth, back)
 
     back : HasCondition text c → condition_of_text text ≡ Ok c
     back h =
-        ap (λ ts. condition_at 16 ts >>= (λ read. to_the_end read)) (sym (append-nil (tokens text)))
-        ∙ ap (λ r. r >>= (λ read. to_the_end read)) (condition_read h.0 16 h.1 [])
+        ap (λ ts. cause_alone (condition_at 16 ts >>= (λ read. to_the_end read))) (sym (append-nil (tokens text)))
+        ∙ ap (λ r. cause_alone (r >>= (λ read. to_the_end read))) (condition_read h.0 16 h.1 [])

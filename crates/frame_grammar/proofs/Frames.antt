@@ -5,7 +5,7 @@ use Rattle.frame_tree.specs.Tree.{Condition, Tree, send, retry, gap, repeat, cho
 use Rattle.frame_tree.specs.Names.{is_name, Scope, is_known}
 use Rattle.frame_tree.specs.Names as names
 use Rattle.frame_tree.specs.Bounds.{IsCondition}
-use Rattle.frame_text.specs.Reading.{Tokens, ◌>>=◌, same_bytes, misplaced, past}
+use Rattle.frame_text.specs.Reading.{Tokens, fails, ◌>>=◌, same_bytes, misplaced, past}
 use Rattle.frame_text.specs.Words.{number_within, period_at}
 use Rattle.frame_text.specs.Messages.{send_at}
 use Rattle.frame_text.specs.Conditions.{condition_at}
@@ -183,20 +183,20 @@ LabelStands ts x = (ts ≡ x.0 ∷ x.1) × (is_name x.0 ≡ true)
 pub label_stands : (ts : Tokens) (x : List ℕ × Tokens) → label_at ts ≡ Ok x → LabelStands ts x
 unfolding label_at
 label_stands [] x e = absurd (cc)
-label_stands (w ∷ ts) x e = let k = guarded (is_name w) (w, ts) x (misplaced w) e in subst (LabelStands (w ∷ ts)) k.1 (refl, k.0)
+label_stands (w ∷ ts) x e = let k = guarded (is_name w) (w, ts) x (misplaced w, length (w ∷ ts)) e in subst (LabelStands (w ∷ ts)) k.1 (refl, k.0)
 
 -- a call of a name in scope
-call_frame : (ds : Scope ℕ) (d : ℕ) (w : List ℕ) (ts : Tokens) (x : Tree × Tokens) → w ≡ codes "call" → call_at ds d ts ≡ Ok x → FrameStands (w ∷ ts) x
+call_frame : (ds : Scope ℕ) (d : ℕ) (w : List ℕ) (ts : Tokens) (x : Tree × Tokens) → w ≡ codes "call" → call_at ds d (w ∷ ts) ts ≡ Ok x → FrameStands (w ∷ ts) x
 call_frame ds d w ts x h e =
     let n = bind_ok (label_at ts) _ x e in
     let l = label_stands ts n.0 n.1 in
     let c = bind_cond n.2 in
     subst (FrameStands (w ∷ ts)) c (codes "call" ∷ n.0.0 ∷ [], begun h l.0, rule.call l.1)
   where
-    bind_cond : {n : List ℕ × Tokens} → cond (is_known ds n.0) (cond (nat_le (names.meant_by 0 ds n.0) d) (Ok (call n.0, n.1)) (Err cause.Depth)) (Err cause.Name) ≡ Ok x → (call n.0, n.1) ≡ x
+    bind_cond : {n : List ℕ × Tokens} → cond (is_known ds n.0) (cond (nat_le (names.meant_by 0 ds n.0) d) (Ok (call n.0, n.1)) (fails cause.Depth (w ∷ ts))) (fails cause.Name ts) ≡ Ok x → (call n.0, n.1) ≡ x
     bind_cond {n = n} i = by (is_known ds n.0) (nat_le (names.meant_by 0 ds n.0) d) i
       where
-        by : (b k : Bool) → cond b (cond k (Ok (call n.0, n.1)) (Err cause.Depth)) (Err cause.Name) ≡ Ok x → (call n.0, n.1) ≡ x
+        by : (b k : Bool) → cond b (cond k (Ok (call n.0, n.1)) (fails cause.Depth (w ∷ ts))) (fails cause.Name ts) ≡ Ok x → (call n.0, n.1) ≡ x
         by true true j = ok_is (call n.0, n.1) x j
         by true false j = absurd (cc)
         by false k j = absurd (cc)
@@ -241,12 +241,12 @@ unfolding block_from inner_at
 block_stands ds d [] x e = absurd (cc)
 block_stands ds zero (w ∷ ts) x e = by (same_bytes w (codes "{")) e
   where
-    by : (t : Bool) → cond t (Err cause.Depth) (Err (misplaced w)) ≡ Ok x → BlockStands (w ∷ ts) x
+    by : (t : Bool) → cond t (fails cause.Depth (w ∷ ts)) (fails (misplaced w) (w ∷ ts)) ≡ Ok x → BlockStands (w ∷ ts) x
     by true i = absurd (cc)
     by false i = absurd (cc)
 block_stands ds (suc d) (w ∷ ts) x e = by (same_bytes w (codes "{")) refl (block_stands ds d) e
   where
-    by : (t : Bool) → same_bytes w (codes "{") ≡ t → ReadsBlocks (block_at ds d) → cond t (frames_at (frame_at ds d) (length ts) ts) (Err (misplaced w)) ≡ Ok x → BlockStands (w ∷ ts) x
+    by : (t : Bool) → same_bytes w (codes "{") ≡ t → ReadsBlocks (block_at ds d) → cond t (frames_at (frame_at ds d) (length ts) ts) (fails (misplaced w) (w ∷ ts)) ≡ Ok x → BlockStands (w ∷ ts) x
     by true h more i = let p = frames_stand (frame_at ds d) (frame_stands ds d (block_at ds d) more) (length ts) ts x i in (p.0, begun (same_is w (codes "{") h) p.1, p.2)
     by false h more i = absurd (cc)
 

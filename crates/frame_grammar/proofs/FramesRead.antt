@@ -96,9 +96,9 @@ choice_else_read block condition one other c a b q few p o rest =
     ap (choice_at block) (sym (else_words condition one other rest))
     ∙ rw (condition_read q 16 few (codes "{" ∷ one ++ codes "}" ∷ behind), p behind, else_read block other b o rest) refl
 
-call_read : (ds : Scope ℕ) (d : ℕ) (n : List ℕ) (ts : Tokens) → is_name n ≡ true → is_known ds n ≡ true → meant_by 0 ds n ≤ d → call_at ds d (n ∷ ts) ≡ Ok (call n, ts)
+call_read : (ds : Scope ℕ) (d : ℕ) (frame : Tokens) (n : List ℕ) (ts : Tokens) → is_name n ≡ true → is_known ds n ≡ true → meant_by 0 ds n ≤ d → call_at ds d frame (n ∷ ts) ≡ Ok (call n, ts)
 unfolding label_at
-call_read ds d n ts r w l = rw (r, w, le-leb (meant_by 0 ds n) d l) refl
+call_read ds d frame n ts r w l = rw (r, w, le-leb (meant_by 0 ds n) d l) refl
 
 -- the closing brace
 no_frame_read : (frame : Reader) (n : ℕ) (rest : Tokens) → length (codes "}" ∷ rest) ≤ n → frames_at frame n (codes "}" ∷ rest) ≡ Ok (nothing, rest)
@@ -138,7 +138,7 @@ mutual
   frame_read (rule.timed k p) ds zero w l rest f = absurd (omega (arith, l))
   frame_read (rule.timed {number = number} {body = body} {h = h} {b = b} k p) ds (suc d) w l rest f =
       timed_read (block_at ds (suc d)) number h body b k (block_read ds d body b (frames_read p ds d w (omega (arith, l)))) rest
-  frame_read (rule.call {label = label} n) ds d w l rest f = call_read ds d label rest n w l
+  frame_read (rule.call {label = label} n) ds d w l rest f = call_read ds d (codes "call" ∷ label ∷ rest) label rest n w l
 
   -- frames up to the closing brace
   pub frames_read : {ws : Tokens} {t : Tree} → SpellFrames ws t → (ds : Scope ℕ) (d : ℕ) → CallsKnown ds t → depth_in ds t ≤ d → FramesRead ds d ws t

@@ -14,9 +14,9 @@ use Rattle.mil_message.specs.Request.{Request, to_terminal, from_terminal, betwe
 use Rattle.mil_message.specs.Rules.{checked, rules, first_fault, is_address, is_subaddress, is_count, is_code_alone, is_code_from, is_code_to}
 use Rattle.mil_message.proofs.Checked.{request_of-checked, lawful-checked, second_met, third_met}
 use Rattle.frame_text.specs.Tokens.{tokens}
-use Rattle.frame_text.specs.Reading.{Tokens, ◌>>=◌, same_bytes, misplaced, to_the_end}
+use Rattle.frame_text.specs.Reading.{Tokens, fails, cause_alone, ◌>>=◌, same_bytes, misplaced, to_the_end}
 use Rattle.frame_text.specs.Words.{number_at, bracketed_at, optional_at}
-use Rattle.frame_text.specs.Messages.{line_at, message_at, message_of, message_word, made, judged_request, send_at, send_of_text, receive_at, transmit_at, transfer_at, mode_at, receive_all_at, transfer_all_at, mode_all_at}
+use Rattle.frame_text.specs.Messages.{line_at, message_at, message_of, message_word, made, judged_request, send_at, whole_send, send_of_text, receive_at, transmit_at, transfer_at, mode_at, receive_all_at, transfer_all_at, mode_all_at}
 use Rattle.frame_text.specs.declared.keywords.MessageWord.{MessageWord}
 use Rattle.frame_text.specs.declared.keywords.MessageWord.TheVariants as word
 use Rattle.frame_text.proofs.Soundness.{bind_ok, ok_is}
@@ -24,7 +24,7 @@ use Rattle.frame_text.proofs.PrintedForms.{MayFollow}
 use Rattle.frame_grammar.specs.Words.{SpellsNumber, MaySpellWords}
 use Rattle.frame_grammar.specs.Messages.{SpellsLine, SpellMessage as rule, SpellSend, HasSend}
 use Rattle.frame_grammar.specs.Laws.{SendsAreDerived}
-use Rattle.frame_grammar.proofs.Pieces.{both_hold, same_is, of_choice, end_ok, begun, behind, over}
+use Rattle.frame_grammar.proofs.Pieces.{both_hold, same_is, of_choice, whole_ok, end_ok, begun, behind, over}
 use Rattle.frame_grammar.proofs.Words.{number_stands, words_stand, words_may_stand, AreFew, number_read, words_read, words_may_read}
 
 -- a request that is accepted meets its rules
@@ -65,10 +65,10 @@ few_mode_to_all s c (Some ns) m e =
     (met (mode_request_to_all s c (Some ns)) m e)
 
 -- a message that was made of a request
-made_ok : (r : Request) (ts : Tokens) (x : Form × Tokens) → made r ts ≡ Ok x → (checked r ≡ Ok x.0) × (ts ≡ x.1)
-made_ok r ts x e = by (checked r) e
+made_ok : (message : Tokens) (r : Request) (ts : Tokens) (x : Form × Tokens) → made message r ts ≡ Ok x → (checked r ≡ Ok x.0) × (ts ≡ x.1)
+made_ok message r ts x e = by (checked r) e
   where
-    by : (c : Result Form BadMessage) → judged_request c ts ≡ Ok x → (c ≡ Ok x.0) × (ts ≡ x.1)
+    by : (c : Result Form BadMessage) → judged_request message c ts ≡ Ok x → (c ≡ Ok x.0) × (ts ≡ x.1)
     by (Ok form) i = let g : (form, ts) ≡ x = ok_is (form, ts) x i in (ap (λ z. Ok z.0) g, ap (λ z. z.1) g)
     by (Err bad) i = absurd (cc)
 
@@ -80,13 +80,13 @@ pub record MessageStands (ts : Tokens) (m : Form) (rest : Tokens) : Type 0 where
   pub spelled : rule words request
   pub accepted : checked request ≡ Ok m
 
-receive_stands : (w : List ℕ) (ts : Tokens) (x : Form × Tokens) → w ≡ codes "rx" → receive_at ts ≡ Ok x → MessageStands (w ∷ ts) x.0 x.1
+receive_stands : (w : List ℕ) (ts : Tokens) (x : Form × Tokens) → w ≡ codes "rx" → receive_at (w ∷ ts) ts ≡ Ok x → MessageStands (w ∷ ts) x.0 x.1
 unfolding receive_at
 receive_stands w ts x h e =
     let a = bind_ok (number_at ts) _ x e in
     let s = bind_ok (number_at a.0.1) _ x a.2 in
     let b = bind_ok (bracketed_at s.0.1) _ x s.2 in
-    let m = made_ok (to_terminal a.0.0 s.0.0 b.0.0) b.0.1 x b.2 in
+    let m = made_ok (w ∷ ts) (to_terminal a.0.0 s.0.0 b.0.0) b.0.1 x b.2 in
     let p = number_stands ts a.0 a.1 in
     let q = number_stands a.0.1 s.0 s.1 in
     let v = words_stand s.0.1 b.0 b.1 (few_received a.0.0 s.0.0 b.0.0 x.0 m.0) in
@@ -98,13 +98,13 @@ receive_stands w ts x h e =
       accepted = m.0;
     }
 
-transmit_stands : (w : List ℕ) (ts : Tokens) (x : Form × Tokens) → w ≡ codes "tx" → transmit_at ts ≡ Ok x → MessageStands (w ∷ ts) x.0 x.1
+transmit_stands : (w : List ℕ) (ts : Tokens) (x : Form × Tokens) → w ≡ codes "tx" → transmit_at (w ∷ ts) ts ≡ Ok x → MessageStands (w ∷ ts) x.0 x.1
 unfolding transmit_at
 transmit_stands w ts x h e =
     let a = bind_ok (number_at ts) _ x e in
     let s = bind_ok (number_at a.0.1) _ x a.2 in
     let n = bind_ok (number_at s.0.1) _ x s.2 in
-    let m = made_ok (from_terminal a.0.0 s.0.0 n.0.0) n.0.1 x n.2 in
+    let m = made_ok (w ∷ ts) (from_terminal a.0.0 s.0.0 n.0.0) n.0.1 x n.2 in
     let p = number_stands ts a.0 a.1 in
     let q = number_stands a.0.1 s.0 s.1 in
     let v = number_stands s.0.1 n.0 n.1 in
@@ -116,7 +116,7 @@ transmit_stands w ts x h e =
       accepted = m.0;
     }
 
-transfer_stands : (w : List ℕ) (ts : Tokens) (x : Form × Tokens) → w ≡ codes "rt" → transfer_at ts ≡ Ok x → MessageStands (w ∷ ts) x.0 x.1
+transfer_stands : (w : List ℕ) (ts : Tokens) (x : Form × Tokens) → w ≡ codes "rt" → transfer_at (w ∷ ts) ts ≡ Ok x → MessageStands (w ∷ ts) x.0 x.1
 unfolding transfer_at
 transfer_stands w ts x h e =
     let a = bind_ok (number_at ts) _ x e in
@@ -124,7 +124,7 @@ transfer_stands w ts x h e =
     let b = bind_ok (number_at s.0.1) _ x s.2 in
     let t = bind_ok (number_at b.0.1) _ x b.2 in
     let n = bind_ok (number_at t.0.1) _ x t.2 in
-    let m = made_ok (between a.0.0 s.0.0 b.0.0 t.0.0 n.0.0) n.0.1 x n.2 in
+    let m = made_ok (w ∷ ts) (between a.0.0 s.0.0 b.0.0 t.0.0 n.0.0) n.0.1 x n.2 in
     let p = number_stands ts a.0 a.1 in
     let q = number_stands a.0.1 s.0 s.1 in
     let u = number_stands s.0.1 b.0 b.1 in
@@ -138,12 +138,12 @@ transfer_stands w ts x h e =
       accepted = m.0;
     }
 
-receive_all_stands : (w : List ℕ) (ts : Tokens) (x : Form × Tokens) → w ≡ codes "brx" → receive_all_at ts ≡ Ok x → MessageStands (w ∷ ts) x.0 x.1
+receive_all_stands : (w : List ℕ) (ts : Tokens) (x : Form × Tokens) → w ≡ codes "brx" → receive_all_at (w ∷ ts) ts ≡ Ok x → MessageStands (w ∷ ts) x.0 x.1
 unfolding receive_all_at
 receive_all_stands w ts x h e =
     let s = bind_ok (number_at ts) _ x e in
     let b = bind_ok (bracketed_at s.0.1) _ x s.2 in
-    let m = made_ok (to_all s.0.0 b.0.0) b.0.1 x b.2 in
+    let m = made_ok (w ∷ ts) (to_all s.0.0 b.0.0) b.0.1 x b.2 in
     let q = number_stands ts s.0 s.1 in
     let v = words_stand s.0.1 b.0 b.1 (few_received_by_all s.0.0 b.0.0 x.0 m.0) in
     record {
@@ -154,14 +154,14 @@ receive_all_stands w ts x h e =
       accepted = m.0;
     }
 
-transfer_all_stands : (w : List ℕ) (ts : Tokens) (x : Form × Tokens) → w ≡ codes "brt" → transfer_all_at ts ≡ Ok x → MessageStands (w ∷ ts) x.0 x.1
+transfer_all_stands : (w : List ℕ) (ts : Tokens) (x : Form × Tokens) → w ≡ codes "brt" → transfer_all_at (w ∷ ts) ts ≡ Ok x → MessageStands (w ∷ ts) x.0 x.1
 unfolding transfer_all_at
 transfer_all_stands w ts x h e =
     let a = bind_ok (number_at ts) _ x e in
     let s = bind_ok (number_at a.0.1) _ x a.2 in
     let t = bind_ok (number_at s.0.1) _ x s.2 in
     let n = bind_ok (number_at t.0.1) _ x t.2 in
-    let m = made_ok (between_all a.0.0 s.0.0 t.0.0 n.0.0) n.0.1 x n.2 in
+    let m = made_ok (w ∷ ts) (between_all a.0.0 s.0.0 t.0.0 n.0.0) n.0.1 x n.2 in
     let p = number_stands ts a.0 a.1 in
     let q = number_stands a.0.1 s.0 s.1 in
     let v = number_stands s.0.1 t.0 t.1 in
@@ -177,13 +177,13 @@ transfer_all_stands w ts x h e =
 -- a mode command to one terminal, and the rule of its first word
 mode_stands : (first w : List ℕ) (sub : ModeSubaddress) (ts : Tokens) (x : Form × Tokens)
     → ((address code : List ℕ) (words : Tokens) (a c : ℕ) (o : Option (List ℕ)) → SpellsNumber address a → SpellsNumber code c → MaySpellWords words o → rule (first ∷ address ∷ code ∷ words) (mode_request a sub c o))
-    → w ≡ first → mode_at sub ts ≡ Ok x → MessageStands (w ∷ ts) x.0 x.1
+    → w ≡ first → mode_at sub (w ∷ ts) ts ≡ Ok x → MessageStands (w ∷ ts) x.0 x.1
 unfolding mode_at
 mode_stands first w sub ts x by h e =
     let a = bind_ok (number_at ts) _ x e in
     let c = bind_ok (number_at a.0.1) _ x a.2 in
     let o = bind_ok (optional_at c.0.1) _ x c.2 in
-    let m = made_ok (mode_request a.0.0 sub c.0.0 o.0.0) o.0.1 x o.2 in
+    let m = made_ok (w ∷ ts) (mode_request a.0.0 sub c.0.0 o.0.0) o.0.1 x o.2 in
     let p = number_stands ts a.0 a.1 in
     let q = number_stands a.0.1 c.0 c.1 in
     let v = words_may_stand c.0.1 o.0 o.1 (few_mode a.0.0 sub c.0.0 o.0.0 x.0 m.0) in
@@ -197,12 +197,12 @@ mode_stands first w sub ts x by h e =
 
 mode_all_stands : (first w : List ℕ) (sub : ModeSubaddress) (ts : Tokens) (x : Form × Tokens)
     → ((code : List ℕ) (words : Tokens) (c : ℕ) (o : Option (List ℕ)) → SpellsNumber code c → MaySpellWords words o → rule (first ∷ code ∷ words) (mode_request_to_all sub c o))
-    → w ≡ first → mode_all_at sub ts ≡ Ok x → MessageStands (w ∷ ts) x.0 x.1
+    → w ≡ first → mode_all_at sub (w ∷ ts) ts ≡ Ok x → MessageStands (w ∷ ts) x.0 x.1
 unfolding mode_all_at
 mode_all_stands first w sub ts x by h e =
     let c = bind_ok (number_at ts) _ x e in
     let o = bind_ok (optional_at c.0.1) _ x c.2 in
-    let m = made_ok (mode_request_to_all sub c.0.0 o.0.0) o.0.1 x o.2 in
+    let m = made_ok (w ∷ ts) (mode_request_to_all sub c.0.0 o.0.0) o.0.1 x o.2 in
     let q = number_stands ts c.0 c.1 in
     let v = words_may_stand c.0.1 o.0 o.1 (few_mode_to_all sub c.0.0 o.0.0 x.0 m.0) in
     record {
@@ -266,7 +266,7 @@ unfolding line_at
 line_stands [] x e = absurd (cc)
 line_stands (w ∷ ts) x e = by (same_bytes w (codes "A")) (same_bytes w (codes "B")) refl refl e
   where
-    by : (a b : Bool) → same_bytes w (codes "A") ≡ a → same_bytes w (codes "B") ≡ b → cond a (Ok (A, ts)) (cond b (Ok (B, ts)) (Err (misplaced w))) ≡ Ok x → LineStands (w ∷ ts) x
+    by : (a b : Bool) → same_bytes w (codes "A") ≡ a → same_bytes w (codes "B") ≡ b → cond a (Ok (A, ts)) (cond b (Ok (B, ts)) (fails (misplaced w) (w ∷ ts))) ≡ Ok x → LineStands (w ∷ ts) x
     by true b h i j = subst (LineStands (w ∷ ts)) (ok_is (A, ts) x j) (codes "A", ap (λ z. z ∷ ts) (same_is w (codes "A") h), SpellsLine.line_a)
     by false true h i j = subst (LineStands (w ∷ ts)) (ok_is (B, ts) x j) (codes "B", ap (λ z. z ∷ ts) (same_is w (codes "B") i), SpellsLine.line_b)
     by false false h i j = absurd (cc)
@@ -288,24 +288,24 @@ send_stands ts x e =
 message_read : {ws : Tokens} {r : Request} → rule ws r → (m : Form) → checked r ≡ Ok m → (rest : Tokens) → MayFollow rest → message_at (ws ++ rest) ≡ Ok (m, rest)
 unfolding message_at message_of message_word receive_at transmit_at transfer_at mode_at receive_all_at transfer_all_at mode_all_at
 message_read (rule.rx {address = address} {sub = sub} {words = words} {a = a} {s = s} {ns = ns} p q v) m e rest f =
-    rw (number_read address a p (sub ∷ words ++ rest), number_read sub s q (words ++ rest), words_read v (few_received a s ns m e) rest) (ap (λ z. judged_request z rest) e)
+    rw (number_read address a p (sub ∷ words ++ rest), number_read sub s q (words ++ rest), words_read v (few_received a s ns m e) rest) (ap (λ z. judged_request (codes "rx" ∷ address ∷ sub ∷ words ++ rest) z rest) e)
 message_read (rule.tx {address = address} {sub = sub} {count = count} {a = a} {s = s} {n = n} p q v) m e rest f =
-    rw (number_read address a p (sub ∷ count ∷ rest), number_read sub s q (count ∷ rest), number_read count n v rest) (ap (λ z. judged_request z rest) e)
+    rw (number_read address a p (sub ∷ count ∷ rest), number_read sub s q (count ∷ rest), number_read count n v rest) (ap (λ z. judged_request (codes "tx" ∷ address ∷ sub ∷ count ∷ rest) z rest) e)
 message_read (rule.rt {sender = sender} {from = from} {receiver = receiver} {to = to} {count = count} {a = a} {s = s} {b = b} {t = t} {n = n} p q u v k) m e rest f =
     rw (number_read sender a p (from ∷ receiver ∷ to ∷ count ∷ rest), number_read from s q (receiver ∷ to ∷ count ∷ rest), number_read receiver b u (to ∷ count ∷ rest), number_read to t v (count ∷ rest), number_read count n k rest)
-    (ap (λ z. judged_request z rest) e)
+    (ap (λ z. judged_request (codes "rt" ∷ sender ∷ from ∷ receiver ∷ to ∷ count ∷ rest) z rest) e)
 message_read (rule.mode {address = address} {code = code} {words = words} {a = a} {c = c} {ns = ns} p q v) m e rest f =
-    rw (number_read address a p (code ∷ words ++ rest), number_read code c q (words ++ rest), words_may_read v (few_mode a ThirtyOne c ns m e) rest f) (ap (λ z. judged_request z rest) e)
+    rw (number_read address a p (code ∷ words ++ rest), number_read code c q (words ++ rest), words_may_read v (few_mode a ThirtyOne c ns m e) rest f) (ap (λ z. judged_request (codes "mode" ∷ address ∷ code ∷ words ++ rest) z rest) e)
 message_read (rule.mode0 {address = address} {code = code} {words = words} {a = a} {c = c} {ns = ns} p q v) m e rest f =
-    rw (number_read address a p (code ∷ words ++ rest), number_read code c q (words ++ rest), words_may_read v (few_mode a Zero c ns m e) rest f) (ap (λ z. judged_request z rest) e)
+    rw (number_read address a p (code ∷ words ++ rest), number_read code c q (words ++ rest), words_may_read v (few_mode a Zero c ns m e) rest f) (ap (λ z. judged_request (codes "mode0" ∷ address ∷ code ∷ words ++ rest) z rest) e)
 message_read (rule.brx {sub = sub} {words = words} {s = s} {ns = ns} q v) m e rest f =
-    rw (number_read sub s q (words ++ rest), words_read v (few_received_by_all s ns m e) rest) (ap (λ z. judged_request z rest) e)
+    rw (number_read sub s q (words ++ rest), words_read v (few_received_by_all s ns m e) rest) (ap (λ z. judged_request (codes "brx" ∷ sub ∷ words ++ rest) z rest) e)
 message_read (rule.brt {sender = sender} {from = from} {to = to} {count = count} {a = a} {s = s} {t = t} {n = n} p q v k) m e rest f =
-    rw (number_read sender a p (from ∷ to ∷ count ∷ rest), number_read from s q (to ∷ count ∷ rest), number_read to t v (count ∷ rest), number_read count n k rest) (ap (λ z. judged_request z rest) e)
+    rw (number_read sender a p (from ∷ to ∷ count ∷ rest), number_read from s q (to ∷ count ∷ rest), number_read to t v (count ∷ rest), number_read count n k rest) (ap (λ z. judged_request (codes "brt" ∷ sender ∷ from ∷ to ∷ count ∷ rest) z rest) e)
 message_read (rule.bmode {code = code} {words = words} {c = c} {ns = ns} q v) m e rest f =
-    rw (number_read code c q (words ++ rest), words_may_read v (few_mode_to_all ThirtyOne c ns m e) rest f) (ap (λ z. judged_request z rest) e)
+    rw (number_read code c q (words ++ rest), words_may_read v (few_mode_to_all ThirtyOne c ns m e) rest f) (ap (λ z. judged_request (codes "bmode" ∷ code ∷ words ++ rest) z rest) e)
 message_read (rule.bmode0 {code = code} {words = words} {c = c} {ns = ns} q v) m e rest f =
-    rw (number_read code c q (words ++ rest), words_may_read v (few_mode_to_all Zero c ns m e) rest f) (ap (λ z. judged_request z rest) e)
+    rw (number_read code c q (words ++ rest), words_may_read v (few_mode_to_all Zero c ns m e) rest f) (ap (λ z. judged_request (codes "bmode0" ∷ code ∷ words ++ rest) z rest) e)
 
 line_read : {w : List ℕ} {l : Line} → SpellsLine w l → (ts : Tokens) → line_at (w ∷ ts) ≡ Ok (l, ts)
 unfolding line_at
@@ -322,7 +322,7 @@ sends_derived text x = (forth, back)
   where
     forth : send_of_text text ≡ Ok x → HasSend text x
     forth e =
-        let y = bind_ok (send_at (tokens text)) _ x e in
+        let y = bind_ok (send_at (tokens text)) _ x (whole_ok (whole_send text) x e) in
         let z = end_ok y.0 x y.2 in
         let p = send_stands (tokens text) y.0 y.1 in
         let all : p.0 ≡ tokens text = sym (over p.0 p.1 z.1 ∙ append-nil p.0) in
@@ -330,5 +330,5 @@ sends_derived text x = (forth, back)
 
     back : HasSend text x → send_of_text text ≡ Ok x
     back h =
-        ap (λ ts. send_at ts >>= (λ read. to_the_end read)) (sym (append-nil (tokens text)))
-        ∙ ap (λ r. r >>= (λ read. to_the_end read)) (send_read h [] tt)
+        ap (λ ts. cause_alone (send_at ts >>= (λ read. to_the_end read))) (sym (append-nil (tokens text)))
+        ∙ ap (λ r. cause_alone (r >>= (λ read. to_the_end read))) (send_read h [] tt)

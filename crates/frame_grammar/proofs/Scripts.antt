@@ -8,8 +8,8 @@ use Rattle.frame_tree.specs.Bounds.{depth_in, worst_messages, CallsKnown, IsDefi
 use Rattle.frame_tree.specs.Names as names
 use Rattle.frame_tree.specs.Names.{is_name, Scope, is_known}
 use Rattle.frame_text.specs.Tokens.{tokens}
-use Rattle.frame_text.specs.Reading.{Tokens, ◌>>=◌, same_bytes}
-use Rattle.frame_text.specs.Frames.{frame_at, main_at, label_at, fresh_name_at, definition_at, block_at, script_at, tree_of_text}
+use Rattle.frame_text.specs.Reading.{Tokens, fails, ◌>>=◌, same_bytes}
+use Rattle.frame_text.specs.Frames.{frame_at, main_at, label_at, fresh_name_at, definition_at, block_at, script_at, whole_script, tree_of_text}
 use Rattle.frame_text.specs.declared.faults.Cause.TheVariants as cause
 use Rattle.frame_text.proofs.Soundness.{bind_ok, ok_is, script_is_sound}
 use Rattle.frame_text.proofs.PrintedForms.{MayFollow}
@@ -18,7 +18,7 @@ use Rattle.frame_grammar.specs.Words.{braces}
 use Rattle.frame_grammar.specs.Frames.{SpellFrames}
 use Rattle.frame_grammar.specs.Scripts.{SpellScript, HasTree}
 use Rattle.frame_grammar.specs.Laws.{ScriptsAreDerived, OneTree}
-use Rattle.frame_grammar.proofs.Pieces.{same_is, begun, behind}
+use Rattle.frame_grammar.proofs.Pieces.{same_is, answered_is, whole_ok, begun, behind}
 use Rattle.frame_grammar.proofs.Words.{guarded}
 use Rattle.frame_grammar.proofs.Frames.{braced, one_stands, block_stands, label_stands}
 use Rattle.frame_grammar.proofs.FramesRead.{begins, follows, frame_read, frames_read, block_read}
@@ -50,7 +50,7 @@ definition_stands ds ts x e =
     let p = block_stands ds 17 n.0.1 b.0 b.1 in
     subst (DefinitionStands ts) (ok_is _ x b.2) (p.0, behind k.0 (p.1 ∙ sym (braced p.0 b.0.1)), k.1, p.2)
   where
-    by : (b : Bool) (m n : List ℕ × Tokens) → cond b (Err cause.Name) (Ok m) ≡ Ok n → m ≡ n
+    by : (b : Bool) (m n : List ℕ × Tokens) → cond b (fails cause.Name ts) (Ok m) ≡ Ok n → m ≡ n
     by true m n i = absurd (cc)
     by false m n i = ok_is m n i
 
@@ -59,7 +59,7 @@ unfolding script_at
 script_stands k ds [] t e = subst (SpellScript []) (ok_is nothing t e) (SpellScript.main SpellFrames.none)
 script_stands zero ds (w ∷ ts) t e = by (same_bytes w (codes "define")) e
   where
-    by : (b : Bool) → cond b (Err cause.Definitions) (main_at ds (length (w ∷ ts)) (w ∷ ts)) ≡ Ok t → SpellScript (w ∷ ts) t
+    by : (b : Bool) → cond b (fails cause.Definitions (w ∷ ts)) (main_at ds (length (w ∷ ts)) (w ∷ ts)) ≡ Ok t → SpellScript (w ∷ ts) t
     by true i = absurd (cc)
     by false i = SpellScript.main (main_stands ds (length (w ∷ ts)) (w ∷ ts) t i)
 script_stands (suc k) ds (w ∷ ts) t e = by (same_bytes w (codes "define")) refl (λ es us u i. script_stands k es us u i) e
@@ -141,8 +141,8 @@ scripts_derived text t = (forth, back)
   where
     forth : tree_of_text text ≡ Ok t → HasTree text t
     forth e =
-        let u = bind_ok (script_at 32 [] (tokens text)) _ t e in
-        let k = guarded (nat_le (worst_messages u.0) 1000000) u.0 t cause.Messages u.2 in
+        let u = bind_ok (script_at 32 [] (tokens text)) _ t (whole_ok (whole_script text) t e) in
+        let k = guarded (nat_le (worst_messages u.0) 1000000) u.0 t (cause.Messages, length (tokens text)) u.2 in
         let few = leb-true (worst_messages u.0) 1000000 k.0 in
         let sound = script_is_sound (tokens text) u.0 u.1 few in
         subst (HasTree text) k.1 (record { spelled = script_stands 32 [] (tokens text) u.0 u.1; shallow = sound.shallow; defined = sound.defined; bounded = few })
@@ -151,4 +151,4 @@ scripts_derived text t = (forth, back)
     back h = rw (script_read h.spelled 32 [] [] (λ n. refl) (omega arith) h.defined h.shallow, le-leb (worst_messages t) 1000000 h.bounded) refl
 
 pub one_tree : OneTree
-one_tree text t u h k = ok_is t u (sym ((scripts_derived text t).1 h) ∙ (scripts_derived text u).1 k)
+one_tree text t u h k = answered_is t u (sym ((scripts_derived text t).1 h) ∙ (scripts_derived text u).1 k)

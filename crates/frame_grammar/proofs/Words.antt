@@ -4,17 +4,16 @@ use Rattle.std.specs.Prelude.{codes, nat_eq, nat_le, ◌&&◌}
 use Rattle.std.proofs.lemmas.Bool.{le-leb, eqb-true}
 use Rattle.std.proofs.lemmas.List.{take_all}
 use Rattle.numerals.specs.Numerals as numerals
-use Rattle.frame_text.specs.Reading.{Tokens, ◌>>=◌, same_bytes, past}
+use Rattle.frame_text.specs.Reading.{Tokens, Failure, ◌>>=◌, same_bytes, past}
 use Rattle.numerals.specs.Numerals.{number_of, data_word_of}
 use Rattle.frame_text.specs.Words.{number_at, number_within, period_at, words_at, counted, bracketed_at, optional_at, spelled}
-use Rattle.frame_text.specs.declared.faults.Cause.{Cause}
 use Rattle.frame_text.specs.declared.faults.Cause.TheVariants as cause
 use Rattle.frame_text.proofs.Soundness.{bind_ok, ok_is, both_true}
 use Rattle.frame_text.proofs.PrintedForms.{MayFollow}
 use Rattle.frame_grammar.specs.Words.{SpellsNumber, SpellsWithin, SpellDataWords, SpellWords, MaySpellWords}
 use Rattle.frame_grammar.proofs.Pieces.{same_is, past_ok, begun}
 
-pub guarded : {X : Type 0} (b : Bool) (x y : X) (c : Cause) → cond b (Ok x) (Err c) ≡ Ok y → (b ≡ true) × (x ≡ y)
+pub guarded : {X : Type 0} (b : Bool) (x y : X) (c : Failure) → cond b (Ok x) (Err c) ≡ Ok y → (b ≡ true) × (x ≡ y)
 guarded true x y c e = (refl, ok_is x y e)
 guarded false x y c e = absurd (cc)
 
@@ -27,7 +26,7 @@ unfolding number_at
 number_stands [] x e = absurd (cc)
 number_stands (w ∷ ts) x e = by (number_of w) refl e
   where
-    by : (o : Option ℕ) → number_of w ≡ o → (spelled w o >>= (λ n. Ok (n, ts))) ≡ Ok x → NumberStands SpellsNumber (w ∷ ts) x
+    by : (o : Option ℕ) → number_of w ≡ o → (spelled w ts o >>= (λ n. Ok (n, ts))) ≡ Ok x → NumberStands SpellsNumber (w ∷ ts) x
     by (Some n) h i = subst (NumberStands SpellsNumber (w ∷ ts)) (ok_is (n, ts) x i) (w, refl, h)
     by None h i = absurd (cc)
 
@@ -35,7 +34,7 @@ pub within_stands : (low high : ℕ) (ts : Tokens) (x : ℕ × Tokens) → numbe
 unfolding number_within
 within_stands low high ts x e =
     let b = bind_ok (number_at ts) _ x e in
-    let k = guarded (nat_le low b.0.0 && nat_le b.0.0 high) b.0 x cause.Range b.2 in
+    let k = guarded (nat_le low b.0.0 && nat_le b.0.0 high) b.0 x (cause.Range, length ts) b.2 in
     let r = both_true low b.0.0 high k.0 in
     let n = number_stands ts b.0 b.1 in
     subst (NumberStands (SpellsWithin low high) ts) k.1 (n.0, n.1, record { number = n.2; not_under = r.0; not_over = r.1 })
@@ -50,13 +49,13 @@ pub period_stands : (ts : Tokens) (x : ℕ × Tokens) → period_at ts ≡ Ok x 
 unfolding period_at
 period_stands ts x e =
     let b = bind_ok (number_within 100 6553500 ts) _ x e in
-    let k = guarded (nat_eq (b.0.0 % 100) 0) (b.0.0 / 100, b.0.1) x cause.Range b.2 in
+    let k = guarded (nat_eq (b.0.0 % 100) 0) (b.0.0 / 100, b.0.1) x (cause.Range, length ts) b.2 in
     let n = within_stands 100 6553500 ts b.0 b.1 in
     subst (NumberStands SpellsPeriod ts) k.1 (n.0, n.1, subst (SpellsWithin 100 6553500 n.0) (hundred b.0.0 (eqb-true (b.0.0 % 100) 0 k.0)) n.2)
 
 pub number_read : (w : List ℕ) (n : ℕ) → SpellsNumber w n → (ts : Tokens) → number_at (w ∷ ts) ≡ Ok (n, ts)
 unfolding number_at
-number_read w n h ts = ap (λ o. spelled w o >>= (λ k. Ok (k, ts))) h
+number_read w n h ts = ap (λ o. spelled w ts o >>= (λ k. Ok (k, ts))) h
 
 pub within_read : {low high : ℕ} {w : List ℕ} {n : ℕ} → SpellsWithin low high w n → (ts : Tokens) → number_within low high (w ∷ ts) ≡ Ok (n, ts)
 unfolding number_within
@@ -81,14 +80,14 @@ unfolding words_at
 data_words_stand [] x e = absurd (cc)
 data_words_stand (w ∷ ts) x e = by (same_bytes w (codes "]")) refl (λ y i. data_words_stand ts y i) e
   where
-    one : (o : Option ℕ) → data_word_of w ≡ o → ((y : List ℕ × Tokens) → words_at ts ≡ Ok y → DataWordsStand ts y) → (spelled w o >>= (λ n. words_at ts >>= (λ ns. Ok (n ∷ ns.0, ns.1)))) ≡ Ok x → DataWordsStand (w ∷ ts) x
+    one : (o : Option ℕ) → data_word_of w ≡ o → ((y : List ℕ × Tokens) → words_at ts ≡ Ok y → DataWordsStand ts y) → (spelled w ts o >>= (λ n. words_at ts >>= (λ ns. Ok (n ∷ ns.0, ns.1)))) ≡ Ok x → DataWordsStand (w ∷ ts) x
     one (Some n) h below i =
         let r = bind_ok (words_at ts) _ x i in
         let p = below r.0 r.1 in
         subst (DataWordsStand (w ∷ ts)) (ok_is (n ∷ r.0.0, r.0.1) x r.2) (w ∷ p.0, ap (λ z. w ∷ z) p.1, SpellDataWords.more h p.2)
     one None h below i = absurd (cc)
 
-    by : (b : Bool) → same_bytes w (codes "]") ≡ b → ((y : List ℕ × Tokens) → words_at ts ≡ Ok y → DataWordsStand ts y) → cond b (Ok ([], ts)) (spelled w (data_word_of w) >>= (λ n. words_at ts >>= (λ ns. Ok (n ∷ ns.0, ns.1)))) ≡ Ok x → DataWordsStand (w ∷ ts) x
+    by : (b : Bool) → same_bytes w (codes "]") ≡ b → ((y : List ℕ × Tokens) → words_at ts ≡ Ok y → DataWordsStand ts y) → cond b (Ok ([], ts)) (spelled w ts (data_word_of w) >>= (λ n. words_at ts >>= (λ ns. Ok (n ∷ ns.0, ns.1)))) ≡ Ok x → DataWordsStand (w ∷ ts) x
     by true h below i = subst (DataWordsStand (w ∷ ts)) (ok_is ([], ts) x i) ([], ap (λ z. z ∷ ts) (same_is w (codes "]") h), SpellDataWords.none)
     by false h below i = one (data_word_of w) refl below i
 

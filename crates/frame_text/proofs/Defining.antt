@@ -1,5 +1,5 @@
 -- Reading definitions one by one.
-use Rattle.std.proofs.Common.{rules, ◌≡◌, ◌≢◌, ℕ, ◌-◌, ◌≤◌, ◌<◌, min, Bool, true, false, cond, List, [], ◌∷◌, Result, Ok, Err, sym, ap, ◌∙◌, arith}
+use Rattle.std.proofs.Common.{rules, ◌≡◌, ◌≢◌, ℕ, ◌-◌, ◌≤◌, ◌<◌, min, Bool, true, false, cond, List, [], ◌∷◌, Result, Ok, sym, ap, ◌∙◌, arith}
 use Rattle.std.specs.Prelude.{codes, nat_le}
 use Rattle.std.proofs.lemmas.Bool.Decides.{nat_tests}
 use Rattle.frame_tree.specs.Tree.{Tree, define}
@@ -7,9 +7,8 @@ use Rattle.frame_tree.specs.Bounds.{depth_in, worst_messages}
 use Rattle.frame_tree.specs.Names.{Scope}
 use Rattle.frame_tree.specs.Scopes.{scope_of}
 use Rattle.frame_tree.specs.declared.names.Scope.{Empty, the_lemmas}
-use Rattle.frame_text.specs.Reading.{◌>>=◌, Tokens, same_bytes, FailsReadingTokens, Breaks, IsOfText}
+use Rattle.frame_text.specs.Reading.{◌>>=◌, Failure, fails, Tokens, same_bytes, FailsReadingTokens, Breaks, IsOfText}
 use Rattle.frame_text.specs.Frames.{block_at, fresh_name_at, script_at, bounded}
-use Rattle.frame_text.specs.declared.faults.Cause.{Cause}
 use Rattle.frame_text.specs.declared.faults.Cause.TheVariants as cause
 use Rattle.frame_text.specs.declared.faults.Fault.{Fault}
 use Rattle.frame_text.specs.declared.faults.Fault.TheVariants as fault
@@ -19,7 +18,7 @@ pub no_names : scope_of Empty ≡ []
 no_names = search (rules, the_lemmas)
 
 module _ (k : ℕ) (ds : Scope ℕ) (w : List ℕ) (text ts : Tokens) (is : text ≡ w ∷ ts) (h : same_bytes w (codes "define") ≡ true) (some : k ≢ 0) where
-  abbrev whole : Result ((List ℕ × Tree) × Tokens) Cause → Result Tree Cause
+  abbrev whole : Result ((List ℕ × Tree) × Tokens) Failure → Result Tree Failure
   whole r = r >>= (λ x. script_at (k - 1) ((x.0.0, depth_in ds x.0.1) ∷ ds) x.1 >>= (λ t. Ok (define x.0.0 x.0.1 t)))
 
   pub name_fails : (R : Type 0) (f : Fault) → FailsReadingTokens f (fresh_name_at ds ts) → IsOfText f → Breaks R f (script_at k ds text)
@@ -48,11 +47,11 @@ pub not_cut : (n : List ℕ) (d x : ℕ) (ds : Scope ℕ) → d ≡ min 17 x →
 not_cut n d x ds e h = let same_bytes : d ≡ x = omega (arith, e, h) in ap (λ v. (n, v) ∷ ds) same_bytes
 
 -- a script with too many messages, and one with few enough
-cut : (t : Tree) (b : Bool) → nat_le (worst_messages t) 1000000 ≡ b → bounded t ≡ cond b (Ok t) (Err cause.Messages)
-cut t b e = ap (λ c. cond c (Ok t) (Err cause.Messages)) e
+cut : (ts : Tokens) (t : Tree) (b : Bool) → nat_le (worst_messages t) 1000000 ≡ b → bounded ts t ≡ cond b (Ok t) (fails cause.Messages ts)
+cut ts t b e = ap (λ c. cond c (Ok t) (fails cause.Messages ts)) e
 
-pub too_many : (r : Result Tree Cause) (t : Tree) → r ≡ Ok t → 1000000 < worst_messages t → (r >>= (λ u. bounded u)) ≡ Err cause.Messages
-too_many r t e many = ap (λ q. q >>= (λ u. bounded u)) e ∙ cut t false (grind (arith, nat_tests))
+pub too_many : (ts : Tokens) (r : Result Tree Failure) (t : Tree) → r ≡ Ok t → 1000000 < worst_messages t → (r >>= (λ u. bounded ts u)) ≡ fails cause.Messages ts
+too_many ts r t e many = ap (λ q. q >>= (λ u. bounded ts u)) e ∙ cut ts t false (grind (arith, nat_tests))
 
-pub few_enough : (r : Result Tree Cause) (t : Tree) → r ≡ Ok t → worst_messages t ≤ 1000000 → (r >>= (λ u. bounded u)) ≡ Ok t
-few_enough r t e few = ap (λ q. q >>= (λ u. bounded u)) e ∙ cut t true (grind (arith, nat_tests))
+pub few_enough : (ts : Tokens) (r : Result Tree Failure) (t : Tree) → r ≡ Ok t → worst_messages t ≤ 1000000 → (r >>= (λ u. bounded ts u)) ≡ Ok t
+few_enough ts r t e few = ap (λ q. q >>= (λ u. bounded ts u)) e ∙ cut ts t true (grind (arith, nat_tests))

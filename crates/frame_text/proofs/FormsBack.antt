@@ -42,7 +42,7 @@ mode_all_to_is s w = pick (λ c. is_code_to c ≡ true → mode_request_to_all s
 
 pub number_then : (n : ℕ) (ts : Tokens) → Small n → number_at (decimal n ∷ ts) ≡ Ok (n, ts)
 unfolding number_at
-number_then n ts h = ap (λ o. spelled (decimal n) o >>= (λ k. Ok (k, ts))) (number_back n h)
+number_then n ts h = ap (λ o. spelled (decimal n) ts o >>= (λ k. Ok (k, ts))) (number_back n h)
 
 -- a data word is no bracket
 no_bracket : (w : ℕ) → same_bytes (data_word_text w) (codes "]") ≡ false
@@ -74,8 +74,8 @@ none_back [] h = refl
 none_back (w ∷ ts) h = rw h.0 refl
 
 -- a request that asks for a lawful form
-made_back : (request : Request) (m : Form) (ts : Tokens) → IsLawful m → request ≡ request_for m → made request ts ≡ Ok (m, ts)
-made_back request m ts h e = ap (λ r. judged_request r ts) (ap checked e ∙ checked-request_for m h)
+made_back : (message : Tokens) (request : Request) (m : Form) (ts : Tokens) → IsLawful m → request ≡ request_for m → made message request ts ≡ Ok (m, ts)
+made_back message request m ts h e = ap (λ r. judged_request message r ts) (ap checked e ∙ checked-request_for m h)
 
 alone_met : (a c : ℕ) → first_fault ((is_address a, Address) ∷ (is_code_alone c, CountOrCode) ∷ (true, ModeWord) ∷ []) ≡ None → is_code_alone c ≡ true
 alone_met a c h = middle_met (is_address a) (is_code_alone c) true Address CountOrCode ModeWord h
@@ -91,24 +91,24 @@ all_met c h = head_met (is_code_to c) true CountOrCode ModeWord h
 
 message_back : (m : Form) → IsReadable m → HasSmall m → (ts : Tokens) → MayFollow ts → message_at (message_then m ts) ≡ Ok (m, ts)
 unfolding message_at message_of message_word receive_at transmit_at transfer_at mode_at receive_all_at transfer_all_at mode_all_at
-message_back (ToTerminal a s ws) h r ts f = rw (number_then a (decimal s ∷ brackets_then ws.items ts) r.0, number_then s (brackets_then ws.items ts) r.1, bracketed_back ws.items ts h.1 r.2) (made_back _ (ToTerminal a s ws) ts h.0 refl)
-message_back (FromTerminal a s n) h r ts f = rw (number_then a (decimal s ∷ decimal n ∷ ts) r.0, number_then s (decimal n ∷ ts) r.1, number_then n ts r.2) (made_back _ (FromTerminal a s n) ts h.0 refl)
+message_back (ToTerminal a s ws) h r ts f = rw (number_then a (decimal s ∷ brackets_then ws.items ts) r.0, number_then s (brackets_then ws.items ts) r.1, bracketed_back ws.items ts h.1 r.2) (made_back (message_then (ToTerminal a s ws) ts) _ (ToTerminal a s ws) ts h.0 refl)
+message_back (FromTerminal a s n) h r ts f = rw (number_then a (decimal s ∷ decimal n ∷ ts) r.0, number_then s (decimal n ∷ ts) r.1, number_then n ts r.2) (made_back (message_then (FromTerminal a s n) ts) _ (FromTerminal a s n) ts h.0 refl)
 message_back (Between a s b t n) h r ts f =
     rw (number_then a (decimal s ∷ decimal b ∷ decimal t ∷ decimal n ∷ ts) r.0, number_then s (decimal b ∷ decimal t ∷ decimal n ∷ ts) r.1, number_then b (decimal t ∷ decimal n ∷ ts) r.2, number_then t (decimal n ∷ ts) r.3, number_then n ts r.4)
-    (made_back _ (Between a s b t n) ts h.0 refl)
-message_back (Mode a Zero c) h r ts f = rw (number_then a (decimal c ∷ ts) r.0, number_then c ts r.1, none_back ts f) (made_back _ (Mode a Zero c) ts h.0 (mode_is a Zero c (alone_met a c h.0)))
-message_back (Mode a ThirtyOne c) h r ts f = rw (number_then a (decimal c ∷ ts) r.0, number_then c ts r.1, none_back ts f) (made_back _ (Mode a ThirtyOne c) ts h.0 (mode_is a ThirtyOne c (alone_met a c h.0)))
-message_back (ModeFrom a Zero c) h r ts f = rw (number_then a (decimal c ∷ ts) r.0, number_then c ts r.1, none_back ts f) (made_back _ (ModeFrom a Zero c) ts h.0 (mode_from_is a Zero c (in_table c _ (from_met a c h.0)) (from_met a c h.0)))
-message_back (ModeFrom a ThirtyOne c) h r ts f = rw (number_then a (decimal c ∷ ts) r.0, number_then c ts r.1, none_back ts f) (made_back _ (ModeFrom a ThirtyOne c) ts h.0 (mode_from_is a ThirtyOne c (in_table c _ (from_met a c h.0)) (from_met a c h.0)))
-message_back (ModeTo a Zero c w) h r ts f = rw (number_then a (decimal c ∷ brackets_then (w ∷ []) ts) r.0, number_then c (brackets_then (w ∷ []) ts) r.1, optional_back (w ∷ []) ts h.1 (omega arith)) (made_back _ (ModeTo a Zero c w) ts h.0 (mode_to_is a Zero w c (in_table c _ (to_met a c h.0)) (to_met a c h.0)))
-message_back (ModeTo a ThirtyOne c w) h r ts f = rw (number_then a (decimal c ∷ brackets_then (w ∷ []) ts) r.0, number_then c (brackets_then (w ∷ []) ts) r.1, optional_back (w ∷ []) ts h.1 (omega arith)) (made_back _ (ModeTo a ThirtyOne c w) ts h.0 (mode_to_is a ThirtyOne w c (in_table c _ (to_met a c h.0)) (to_met a c h.0)))
-message_back (ToAll s ws) h r ts f = rw (number_then s (brackets_then ws.items ts) r.0, bracketed_back ws.items ts h.1 r.1) (made_back _ (ToAll s ws) ts h.0 refl)
+    (made_back (message_then (Between a s b t n) ts) _ (Between a s b t n) ts h.0 refl)
+message_back (Mode a Zero c) h r ts f = rw (number_then a (decimal c ∷ ts) r.0, number_then c ts r.1, none_back ts f) (made_back (message_then (Mode a Zero c) ts) _ (Mode a Zero c) ts h.0 (mode_is a Zero c (alone_met a c h.0)))
+message_back (Mode a ThirtyOne c) h r ts f = rw (number_then a (decimal c ∷ ts) r.0, number_then c ts r.1, none_back ts f) (made_back (message_then (Mode a ThirtyOne c) ts) _ (Mode a ThirtyOne c) ts h.0 (mode_is a ThirtyOne c (alone_met a c h.0)))
+message_back (ModeFrom a Zero c) h r ts f = rw (number_then a (decimal c ∷ ts) r.0, number_then c ts r.1, none_back ts f) (made_back (message_then (ModeFrom a Zero c) ts) _ (ModeFrom a Zero c) ts h.0 (mode_from_is a Zero c (in_table c _ (from_met a c h.0)) (from_met a c h.0)))
+message_back (ModeFrom a ThirtyOne c) h r ts f = rw (number_then a (decimal c ∷ ts) r.0, number_then c ts r.1, none_back ts f) (made_back (message_then (ModeFrom a ThirtyOne c) ts) _ (ModeFrom a ThirtyOne c) ts h.0 (mode_from_is a ThirtyOne c (in_table c _ (from_met a c h.0)) (from_met a c h.0)))
+message_back (ModeTo a Zero c w) h r ts f = rw (number_then a (decimal c ∷ brackets_then (w ∷ []) ts) r.0, number_then c (brackets_then (w ∷ []) ts) r.1, optional_back (w ∷ []) ts h.1 (omega arith)) (made_back (message_then (ModeTo a Zero c w) ts) _ (ModeTo a Zero c w) ts h.0 (mode_to_is a Zero w c (in_table c _ (to_met a c h.0)) (to_met a c h.0)))
+message_back (ModeTo a ThirtyOne c w) h r ts f = rw (number_then a (decimal c ∷ brackets_then (w ∷ []) ts) r.0, number_then c (brackets_then (w ∷ []) ts) r.1, optional_back (w ∷ []) ts h.1 (omega arith)) (made_back (message_then (ModeTo a ThirtyOne c w) ts) _ (ModeTo a ThirtyOne c w) ts h.0 (mode_to_is a ThirtyOne w c (in_table c _ (to_met a c h.0)) (to_met a c h.0)))
+message_back (ToAll s ws) h r ts f = rw (number_then s (brackets_then ws.items ts) r.0, bracketed_back ws.items ts h.1 r.1) (made_back (message_then (ToAll s ws) ts) _ (ToAll s ws) ts h.0 refl)
 message_back (BetweenAll a s t n) h r ts f =
-    rw (number_then a (decimal s ∷ decimal t ∷ decimal n ∷ ts) r.0, number_then s (decimal t ∷ decimal n ∷ ts) r.1, number_then t (decimal n ∷ ts) r.2, number_then n ts r.3) (made_back _ (BetweenAll a s t n) ts h.0 refl)
-message_back (ModeAll Zero c) h r ts f = rw (number_then c ts r, none_back ts f) (made_back _ (ModeAll Zero c) ts h.0 (mode_all_is Zero c (head_met (is_code_alone c) true CountOrCode ModeWord h.0)))
-message_back (ModeAll ThirtyOne c) h r ts f = rw (number_then c ts r, none_back ts f) (made_back _ (ModeAll ThirtyOne c) ts h.0 (mode_all_is ThirtyOne c (head_met (is_code_alone c) true CountOrCode ModeWord h.0)))
-message_back (ModeAllTo Zero c w) h r ts f = rw (number_then c (brackets_then (w ∷ []) ts) r, optional_back (w ∷ []) ts h.1 (omega arith)) (made_back _ (ModeAllTo Zero c w) ts h.0 (mode_all_to_is Zero w c (in_table c _ (all_met c h.0)) (all_met c h.0)))
-message_back (ModeAllTo ThirtyOne c w) h r ts f = rw (number_then c (brackets_then (w ∷ []) ts) r, optional_back (w ∷ []) ts h.1 (omega arith)) (made_back _ (ModeAllTo ThirtyOne c w) ts h.0 (mode_all_to_is ThirtyOne w c (in_table c _ (all_met c h.0)) (all_met c h.0)))
+    rw (number_then a (decimal s ∷ decimal t ∷ decimal n ∷ ts) r.0, number_then s (decimal t ∷ decimal n ∷ ts) r.1, number_then t (decimal n ∷ ts) r.2, number_then n ts r.3) (made_back (message_then (BetweenAll a s t n) ts) _ (BetweenAll a s t n) ts h.0 refl)
+message_back (ModeAll Zero c) h r ts f = rw (number_then c ts r, none_back ts f) (made_back (message_then (ModeAll Zero c) ts) _ (ModeAll Zero c) ts h.0 (mode_all_is Zero c (head_met (is_code_alone c) true CountOrCode ModeWord h.0)))
+message_back (ModeAll ThirtyOne c) h r ts f = rw (number_then c ts r, none_back ts f) (made_back (message_then (ModeAll ThirtyOne c) ts) _ (ModeAll ThirtyOne c) ts h.0 (mode_all_is ThirtyOne c (head_met (is_code_alone c) true CountOrCode ModeWord h.0)))
+message_back (ModeAllTo Zero c w) h r ts f = rw (number_then c (brackets_then (w ∷ []) ts) r, optional_back (w ∷ []) ts h.1 (omega arith)) (made_back (message_then (ModeAllTo Zero c w) ts) _ (ModeAllTo Zero c w) ts h.0 (mode_all_to_is Zero w c (in_table c _ (all_met c h.0)) (all_met c h.0)))
+message_back (ModeAllTo ThirtyOne c w) h r ts f = rw (number_then c (brackets_then (w ∷ []) ts) r, optional_back (w ∷ []) ts h.1 (omega arith)) (made_back (message_then (ModeAllTo ThirtyOne c w) ts) _ (ModeAllTo ThirtyOne c w) ts h.0 (mode_all_to_is ThirtyOne w c (in_table c _ (all_met c h.0)) (all_met c h.0)))
 
 line_back : (line : Line) (ts : Tokens) → line_at (line_text line ∷ ts) ≡ Ok (line, ts)
 unfolding line_at

@@ -24,10 +24,10 @@ use Rattle.frame_text.specs.Chains.{AreWords, IsReadable}
 data_word_small : (w : List ℕ) (n : ℕ) → data_word_of w ≡ Some n → n < 65536
 data_word_small w n e = let small = spelled_below 16 4 4 w n (omega arith) e in omega (arith, small)
 
-spelled_small : (w : List ℕ) (n : ℕ) → spelled w (data_word_of w) ≡ Ok n → n < 65536
-spelled_small w n e = by (data_word_of w) refl e
+spelled_small : (w : List ℕ) (ts : Tokens) (n : ℕ) → spelled w ts (data_word_of w) ≡ Ok n → n < 65536
+spelled_small w ts n e = by (data_word_of w) refl e
   where
-    by : (o : Option ℕ) → data_word_of w ≡ o → spelled w o ≡ Ok n → n < 65536
+    by : (o : Option ℕ) → data_word_of w ≡ o → spelled w ts o ≡ Ok n → n < 65536
     by (Some m) i h = subst (λ k. k < 65536) (ok_is m n h) (data_word_small w m i)
     by None i h = absurd (cc)
 
@@ -37,12 +37,12 @@ words_ok [] x e = absurd (cc)
 words_ok (w ∷ ts) x e = by (same_bytes w (codes "]")) (λ y i. words_ok ts y i) e
   where
     by : (t : Bool) → ((y : List ℕ × Tokens) → words_at ts ≡ Ok y → AreWords y.0)
-        → cond t (Ok ([], ts)) (spelled w (data_word_of w) >>= (λ n. words_at ts >>= (λ ns. Ok (n ∷ ns.0, ns.1)))) ≡ Ok x → AreWords x.0
+        → cond t (Ok ([], ts)) (spelled w ts (data_word_of w) >>= (λ n. words_at ts >>= (λ ns. Ok (n ∷ ns.0, ns.1)))) ≡ Ok x → AreWords x.0
     by true more i = subst (λ (z : List ℕ × Tokens). AreWords z.0) (ok_is _ x i) tt
     by false more i =
-        let n = bind_ok (spelled w (data_word_of w)) _ x i in
+        let n = bind_ok (spelled w ts (data_word_of w)) _ x i in
         let ns = bind_ok (words_at ts) _ x n.2 in
-        subst (λ (z : List ℕ × Tokens). AreWords z.0) (ok_is _ x ns.2) (spelled_small w n.0 n.1, more ns.0 ns.1)
+        subst (λ (z : List ℕ × Tokens). AreWords z.0) (ok_is _ x ns.2) (spelled_small w ts n.0 n.1, more ns.0 ns.1)
 
 take_words : (n : ℕ) (ws : List ℕ) → AreWords ws → AreWords (take n ws)
 take_words zero ws h = tt
@@ -77,10 +77,10 @@ judged_form : (fault : Option BadMessage) (f g : Form) → rules.judged fault f 
 judged_form None f g e = cc
 judged_form (Some bad) f g e = absurd (cc)
 
-made_ok : (request : Request) (ts : Tokens) (x : Form × Tokens) → AreWords (data_words (form_of request)) → made request ts ≡ Ok x → IsReadable x.0
-made_ok request ts x w e = by (checked request) refl e
+made_ok : (message : Tokens) (request : Request) (ts : Tokens) (x : Form × Tokens) → AreWords (data_words (form_of request)) → made message request ts ≡ Ok x → IsReadable x.0
+made_ok message request ts x w e = by (checked request) refl e
   where
-    by : (r : Result Form BadMessage) → checked request ≡ r → judged_request r ts ≡ Ok x → IsReadable x.0
+    by : (r : Result Form BadMessage) → checked request ≡ r → judged_request message r ts ≡ Ok x → IsReadable x.0
     by (Ok form) i h =
         subst (λ (z : Form × Tokens). IsReadable z.0) (ok_is (form, ts) x h)
         (lawful-checked request form i, subst (λ f. AreWords (data_words f)) (judged_form (rules.first_fault (rules.rules request)) (form_of request) form i) w)
@@ -112,20 +112,20 @@ mode_all_words s c words h = by (nat_le c 15)
     by true = tt
     by false = mode_word_small words h
 
-mode_ok : (s : ModeSubaddress) (ts : Tokens) (x : Form × Tokens) → mode_at s ts ≡ Ok x → IsReadable x.0
+mode_ok : (s : ModeSubaddress) (message ts : Tokens) (x : Form × Tokens) → mode_at s message ts ≡ Ok x → IsReadable x.0
 unfolding mode_at
-mode_ok s ts x e =
+mode_ok s message ts x e =
     let a = bind_ok (number_at ts) _ x e in
     let c = bind_ok (number_at a.0.1) _ x a.2 in
     let w = bind_ok (optional_at c.0.1) _ x c.2 in
-    made_ok (mode_request a.0.0 s c.0.0 w.0.0) w.0.1 x (mode_words a.0.0 s c.0.0 w.0.0 (optional_ok c.0.1 w.0 w.1)) w.2
+    made_ok message (mode_request a.0.0 s c.0.0 w.0.0) w.0.1 x (mode_words a.0.0 s c.0.0 w.0.0 (optional_ok c.0.1 w.0 w.1)) w.2
 
-mode_all_ok : (s : ModeSubaddress) (ts : Tokens) (x : Form × Tokens) → mode_all_at s ts ≡ Ok x → IsReadable x.0
+mode_all_ok : (s : ModeSubaddress) (message ts : Tokens) (x : Form × Tokens) → mode_all_at s message ts ≡ Ok x → IsReadable x.0
 unfolding mode_all_at
-mode_all_ok s ts x e =
+mode_all_ok s message ts x e =
     let c = bind_ok (number_at ts) _ x e in
     let w = bind_ok (optional_at c.0.1) _ x c.2 in
-    made_ok (mode_request_to_all s c.0.0 w.0.0) w.0.1 x (mode_all_words s c.0.0 w.0.0 (optional_ok c.0.1 w.0 w.1)) w.2
+    made_ok message (mode_request_to_all s c.0.0 w.0.0) w.0.1 x (mode_all_words s c.0.0 w.0.0 (optional_ok c.0.1 w.0 w.1)) w.2
 
 kind_ok : (k : MessageWord) (w : List ℕ) (ts : Tokens) (x : Form × Tokens) → message_of k w ts ≡ Ok x → IsReadable x.0
 unfolding message_of receive_at transmit_at transfer_at receive_all_at transfer_all_at
@@ -133,33 +133,33 @@ kind_ok key.Receive w ts x e =
     let a = bind_ok (number_at ts) _ x e in
     let s = bind_ok (number_at a.0.1) _ x a.2 in
     let ws = bind_ok (bracketed_at s.0.1) _ x s.2 in
-    made_ok (to_terminal a.0.0 s.0.0 ws.0.0) ws.0.1 x (bracketed_ok s.0.1 ws.0 ws.1) ws.2
+    made_ok (w ∷ ts) (to_terminal a.0.0 s.0.0 ws.0.0) ws.0.1 x (bracketed_ok s.0.1 ws.0 ws.1) ws.2
 kind_ok key.Transmit w ts x e =
     let a = bind_ok (number_at ts) _ x e in
     let s = bind_ok (number_at a.0.1) _ x a.2 in
     let n = bind_ok (number_at s.0.1) _ x s.2 in
-    made_ok (from_terminal a.0.0 s.0.0 n.0.0) n.0.1 x tt n.2
+    made_ok (w ∷ ts) (from_terminal a.0.0 s.0.0 n.0.0) n.0.1 x tt n.2
 kind_ok key.Transfer w ts x e =
     let a = bind_ok (number_at ts) _ x e in
     let s = bind_ok (number_at a.0.1) _ x a.2 in
     let b = bind_ok (number_at s.0.1) _ x s.2 in
     let t = bind_ok (number_at b.0.1) _ x b.2 in
     let n = bind_ok (number_at t.0.1) _ x t.2 in
-    made_ok (between a.0.0 s.0.0 b.0.0 t.0.0 n.0.0) n.0.1 x tt n.2
-kind_ok key.Mode w ts x e = mode_ok ThirtyOne ts x e
-kind_ok key.ModeZero w ts x e = mode_ok Zero ts x e
+    made_ok (w ∷ ts) (between a.0.0 s.0.0 b.0.0 t.0.0 n.0.0) n.0.1 x tt n.2
+kind_ok key.Mode w ts x e = mode_ok ThirtyOne (w ∷ ts) ts x e
+kind_ok key.ModeZero w ts x e = mode_ok Zero (w ∷ ts) ts x e
 kind_ok key.ReceiveAll w ts x e =
     let s = bind_ok (number_at ts) _ x e in
     let ws = bind_ok (bracketed_at s.0.1) _ x s.2 in
-    made_ok (to_all s.0.0 ws.0.0) ws.0.1 x (bracketed_ok s.0.1 ws.0 ws.1) ws.2
+    made_ok (w ∷ ts) (to_all s.0.0 ws.0.0) ws.0.1 x (bracketed_ok s.0.1 ws.0 ws.1) ws.2
 kind_ok key.TransferAll w ts x e =
     let a = bind_ok (number_at ts) _ x e in
     let s = bind_ok (number_at a.0.1) _ x a.2 in
     let t = bind_ok (number_at s.0.1) _ x s.2 in
     let n = bind_ok (number_at t.0.1) _ x t.2 in
-    made_ok (between_all a.0.0 s.0.0 t.0.0 n.0.0) n.0.1 x tt n.2
-kind_ok key.ModeAll w ts x e = mode_all_ok ThirtyOne ts x e
-kind_ok key.ModeZeroAll w ts x e = mode_all_ok Zero ts x e
+    made_ok (w ∷ ts) (between_all a.0.0 s.0.0 t.0.0 n.0.0) n.0.1 x tt n.2
+kind_ok key.ModeAll w ts x e = mode_all_ok ThirtyOne (w ∷ ts) ts x e
+kind_ok key.ModeZeroAll w ts x e = mode_all_ok Zero (w ∷ ts) ts x e
 kind_ok key.NoMessage w ts x e = absurd (cc)
 
 message_ok : (ts : Tokens) (x : Form × Tokens) → message_at ts ≡ Ok x → IsReadable x.0

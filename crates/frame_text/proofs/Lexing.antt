@@ -1,9 +1,10 @@
 -- How a text begins, and its tokens.
-use Rattle.std.proofs.Common.{◌≡◌, ℕ, zero, suc, ◌+◌, ◌<◌, ◌≤◌, Bool, true, false, cond, List, [], ◌∷◌, ◌++◌, append_assoc, length, get_or, take, drop, refl, sym, ap, ap₂, ◌∙◌, subst, ⊎_elim, arith}
+use Rattle.std.proofs.Common.{◌≡◌, ℕ, zero, suc, ◌+◌, ◌<◌, ◌≤◌, Bool, true, false, cond, List, [], ◌∷◌, length, get_or, take, drop, refl, sym, ap, ap₂, ◌∙◌, subst, ⊎_elim, arith}
 use Rattle.std.proofs.lemmas.Bool.{cases_lt}
 use Rattle.std.specs.Prelude.{nat_eq, not, ◌&&◌}
 use Rattle.std.proofs.lemmas.Bool.Decides.{nat_tests}
 use Rattle.frame_text.specs.Tokens.{in_word, is_blank, goes_on, glued, lex, BeginsToken}
+use Rattle.frame_text.specs.Starts.{from_token, first_of, behind_token, behind_tokens}
 
 pub lex_end : (c : Bool) (bs : List ℕ) → length bs ≡ 0 → lex false bs ≡ lex c bs
 unfolding lex
@@ -82,6 +83,35 @@ unfolding lex
 no_bytes [] e = refl
 no_bytes (b ∷ bs) e = absurd (omega (arith, e))
 
--- a suffix without its first byte is a suffix
-pub shorter_suffix : (text rest after : List ℕ) (b : ℕ) → rest ≡ b ∷ after → ((before : List ℕ) × (text ≡ before ++ rest)) → (before : List ℕ) × (text ≡ before ++ after)
-shorter_suffix text rest after b e p = (p.0 ++ b ∷ [], p.1 ∙ ap (λ xs. p.0 ++ xs) e ∙ sym (append_assoc p.0 (b ∷ []) after))
+-- the first token, byte by byte
+pub from_end : (c : Bool) (bs : List ℕ) → length bs ≡ 0 → bs ≡ from_token c bs
+unfolding from_token
+from_end c [] e = refl
+from_end c (b ∷ bs) e = absurd (omega (arith, e))
+
+pub from_comment : (b : ℕ) (bs : List ℕ) → from_token true (b ∷ bs) ≡ from_token (not (nat_eq b 10)) bs
+unfolding from_token
+from_comment b bs = refl
+
+pub from_hash : (b : ℕ) (bs : List ℕ) → b ≡ 35 → from_token false (b ∷ bs) ≡ from_token true bs
+unfolding from_token
+from_hash b bs e = ap (λ x. from_token false (x ∷ bs)) e
+
+pub from_space : (b : ℕ) (bs : List ℕ) → is_blank b ≡ true → from_token false (b ∷ bs) ≡ from_token false bs
+unfolding from_token
+from_space b bs e = ap (λ t. cond t (from_token false bs) (cond (nat_eq b 35) (from_token true bs) (b ∷ bs))) e
+
+pub from_here : (b : ℕ) (bs : List ℕ) → is_blank b ≡ false → nat_eq b 35 ≡ false → from_token false (b ∷ bs) ≡ b ∷ bs
+unfolding from_token
+from_here b bs s h = ap (λ t. cond t (from_token false bs) (cond (nat_eq b 35) (from_token true bs) (b ∷ bs))) s ∙ ap (λ t. cond t (from_token true bs) (b ∷ bs)) h
+
+-- behind one token more
+pub one_behind : (n : ℕ) (text rest after : List ℕ) → rest ≡ behind_tokens n text → after ≡ behind_token rest → after ≡ behind_tokens (n + 1) text
+one_behind n text rest after e h = let more : suc n ≡ n + 1 = omega arith in h ∙ ap behind_token e ∙ ap (λ k. behind_tokens k text) more
+
+-- the rest behind the first token
+pub first_behind : (text from w rest : List ℕ) (ts : List (List ℕ)) → lex false text ≡ w ∷ ts → rest ≡ drop (length w) from → from ≡ from_token false text → rest ≡ behind_token text
+first_behind text from w rest ts is e h = e ∙ ap (λ z. drop (length w) z) h ∙ ap (λ z. drop (length (first_of z)) (from_token false text)) (sym is)
+
+pub none_behind : (text rest : List ℕ) → lex false text ≡ [] → rest ≡ from_token false text → rest ≡ behind_token text
+none_behind text rest is e = e ∙ ap (λ z. drop (length (first_of z)) (from_token false text)) (sym is)

@@ -121,9 +121,9 @@ timed_back ds d n b ts low high q =
     ∙ ap (λ z. z >>= (λ x. Ok (timed n x.0, x.1))) (block_back ds d b ts q)
 
 -- a call of a name in scope
-call_back : (ds : Scope ℕ) (d : ℕ) (n : List ℕ) (ts : Tokens) → is_name n ≡ true → is_known ds n ≡ true → meant_by 0 ds n ≤ d → call_at ds d (n ∷ ts) ≡ Ok (call n, ts)
+call_back : (ds : Scope ℕ) (d : ℕ) (frame : Tokens) (n : List ℕ) (ts : Tokens) → is_name n ≡ true → is_known ds n ≡ true → meant_by 0 ds n ≤ d → call_at ds d frame (n ∷ ts) ≡ Ok (call n, ts)
 unfolding label_at
-call_back ds d n ts r w l = rw (r, w, le-leb (meant_by 0 ds n) d l) refl
+call_back ds d frame n ts r w l = rw (r, w, le-leb (meant_by 0 ds n) d l) refl
 
 -- a frame, and a chain of frames in a block
 back : (ds : Scope ℕ) (k : Bool) (t : Tree) (d : ℕ) → IsRead k t → IsInRange t → CallsKnown ds t → depth_in ds t ≤ d → Back ds k d t
@@ -144,7 +144,7 @@ back ds false (until c n b) zero r h w l = absurd (omega (arith, l))
 back ds false (until c n b) (suc d) r h w l = λ ts f. until_back ds d c n b ts h.0 h.1 h.2 (back ds true b d r h.3 w (omega (arith, l)))
 back ds false (timed n b) zero r h w l = absurd (omega (arith, l))
 back ds false (timed n b) (suc d) r h w l = λ ts f. timed_back ds d n b ts h.0 h.1 (back ds true b d r h.2 w (omega (arith, l)))
-back ds false (call n) d r h w l = λ ts f. call_back ds d n ts r w l
+back ds false (call n) d r h w l = λ ts f. call_back ds d (codes "call" ∷ n ∷ ts) n ts r w l
 back ds false (define n b k) d r h w l = absurd r
 back ds false nothing d r h w l = absurd r
 back ds false (chained a b) d r h w l = absurd r

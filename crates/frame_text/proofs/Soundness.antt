@@ -7,12 +7,11 @@ use Rattle.frame_tree.specs.Bounds.{depth_in, worst_messages, operators, IsInRan
 use Rattle.frame_tree.specs.Names.{Scope, is_known}
 use Rattle.frame_tree.specs.Names as names
 use Rattle.std.proofs.lemmas.Bool.{leb-true}
-use Rattle.frame_text.specs.Reading.{◌>>=◌, Tokens, TokenReading, same_bytes, misplaced, past}
+use Rattle.frame_text.specs.Reading.{◌>>=◌, Failure, fails, Tokens, TokenReading, same_bytes, misplaced, past}
 use Rattle.frame_text.specs.Words.{number_at, number_within, period_at}
 use Rattle.frame_text.specs.Messages.{send_at}
 use Rattle.frame_text.specs.Conditions.{condition_at, condition_from, condition_of, condition_word, below_at, name_at, pair_at}
 use Rattle.frame_text.specs.Frames.{Reader, frame_at, frame_from, frame_of, frame_word, frames_at, block_at, block_from, inner_at, else_at, label_at, call_at, main_at, fresh_name_at, definition_at, script_at}
-use Rattle.frame_text.specs.declared.faults.Cause.{Cause}
 use Rattle.frame_text.specs.declared.faults.Cause.TheVariants as cause
 use Rattle.frame_text.specs.declared.keywords.ConditionWord.{ConditionWord}
 use Rattle.frame_text.specs.declared.keywords.ConditionWord.TheVariants as key
@@ -20,17 +19,17 @@ use Rattle.frame_text.specs.declared.keywords.FrameWord.{FrameWord}
 use Rattle.frame_text.specs.declared.keywords.FrameWord.TheVariants as word
 
 -- what a reading that went well read first
-pub bind_ok : {X Y : Type 0} (r : Result X Cause) (f : X → Result Y Cause) (y : Y) → (r >>= f) ≡ Ok y → (x : X) × (r ≡ Ok x) × (f x ≡ Ok y)
+pub bind_ok : {X Y : Type 0} (r : Result X Failure) (f : X → Result Y Failure) (y : Y) → (r >>= f) ≡ Ok y → (x : X) × (r ≡ Ok x) × (f x ≡ Ok y)
 bind_ok (Ok x) f y e = (x, refl, e)
 bind_ok (Err c) f y e = absurd (cc)
 
-abbrev pub ok : {X : Type 0} → X → Result X Cause
+abbrev pub ok : {X : Type 0} → X → Result X Failure
 ok x = Ok x
 
 pub ok_is : {X : Type 0} (x y : X) → ok x ≡ ok y → x ≡ y
 ok_is x y e = cc
 
-chosen : {X : Type 0} (b : Bool) (x y : X) (c : Cause) → cond b (Ok x) (Err c) ≡ Ok y → (b ≡ true) × (x ≡ y)
+chosen : {X : Type 0} (b : Bool) (x y : X) (c : Failure) → cond b (Ok x) (Err c) ≡ Ok y → (b ≡ true) × (x ≡ y)
 chosen true x y c e = (refl, ok_is x y e)
 chosen false x y c e = absurd (cc)
 
@@ -41,7 +40,7 @@ number_ok : (low high : ℕ) (ts : Tokens) (n : ℕ × Tokens) → number_within
 unfolding number_within
 number_ok low high ts n e =
     let b = bind_ok (number_at ts) _ n e in
-    let k = chosen (nat_le low b.0.0 && nat_le b.0.0 high) b.0 n cause.Range b.2 in
+    let k = chosen (nat_le low b.0.0 && nat_le b.0.0 high) b.0 n (cause.Range, length ts) b.2 in
     let r = both_true low b.0.0 high k.0 in
     let i : b.0.0 ≡ n.0 = ap (λ m. m.0) k.1 in
     (omega (arith, r.0, i), omega (arith, r.1, i))
@@ -51,7 +50,7 @@ unfolding period_at
 period_ok ts n e =
     let b = bind_ok (number_within 100 6553500 ts) _ n e in
     let r = number_ok 100 6553500 ts b.0 b.1 in
-    let k = chosen (nat_eq (b.0.0 % 100) 0) (b.0.0 / 100, b.0.1) n cause.Range b.2 in
+    let k = chosen (nat_eq (b.0.0 % 100) 0) (b.0.0 / 100, b.0.1) n (cause.Range, length ts) b.2 in
     let i : b.0.0 / 100 ≡ n.0 = ap (λ m. m.0) k.1 in
     (omega (arith, r.0, i), omega (arith, r.1, i))
 
@@ -133,17 +132,17 @@ else_ok ds d block sound h (w ∷ ts) x e = by (same_bytes w (codes "else")) e
     by false i = subst (λ (z : Tree × Tokens). (1 + depth_in ds z.0 ≤ d) × IsInRange z.0 × CallsKnown ds z.0) (ok_is _ x i) (omega (arith, h), tt, tt)
 
 -- a call of a name in scope, whose body is not too deep
-call_ok : (ds : Scope ℕ) (d : ℕ) → ReadsTrees ds d (call_at ds d)
-call_ok ds d ts x e =
+call_ok : (ds : Scope ℕ) (d : ℕ) (frame : Tokens) → ReadsTrees ds d (call_at ds d frame)
+call_ok ds d frame ts x e =
     let n = bind_ok (label_at ts) _ x e in
     by n.0.0 n.0.1 (is_known ds n.0.0) (nat_le (names.meant_by 0 ds n.0.0) d) refl refl n.2
   where
-    by : (n : List ℕ) (us : Tokens) (b k : Bool) → is_known ds n ≡ b → nat_le (names.meant_by 0 ds n) d ≡ k → cond b (cond k (Ok (call n, us)) (Err cause.Depth)) (Err cause.Name) ≡ Ok x → IsTreeWithin ds d x.0
+    by : (n : List ℕ) (us : Tokens) (b k : Bool) → is_known ds n ≡ b → nat_le (names.meant_by 0 ds n) d ≡ k → cond b (cond k (Ok (call n, us)) (fails cause.Depth frame)) (fails cause.Name ts) ≡ Ok x → IsTreeWithin ds d x.0
     by n us true true p q i = subst (λ (z : Tree × Tokens). IsTreeWithin ds d z.0) (ok_is _ x i) (leb-true (names.meant_by 0 ds n) d q, tt, p)
     by n us true false p q i = absurd (cc)
     by n us false k p q i = absurd (cc)
 
-word_ok : (ds : Scope ℕ) (d : ℕ) (calls block : Reader) → ReadsTrees ds d calls → ReadsBlocks ds d block → (k : FrameWord) (w : List ℕ) (ts : Tokens) (x : Tree × Tokens) → frame_of calls block k w ts ≡ Ok x → IsTreeWithin ds d x.0
+word_ok : (ds : Scope ℕ) (d : ℕ) (calls : Tokens → Reader) (block : Reader) → ((frame : Tokens) → ReadsTrees ds d (calls frame)) → ReadsBlocks ds d block → (k : FrameWord) (w : List ℕ) (ts : Tokens) (x : Tree × Tokens) → frame_of calls block k w ts ≡ Ok x → IsTreeWithin ds d x.0
 unfolding frame_of
 word_ok ds d calls block known sound word.Send w ts x e =
     let m = bind_ok (send_at ts) _ x e in
@@ -184,10 +183,10 @@ word_ok ds d calls block known sound word.Timed w ts x e =
     let s = sound n.0.1 b.0 b.1 in
     let r = period_ok ts n.0 n.1 in
     subst (λ (z : Tree × Tokens). IsTreeWithin ds d z.0) (ok_is _ x b.2) (s.0, (r.0, r.1, s.1), s.2)
-word_ok ds d calls block known sound word.Call w ts x e = known ts x e
+word_ok ds d calls block known sound word.Call w ts x e = known (w ∷ ts) ts x e
 word_ok ds d calls block known sound word.NoFrame w ts x e = absurd (cc)
 
-frame_ok : (ds : Scope ℕ) (d : ℕ) (calls block : Reader) → ReadsTrees ds d calls → ReadsBlocks ds d block → ReadsTrees ds d (frame_from calls block)
+frame_ok : (ds : Scope ℕ) (d : ℕ) (calls : Tokens → Reader) (block : Reader) → ((frame : Tokens) → ReadsTrees ds d (calls frame)) → ReadsBlocks ds d block → ReadsTrees ds d (frame_from calls block)
 unfolding frame_from
 frame_ok ds d calls block known sound [] x e = absurd (cc)
 frame_ok ds d calls block known sound (w ∷ ts) x e = word_ok ds d calls block known sound (frame_word w) w ts x e
@@ -212,12 +211,12 @@ unfolding block_from inner_at
 block_ok ds d [] x e = absurd (cc)
 block_ok ds zero (w ∷ ts) x e = by (same_bytes w (codes "{")) e
   where
-    by : (t : Bool) → cond t (Err cause.Depth) (Err (misplaced w)) ≡ Ok x → (1 + depth_in ds x.0 ≤ 0) × IsInRange x.0 × CallsKnown ds x.0
+    by : (t : Bool) → cond t (fails cause.Depth (w ∷ ts)) (fails (misplaced w) (w ∷ ts)) ≡ Ok x → (1 + depth_in ds x.0 ≤ 0) × IsInRange x.0 × CallsKnown ds x.0
     by true i = absurd (cc)
     by false i = absurd (cc)
 block_ok ds (suc d) (w ∷ ts) x e = by (same_bytes w (codes "{")) (λ us y i. block_ok ds d us y i) e
   where
-    by : (t : Bool) → ReadsBlocks ds d (block_at ds d) → cond t (frames_at (frame_at ds d) (length ts) ts) (Err (misplaced w)) ≡ Ok x → (1 + depth_in ds x.0 ≤ suc d) × IsInRange x.0 × CallsKnown ds x.0
+    by : (t : Bool) → ReadsBlocks ds d (block_at ds d) → cond t (frames_at (frame_at ds d) (length ts) ts) (fails (misplaced w) (w ∷ ts)) ≡ Ok x → (1 + depth_in ds x.0 ≤ suc d) × IsInRange x.0 × CallsKnown ds x.0
     by true more i = let s = frames_ok ds d (frame_at ds d) (frame_ok ds d (call_at ds d) (block_at ds d) (call_ok ds d) more) (length ts) ts x i in (omega (arith, s.0), s.1, s.2)
     by false more i = absurd (cc)
 
@@ -278,7 +277,7 @@ definition_ok ds ts x e =
     let unknown = by m.0 (is_known ds m.0.0) refl n.0 m.2 in
     subst (λ (z : (List ℕ × Tree) × Tokens). (is_known ds z.0.0 ≡ false) × (depth_in ds z.0.1 ≤ 16) × IsInRange z.0.1 × CallsKnown ds z.0.1) (ok_is _ x b.2) (unknown, omega (arith, s.0), s.1, s.2)
   where
-    by : (m : List ℕ × Tokens) (b : Bool) → is_known ds m.0 ≡ b → ((n : List ℕ × Tokens) → cond b (Err cause.Name) (Ok m) ≡ Ok n → is_known ds n.0 ≡ false)
+    by : (m : List ℕ × Tokens) (b : Bool) → is_known ds m.0 ≡ b → ((n : List ℕ × Tokens) → cond b (fails cause.Name ts) (Ok m) ≡ Ok n → is_known ds n.0 ≡ false)
     by m true h n i = absurd (cc)
     by m false h n i = subst (λ (z : List ℕ × Tokens). is_known ds z.0 ≡ false) (ok_is m n i) h
 
@@ -287,7 +286,7 @@ unfolding script_at
 script_ok k ds es h few [] t e = subst (IsScriptWithin ds es) (ok_is _ t e) (omega arith, tt, tt)
 script_ok zero ds es h few (w ∷ ts) t e = by (same_bytes w (codes "define")) e
   where
-    by : (b : Bool) → cond b (Err cause.Definitions) (main_at ds (length (w ∷ ts)) (w ∷ ts)) ≡ Ok t → IsScriptWithin ds es t
+    by : (b : Bool) → cond b (fails cause.Definitions (w ∷ ts)) (main_at ds (length (w ∷ ts)) (w ∷ ts)) ≡ Ok t → IsScriptWithin ds es t
     by true i = absurd (cc)
     by false i = main_within ds es h (length (w ∷ ts)) (w ∷ ts) t i
 script_ok (suc k) ds es h few (w ∷ ts) t e = by (same_bytes w (codes "define")) (λ x y f g us u i. script_ok k x y f g us u i) e

@@ -1,12 +1,12 @@
 -- The print of a sound script is read as that script, and what is read of a text is a script.
-use Rattle.std.proofs.Common.{◌≡◌, ℕ, zero, suc, Bool, true, false, cond, List, [], ◌∷◌, length, Ok, Err, refl, sym, ap, ◌∙◌, subst, arith}
+use Rattle.std.proofs.Common.{◌≡◌, ℕ, zero, suc, Bool, true, false, cond, List, [], ◌∷◌, length, Ok, refl, sym, ap, ◌∙◌, subst, arith}
 use Rattle.std.specs.Prelude.{codes, nat_le}
 use Rattle.std.proofs.lemmas.Bool.{le-leb}
 use Rattle.frame_tree.specs.Tree.{Tree, nothing, chained, call, define}
 use Rattle.frame_tree.specs.Bounds.{IsSound, worst_messages, depth_in}
 use Rattle.frame_tree.specs.Names.{is_name, Scope, meant_by, is_known}
 use Rattle.frame_text.specs.Tokens.{lex, tokens}
-use Rattle.frame_text.specs.Reading.{Tokens, ◌>>=◌, same_bytes, misplaced, past}
+use Rattle.frame_text.specs.Reading.{Tokens, fails, cause_alone, ◌>>=◌, same_bytes, misplaced, past}
 use Rattle.frame_text.specs.Words.{number_within, period_at}
 use Rattle.frame_text.specs.Messages.{send_at}
 use Rattle.frame_text.specs.Conditions.{condition_at}
@@ -35,7 +35,7 @@ else_read block reads (w ∷ ts) x e = by (same_bytes w (codes "else")) e
     by true i = reads ts x i
     by false i = subst (λ (z : Tree × Tokens). IsRead true z.0) (ok_is _ x i) tt
 
-word_read : (calls block : Reader) → Reads false calls → Reads true block → (k : FrameWord) (w : List ℕ) (ts : Tokens) (x : Tree × Tokens) → frame_of calls block k w ts ≡ Ok x → IsRead false x.0
+word_read : (calls : Tokens → Reader) (block : Reader) → ((frame : Tokens) → Reads false (calls frame)) → Reads true block → (k : FrameWord) (w : List ℕ) (ts : Tokens) (x : Tree × Tokens) → frame_of calls block k w ts ≡ Ok x → IsRead false x.0
 unfolding frame_of
 word_read calls block known reads word.Send w ts x e =
     let m = bind_ok (send_at ts) _ x e in
@@ -68,10 +68,10 @@ word_read calls block known reads word.Timed w ts x e =
     let n = bind_ok (period_at ts) _ x e in
     let b = bind_ok (block n.0.1) _ x n.2 in
     subst (λ (z : Tree × Tokens). IsRead false z.0) (ok_is _ x b.2) (reads n.0.1 b.0 b.1)
-word_read calls block known reads word.Call w ts x e = known ts x e
+word_read calls block known reads word.Call w ts x e = known (w ∷ ts) ts x e
 word_read calls block known reads word.NoFrame w ts x e = absurd (cc)
 
-frame_read : (calls block : Reader) → Reads false calls → Reads true block → Reads false (frame_from calls block)
+frame_read : (calls : Tokens → Reader) (block : Reader) → ((frame : Tokens) → Reads false (calls frame)) → Reads true block → Reads false (frame_from calls block)
 unfolding frame_from
 frame_read calls block known reads [] x e = absurd (cc)
 frame_read calls block known reads (w ∷ ts) x e = word_read calls block known reads (frame_word w) w ts x e
@@ -81,16 +81,16 @@ unfolding label_at
 label_read [] n e = absurd (cc)
 label_read (w ∷ ts) n e = by (is_name w) refl e
   where
-    by : (b : Bool) → is_name w ≡ b → cond b (Ok (w, ts)) (Err (misplaced w)) ≡ Ok n → is_name n.0 ≡ true
+    by : (b : Bool) → is_name w ≡ b → cond b (Ok (w, ts)) (fails (misplaced w) (w ∷ ts)) ≡ Ok n → is_name n.0 ≡ true
     by true h i = subst (λ (z : List ℕ × Tokens). is_name z.0 ≡ true) (ok_is _ n i) h
     by false h i = absurd (cc)
 
-call_read : (ds : Scope ℕ) (d : ℕ) → Reads false (call_at ds d)
-call_read ds d ts x e =
+call_read : (ds : Scope ℕ) (d : ℕ) (frame : Tokens) → Reads false (call_at ds d frame)
+call_read ds d frame ts x e =
     let n = bind_ok (label_at ts) _ x e in
     by n.0 (label_read ts n.0 n.1) (is_known ds n.0.0) (nat_le (meant_by 0 ds n.0.0) d) n.2
   where
-    by : (n : List ℕ × Tokens) → is_name n.0 ≡ true → (b k : Bool) → cond b (cond k (Ok (call n.0, n.1)) (Err cause.Depth)) (Err cause.Name) ≡ Ok x → IsRead false x.0
+    by : (n : List ℕ × Tokens) → is_name n.0 ≡ true → (b k : Bool) → cond b (cond k (Ok (call n.0, n.1)) (fails cause.Depth frame)) (fails cause.Name ts) ≡ Ok x → IsRead false x.0
     by n h true true i = subst (λ (z : Tree × Tokens). IsRead false z.0) (ok_is _ x i) h
     by n h true false i = absurd (cc)
     by n h false k i = absurd (cc)
@@ -113,12 +113,12 @@ unfolding block_from inner_at
 block_read ds d [] x e = absurd (cc)
 block_read ds zero (w ∷ ts) x e = by (same_bytes w (codes "{")) e
   where
-    by : (t : Bool) → cond t (Err cause.Depth) (Err (misplaced w)) ≡ Ok x → IsRead true x.0
+    by : (t : Bool) → cond t (fails cause.Depth (w ∷ ts)) (fails (misplaced w) (w ∷ ts)) ≡ Ok x → IsRead true x.0
     by true i = absurd (cc)
     by false i = absurd (cc)
 block_read ds (suc d) (w ∷ ts) x e = by (same_bytes w (codes "{")) (λ us y i. block_read ds d us y i) e
   where
-    by : (t : Bool) → Reads true (block_at ds d) → cond t (frames_at (frame_at ds d) (length ts) ts) (Err (misplaced w)) ≡ Ok x → IsRead true x.0
+    by : (t : Bool) → Reads true (block_at ds d) → cond t (frames_at (frame_at ds d) (length ts) ts) (fails (misplaced w) (w ∷ ts)) ≡ Ok x → IsRead true x.0
     by true more i = frames_read (frame_at ds d) (frame_read (call_at ds d) (block_at ds d) (call_read ds d) more) (length ts) ts x i
     by false more i = absurd (cc)
 
@@ -140,7 +140,7 @@ definition_read ds ts x e =
     let name = by m.0 (label_read ts m.0 m.1) (is_known ds m.0.0) n.0 m.2 in
     subst (λ (z : (List ℕ × Tree) × Tokens). (is_name z.0.0 ≡ true) × IsRead true z.0.1) (ok_is _ x b.2) (name, block_read ds 17 n.0.1 b.0 b.1)
   where
-    by : (m : List ℕ × Tokens) → is_name m.0 ≡ true → (b : Bool) → (n : List ℕ × Tokens) → cond b (Err cause.Name) (Ok m) ≡ Ok n → is_name n.0 ≡ true
+    by : (m : List ℕ × Tokens) → is_name m.0 ≡ true → (b : Bool) → (n : List ℕ × Tokens) → cond b (fails cause.Name ts) (Ok m) ≡ Ok n → is_name n.0 ≡ true
     by m h true n i = absurd (cc)
     by m h false n i = subst (λ (z : List ℕ × Tokens). is_name z.0 ≡ true) (ok_is m n i) h
 
@@ -150,7 +150,7 @@ unfolding script_at
 script_read k ds [] t e = subst IsScript (ok_is _ t e) tt
 script_read zero ds (w ∷ ts) t e = by (same_bytes w (codes "define")) e
   where
-    by : (b : Bool) → cond b (Err cause.Definitions) (main_at ds (length (w ∷ ts)) (w ∷ ts)) ≡ Ok t → IsScript t
+    by : (b : Bool) → cond b (fails cause.Definitions (w ∷ ts)) (main_at ds (length (w ∷ ts)) (w ∷ ts)) ≡ Ok t → IsScript t
     by true i = absurd (cc)
     by false i = script_of t (main_read ds (length (w ∷ ts)) (w ∷ ts) t i)
 script_read (suc k) ds (w ∷ ts) t e = by (same_bytes w (codes "define")) (λ xs us u i. script_read k xs us u i) e
@@ -171,6 +171,6 @@ printed_tokens t r s = ap (lex false) (sym (append-nil (printed t))) ∙ (script
 
 pub sound_back : (t : Tree) → IsScript t → IsSound t → tree_of_text (printed t) ≡ Ok t
 sound_back t r s =
-    ap (λ ts. script_at 32 [] ts >>= (λ u. bounded u)) (printed_tokens t r s)
-    ∙ ap (λ z. z >>= (λ u. bounded u)) (script_back t 32 [] [] (λ n. refl) (omega arith) r s.in_range s.defined s.shallow)
-    ∙ ap (λ b. cond b (Ok t) (Err cause.Messages)) (le-leb (worst_messages t) 1000000 s.bounded)
+    ap (λ ts. cause_alone (script_at 32 [] ts >>= (λ u. bounded ts u))) (printed_tokens t r s)
+    ∙ ap (λ z. cause_alone (z >>= (λ u. bounded (tree_then t []) u))) (script_back t 32 [] [] (λ n. refl) (omega arith) r s.in_range s.defined s.shallow)
+    ∙ ap (λ b. cause_alone (cond b (Ok t) (fails cause.Messages (tree_then t [])))) (le-leb (worst_messages t) 1000000 s.bounded)

@@ -1,4 +1,5 @@
 pub mod Tokens
+pub mod Starts
 pub mod Reading
 pub mod Codes
 pub mod Outlines

@@ -1,7 +1,7 @@
 -- What reading tokens from left to right comes to: what was read and the tokens after it, or the first fault.
-use Rattle.std.specs.Prelude.{◌≡◌, ◌<◌, ℕ, Bool, false, ◌||◌, if◌then◌else◌, List, [], ◌∷◌, ◌++◌}
-use Rattle.std.specs.Prelude.{length, Result, Ok, Err, codes}
-use Rattle.frame_text.specs.Tokens.{in_word, tokens, BeginsToken}
+use Rattle.std.specs.Prelude.{◌≡◌, ◌<◌, ℕ, Bool, false, ◌||◌, if◌then◌else◌, List, [], ◌∷◌, length}
+use Rattle.std.specs.Prelude.{Result, Ok, Err, codes}
+use Rattle.frame_text.specs.Tokens.{in_word, tokens}
 use Rattle.frame_text.specs.declared.faults.Cause.{Cause}
 use Rattle.frame_text.specs.declared.faults.Cause.TheVariants as cause
 use Rattle.frame_text.specs.declared.faults.Fault.{Fault}
@@ -13,31 +13,49 @@ pub use Rattle.frame_tree.specs.Names.{same_bytes}
 abbrev pub Tokens : Type 0
 Tokens = List (List ℕ)
 
+-- a fault: its cause, and how many tokens are left from its place on, where it stands at a token or at the end
+abbrev pub Failure : Type 0
+Failure = Cause × ℕ
+
+-- the fault at the first of these tokens, at the end where there are none
+abbrev pub fails : {X : Type 0} → Cause → Tokens → Result X Failure
+fails c ts = Err (c, length ts)
+
+-- what is known without a place fails at the first of these tokens
+abbrev pub at_first : {X : Type 0} → Tokens → Result X Cause → Result X Failure
+at_first ts (Ok x) = Ok x
+at_first ts (Err c) = fails c ts
+
+-- what was read, or the cause of the first fault alone
+abbrev pub cause_alone : {X : Type 0} → Result X Failure → Result X Cause
+cause_alone (Ok x) = Ok x
+cause_alone (Err f) = Err f.0
+
 -- an X and the tokens after it, or the first fault
 abbrev pub TokenReading : Type 0 → Type 0
-TokenReading X = Result (X × Tokens) Cause
+TokenReading X = Result (X × Tokens) Failure
 
 infixl 10 ◌>>=◌
-abbrev pub ◌>>=◌ : {X Y : Type 0} → Result X Cause → (X → Result Y Cause) → Result Y Cause
+abbrev pub ◌>>=◌ : {X Y : Type 0} → Result X Failure → (X → Result Y Failure) → Result Y Failure
 (Ok x) >>= f = f x
 (Err e) >>= f = Err e
 
 -- a fault of the text is the one that reading comes to; want of memory says nothing
-abbrev pub FailsReadingTokens : {Y : Type 0} → Fault → Result Y Cause → Type 0
-FailsReadingTokens (fault.Text c left) read = read ≡ Err c
+abbrev pub FailsReadingTokens : {Y : Type 0} → Fault → Result Y Failure → Type 0
+FailsReadingTokens (fault.Text c left) read = read ≡ Err (c, left)
 FailsReadingTokens (fault.Memory left) read = Unit {0}
 
 -- what a call answered is what reading comes to, but for want of memory
-abbrev pub ReadsTokens : {X Y : Type 0} → (X → Y) → Result X Fault → Result Y Cause → Type 0
+abbrev pub ReadsTokens : {X Y : Type 0} → (X → Y) → Result X Fault → Result Y Failure → Type 0
 ReadsTokens view (Ok x) read = read ≡ Ok (view x)
 ReadsTokens view (Err e) read = FailsReadingTokens e read
 
 -- the same where this is known when memory was refused
-abbrev pub Breaks : {Y : Type 0} → Type 0 → Fault → Result Y Cause → Type 0
-Breaks refused (fault.Text c left) read = read ≡ Err c
+abbrev pub Breaks : {Y : Type 0} → Type 0 → Fault → Result Y Failure → Type 0
+Breaks refused (fault.Text c left) read = read ≡ Err (c, left)
 Breaks refused (fault.Memory left) read = refused
 
-abbrev pub ReadsTokensInMemory : {X Y : Type 0} → Type 0 → (X → Y) → Result X Fault → Result Y Cause → Type 0
+abbrev pub ReadsTokensInMemory : {X Y : Type 0} → Type 0 → (X → Y) → Result X Fault → Result Y Failure → Type 0
 ReadsTokensInMemory refused view (Ok x) read = read ≡ Ok (view x)
 ReadsTokensInMemory refused view (Err e) read = Breaks refused e read
 
@@ -49,7 +67,7 @@ Makes refused view reader text (Ok x) =
 Makes refused view reader text (Err e) = Breaks refused e (reader (tokens text))
 
 -- reading comes to no fault
-abbrev pub HasNoFault : {Y : Type 0} → Result Y Cause → Type 0
+abbrev pub HasNoFault : {Y F : Type 0} → Result Y F → Type 0
 HasNoFault {Y} read = (y : Y) × (read ≡ Ok y)
 
 -- The same of the public calls: want of memory is answered only where reading comes to no fault.
@@ -77,26 +95,18 @@ abbrev pub misplaced : List ℕ → Cause
 misplaced w = if is_word w || is_bracket w then cause.Token else cause.Byte
 
 -- a token that has to stand here
-unfoldable pub past : List ℕ → Tokens → Result Tokens Cause
-past token [] = Err cause.End
-past token (w ∷ ts) = if same_bytes w token then Ok ts else Err (misplaced w)
+unfoldable pub past : List ℕ → Tokens → Result Tokens Failure
+past token [] = fails cause.End []
+past token (w ∷ ts) = if same_bytes w token then Ok ts else fails (misplaced w) (w ∷ ts)
 
 -- a reading of all tokens
-unfoldable pub to_the_end : {X : Type 0} → X × Tokens → Result X Cause
+unfoldable pub to_the_end : {X : Type 0} → X × Tokens → Result X Failure
 to_the_end (x, []) = Ok x
-to_the_end (x, (w ∷ ts)) = Err (misplaced w)
+to_the_end (x, (w ∷ ts)) = fails (misplaced w) (w ∷ ts)
 
--- a fault of the text with this cause
-abbrev pub IsCause : Cause → Fault → Type 0
-IsCause c (fault.Text d left) = d ≡ c
-IsCause c (fault.Memory left) = ⊥
-
--- a fault at the first token of a text, or at its end: that many bytes are left from there on
-abbrev pub IsAtToken : List ℕ → Fault → Type 0
-IsAtToken text (fault.Text c left) =
-    (before : List ℕ) × (rest : List ℕ) × (text ≡ before ++ rest) × (tokens rest ≡ tokens text) × BeginsToken rest
-    × (left ≡ length rest)
-IsAtToken text (fault.Memory left) = ⊥
+-- the fault with this cause at the first of these tokens, at the end where there are none
+abbrev pub IsFault : Cause → Tokens → Fault → Type 0
+IsFault c ts f = f ≡ fault.Text c (length ts)
 
 -- a fault of the text, and not want of memory
 abbrev pub IsOfText : Fault → Type 0

@@ -1,8 +1,8 @@
 -- Numbers, periods and data words.
 use Rattle.std.specs.Prelude.{ℕ, ◌/◌, ◌%◌, nat_eq, nat_le, ◌&&◌, if◌then◌else◌, List, [], ◌∷◌, take, Option, Some, None}
-use Rattle.std.specs.Prelude.{Result, Ok, Err, codes}
+use Rattle.std.specs.Prelude.{Result, Ok, codes}
 use Rattle.numerals.specs.Numerals.{number_of, data_word_of}
-use Rattle.frame_text.specs.Reading.{Tokens, TokenReading, ◌>>=◌, same_bytes, is_word, misplaced, past}
+use Rattle.frame_text.specs.Reading.{Tokens, Failure, fails, TokenReading, ◌>>=◌, same_bytes, is_word, misplaced, past}
 use Rattle.frame_text.specs.declared.faults.Cause.{Cause}
 use Rattle.frame_text.specs.declared.faults.Cause.TheVariants as cause
 
@@ -10,34 +10,35 @@ use Rattle.frame_text.specs.declared.faults.Cause.TheVariants as cause
 abbrev pub unspelled : List ℕ → Cause
 unspelled w = if is_word w then cause.Number else misplaced w
 
-abbrev pub spelled : List ℕ → Option ℕ → Result ℕ Cause
-spelled w (Some n) = Ok n
-spelled w None = Err (unspelled w)
+-- what a token spells, in front of others
+abbrev pub spelled : List ℕ → Tokens → Option ℕ → Result ℕ Failure
+spelled w ts (Some n) = Ok n
+spelled w ts None = fails (unspelled w) (w ∷ ts)
 
 -- a number
 unfoldable pub number_at : Tokens → TokenReading ℕ
-number_at [] = Err cause.End
-number_at (w ∷ ts) = spelled w (number_of w) >>= (λ n. Ok (n, ts))
+number_at [] = fails cause.End []
+number_at (w ∷ ts) = spelled w ts (number_of w) >>= (λ n. Ok (n, ts))
 
 -- a number from low to high
 unfoldable pub number_within : ℕ → ℕ → Tokens → TokenReading ℕ
 number_within low high ts =
-    number_at ts >>= (λ n. if nat_le low n.0 && nat_le n.0 high then Ok n else Err cause.Range)
+    number_at ts >>= (λ n. if nat_le low n.0 && nat_le n.0 high then Ok n else fails cause.Range ts)
 
--- a period in hundreds of µs, of its number of µs
-abbrev pub hundreds_of : ℕ → Tokens → TokenReading ℕ
-hundreds_of n ts = if nat_eq (n % 100) 0 then Ok (n / 100, ts) else Err cause.Range
+-- a period in hundreds of µs, of its number of µs, which is the first of these tokens
+abbrev pub hundreds_of : Tokens → ℕ × Tokens → TokenReading ℕ
+hundreds_of ts n = if nat_eq (n.0 % 100) 0 then Ok (n.0 / 100, n.1) else fails cause.Range ts
 
 -- a period: a number of µs, a multiple of 100 from 100 to 6,553,500
 unfoldable pub period_at : Tokens → TokenReading ℕ
-period_at ts = number_within 100 6553500 ts >>= (λ n. hundreds_of n.0 n.1)
+period_at ts = number_within 100 6553500 ts >>= (λ n. hundreds_of ts n)
 
 -- data words up to the closing bracket
 unfoldable pub words_at : Tokens → TokenReading (List ℕ)
-words_at [] = Err cause.End
+words_at [] = fails cause.End []
 words_at (w ∷ ts) =
     if same_bytes w (codes "]") then Ok ([], ts)
-    else (spelled w (data_word_of w) >>= (λ n. words_at ts >>= (λ ns. Ok (n ∷ ns.0, ns.1))))
+    else (spelled w ts (data_word_of w) >>= (λ n. words_at ts >>= (λ ns. Ok (n ∷ ns.0, ns.1))))
 
 -- the first 33 words: a message with more is refused as one with 33 is
 abbrev pub counted : TokenReading (List ℕ) → TokenReading (List ℕ)

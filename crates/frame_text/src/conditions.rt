@@ -1,7 +1,7 @@
 //! The text of a condition.
 
 ghost use Rattle.frame_text.specs.Conditions.{name_at, pair_at, condition_at, below_at};
-ghost use Rattle.frame_text.specs.Reading.{ReadsTokens, ReadsTokensInMemory, IsOfText};
+ghost use Rattle.frame_text.specs.Reading.{ReadsTokens, ReadsTokensInMemory, at_first, IsOfText};
 ghost use Rattle.frame_text.specs.Tokens.{tokens};
 ghost use Rattle.std.specs.Prelude.{◌<◌, length, IfOk, IfErr};
 
@@ -32,7 +32,7 @@ fn name(text: &[u8]) -> Result<(StatusBit, &[u8]), Fault>
 // How many operators may stand above a test within an operator, which is the first token of the text.
 #[tactic(auto, using(crate::proofs::Below::below_some, crate::proofs::Below::below_none))]
 fn within(depth: u8, text: &[u8]) -> Result<u8, Fault>
-    ensures tree { ReadsTokens (λ d. condition_at d) result (below_at depth) }
+    ensures tree { ReadsTokens (λ d. condition_at d) result (at_first (tokens text.now) (below_at depth)) }
     ensures fewer { IfOk result (λ d. d < depth) }
     ensures of_text { IfErr result (λ e. IsOfText e) }
 {

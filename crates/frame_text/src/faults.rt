@@ -47,9 +47,10 @@ pub enum ScriptError {
     Memory { place: Place },
 }
 
-/// A fault with the number of bytes that are left of the text at its place.
+/// A fault of a text that is being read.
 #[derive(Clone, Copy, Debug, PartialEq, Eq)]
 pub enum Fault {
+    /// What is wrong, and how many tokens are left from its place on, none at the end of the text.
     Text(Cause, usize),
     /// Memory was refused when this many bytes behind the token were left.
     Memory(usize),

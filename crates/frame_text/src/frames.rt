@@ -2,7 +2,7 @@
 
 ghost use Rattle.frame_text.specs.Frames.{call_at, frame_at, frames_at, block_at, inner_at};
 ghost use Rattle.frame_text.specs.Frames.{else_at, retry_at, choice_at, until_at, label_at};
-ghost use Rattle.frame_text.specs.Reading.{Tokens, ReadsTokens, ReadsTokensInMemory, Makes, IsOfText};
+ghost use Rattle.frame_text.specs.Reading.{Tokens, ReadsTokens, ReadsTokensInMemory, Makes, at_first, IsOfText};
 ghost use Rattle.frame_text.specs.Tokens.{tokens};
 ghost use Rattle.frame_tree.specs.Names as names;
 ghost use Rattle.frame_tree.specs.Scopes.{scope_of};
@@ -48,7 +48,7 @@ fn no_frames<'a, B: Builder>(builder: &B, rest: &'a [u8]) -> Read<'a, B::Frame>
 #[tactic(auto, using(crate::proofs::Scripts::inner_some, crate::proofs::Scripts::inner_none))]
 fn within(scope: &Scope<'_>, depth: u8, text: &[u8]) -> Result<u8, Fault>
     ensures tree { ReadsTokens (λ d. λ ts. frames_at (frame_at (scope_of scope.now) d) (length ts) ts) result
-        (inner_at (scope_of scope.now) depth) }
+        (at_first (tokens text.now) (inner_at (scope_of scope.now) depth)) }
     ensures fewer { IfOk result (λ d. d < depth) }
     ensures of_text { IfErr result (λ e. IsOfText e) }
 {
@@ -150,7 +150,7 @@ pub fn label(text: &[u8]) -> Result<(Name, &[u8]), Fault>
 // A call, behind its first word; `text` begins with that.
 fn call<'a, B: Builder>(around: &Around<'_, B>, text: &[u8], behind: &'a [u8]) -> Read<'a, B::Frame>
     ensures made { Makes B.refused (λ x. (B.tree x.0, tokens x.1.now))
-        (call_at (scope_of around.now.scope.now) around.now.depth) behind.now result }
+        (call_at (scope_of around.now.scope.now) around.now.depth (tokens text.now)) behind.now result }
     ensures fits { IfOk result (λ x. B.fits (scope_of around.now.scope.now) (scope_of around.now.costs.now) x.0) }
 {
     let (name, rest) = label(behind)?;

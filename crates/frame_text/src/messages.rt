@@ -34,7 +34,7 @@ fn line(text: &[u8]) -> Result<(Line, &[u8]), Fault>
 // The message that a draft asks for; `text` begins with its first word, and `rest` comes after it.
 fn made<'a>(draft: Draft<'_>, text: &[u8], rest: &'a [u8]) -> Result<(Message, &'a [u8]), Fault>
     ensures tree { ReadsTokens (λ x. (x.0, tokens x.1.now)) result
-        (reads.made (request_of draft.entry) (tokens rest.now)) }
+        (reads.made (tokens text.now) (request_of draft.entry) (tokens rest.now)) }
     ensures rest { IfOk result (λ x. x.1.now ≡ rest.now) }
     ensures of_text { IfErr result (λ e. IsOfText e) }
 {
@@ -46,7 +46,8 @@ fn made<'a>(draft: Draft<'_>, text: &[u8], rest: &'a [u8]) -> Result<(Message, &
 
 #[tactic(auto, unfolding(crate::specs::Messages::receive_at))]
 fn receive<'a>(text: &[u8], rest: &'a [u8]) -> Result<(Message, &'a [u8]), Fault>
-    ensures tree { ReadsTokens (λ x. (x.0, tokens x.1.now)) result (reads.receive_at (tokens rest.now)) }
+    ensures tree { ReadsTokens (λ x. (x.0, tokens x.1.now)) result
+        (reads.receive_at (tokens text.now) (tokens rest.now)) }
     ensures fewer { IfOk result (λ x. length (tokens x.1.now) < length (tokens rest.now)) }
     ensures of_text { IfErr result (λ e. IsOfText e) }
 {
@@ -66,7 +67,8 @@ fn receive<'a>(text: &[u8], rest: &'a [u8]) -> Result<(Message, &'a [u8]), Fault
 
 #[tactic(auto, unfolding(crate::specs::Messages::transmit_at))]
 fn transmit<'a>(text: &[u8], rest: &'a [u8]) -> Result<(Message, &'a [u8]), Fault>
-    ensures tree { ReadsTokens (λ x. (x.0, tokens x.1.now)) result (reads.transmit_at (tokens rest.now)) }
+    ensures tree { ReadsTokens (λ x. (x.0, tokens x.1.now)) result
+        (reads.transmit_at (tokens text.now) (tokens rest.now)) }
     ensures fewer { IfOk result (λ x. length (tokens x.1.now) < length (tokens rest.now)) }
     ensures of_text { IfErr result (λ e. IsOfText e) }
 {
@@ -86,7 +88,8 @@ fn transmit<'a>(text: &[u8], rest: &'a [u8]) -> Result<(Message, &'a [u8]), Faul
 
 #[tactic(auto, unfolding(crate::specs::Messages::transfer_at))]
 fn transfer<'a>(text: &[u8], rest: &'a [u8]) -> Result<(Message, &'a [u8]), Fault>
-    ensures tree { ReadsTokens (λ x. (x.0, tokens x.1.now)) result (reads.transfer_at (tokens rest.now)) }
+    ensures tree { ReadsTokens (λ x. (x.0, tokens x.1.now)) result
+        (reads.transfer_at (tokens text.now) (tokens rest.now)) }
     ensures fewer { IfOk result (λ x. length (tokens x.1.now) < length (tokens rest.now)) }
     ensures of_text { IfErr result (λ e. IsOfText e) }
 {
@@ -114,7 +117,8 @@ fn mode<'a>(
     rest: &'a [u8],
     subaddress: ModeSubaddress,
 ) -> Result<(Message, &'a [u8]), Fault>
-    ensures tree { ReadsTokens (λ x. (x.0, tokens x.1.now)) result (reads.mode_at subaddress (tokens rest.now)) }
+    ensures tree { ReadsTokens (λ x. (x.0, tokens x.1.now)) result
+        (reads.mode_at subaddress (tokens text.now) (tokens rest.now)) }
     ensures fewer { IfOk result (λ x. length (tokens x.1.now) < length (tokens rest.now)) }
     ensures of_text { IfErr result (λ e. IsOfText e) }
 {
@@ -131,7 +135,8 @@ fn mode<'a>(
 
 #[tactic(auto, unfolding(crate::specs::Messages::receive_all_at))]
 fn receive_all<'a>(text: &[u8], rest: &'a [u8]) -> Result<(Message, &'a [u8]), Fault>
-    ensures tree { ReadsTokens (λ x. (x.0, tokens x.1.now)) result (reads.receive_all_at (tokens rest.now)) }
+    ensures tree { ReadsTokens (λ x. (x.0, tokens x.1.now)) result
+        (reads.receive_all_at (tokens text.now) (tokens rest.now)) }
     ensures fewer { IfOk result (λ x. length (tokens x.1.now) < length (tokens rest.now)) }
     ensures of_text { IfErr result (λ e. IsOfText e) }
 {
@@ -149,7 +154,8 @@ fn receive_all<'a>(text: &[u8], rest: &'a [u8]) -> Result<(Message, &'a [u8]), F
 
 #[tactic(auto, unfolding(crate::specs::Messages::transfer_all_at))]
 fn transfer_all<'a>(text: &[u8], rest: &'a [u8]) -> Result<(Message, &'a [u8]), Fault>
-    ensures tree { ReadsTokens (λ x. (x.0, tokens x.1.now)) result (reads.transfer_all_at (tokens rest.now)) }
+    ensures tree { ReadsTokens (λ x. (x.0, tokens x.1.now)) result
+        (reads.transfer_all_at (tokens text.now) (tokens rest.now)) }
     ensures fewer { IfOk result (λ x. length (tokens x.1.now) < length (tokens rest.now)) }
     ensures of_text { IfErr result (λ e. IsOfText e) }
 {
@@ -175,7 +181,8 @@ fn mode_all<'a>(
     rest: &'a [u8],
     subaddress: ModeSubaddress,
 ) -> Result<(Message, &'a [u8]), Fault>
-    ensures tree { ReadsTokens (λ x. (x.0, tokens x.1.now)) result (reads.mode_all_at subaddress (tokens rest.now)) }
+    ensures tree { ReadsTokens (λ x. (x.0, tokens x.1.now)) result
+        (reads.mode_all_at subaddress (tokens text.now) (tokens rest.now)) }
     ensures fewer { IfOk result (λ x. length (tokens x.1.now) < length (tokens rest.now)) }
     ensures of_text { IfErr result (λ e. IsOfText e) }
 {

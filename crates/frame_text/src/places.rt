@@ -1,11 +1,12 @@
 //! Places in a text.
 
-ghost use Rattle.frame_text.specs.Places.{place_behind, HasPlaceOfFault, StandsIn};
+ghost use Rattle.frame_text.specs.Places.{place_behind, token_place, fault_place, HasPlaceOfFault, IsPlaceOf, StandsIn};
 ghost use Rattle.frame_text.specs.Reading.{IsLocated, IsOfText, IsTextError};
 ghost use Rattle.std.specs.Prelude.{◌≡◌, ◌++◌, ◌-◌, List, ℕ, length, take};
 
-use crate::faults::{Fault, Place, ScriptError};
+use crate::faults::{Cause, Fault, Place, ScriptError};
 use crate::keywords::is_word_byte;
+use crate::tokens::last;
 
 // The place directly behind the first bytes of a text.
 fn place_after(before: &[u8]) -> Place
@@ -51,6 +52,26 @@ fn without_last(text: &[u8], left: usize) -> &[u8]
     &text[..text.len().saturating_sub(left)]
 }
 
+// The place of the token with which so many tokens are left.
+fn place_of_token(text: &[u8], left: usize) -> Place
+    ensures is { result ≡ token_place left text.now }
+    ensures inside { IsPlaceOf text.now result }
+{
+    place_after(without_last(text, last(text, left).len()))
+}
+
+// The place of a fault, with which so many tokens are left.
+#[tactic(auto, using(crate::proofs::Positions::first_place))]
+fn place_of_fault(text: &[u8], cause: Cause, left: usize) -> Place
+    ensures is { result ≡ fault_place text.now cause left }
+    ensures inside { IsPlaceOf text.now result }
+{
+    match cause {
+        Cause::Messages => Place { line: 1, column: 1 },
+        _ => place_of_token(text, left),
+    }
+}
+
 /// A fault with its place in the whole text.
 pub fn located(text: &[u8], fault: Fault) -> ScriptError
     ensures same { IsLocated fault result }
@@ -61,7 +82,7 @@ pub fn located(text: &[u8], fault: Fault) -> ScriptError
     match fault {
         Fault::Text(cause, left) => ScriptError::Text {
             cause,
-            place: place_after(without_last(text, left)),
+            place: place_of_fault(text, cause, left),
         },
         Fault::Memory(left) => ScriptError::Memory {
             place: place_after(before_last_token(without_last(text, left))),

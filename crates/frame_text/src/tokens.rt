@@ -1,8 +1,9 @@
 //! The tokens of a text, one by one: no list of them is ever made.
 
-ghost use Rattle.frame_text.specs.Reading.{ReadsTokens, IsAtToken, IsCause, IsOfText, past};
+ghost use Rattle.frame_text.specs.Reading.{ReadsTokens, IsFault, IsOfText, past};
+ghost use Rattle.frame_text.specs.Starts.{from_token, behind_token, last_tokens};
 ghost use Rattle.frame_text.specs.Tokens.{is_blank, tokens, BeginsToken};
-ghost use Rattle.std.specs.Prelude.{◌≡◌, ◌<◌, ◌≤◌, ◌++◌, ℕ, List, [], ◌∷◌, length, MatchOption, IfSome, IfOk, IfErr};
+ghost use Rattle.std.specs.Prelude.{◌≡◌, ◌<◌, ◌≤◌, [], ◌∷◌, false, drop, length, MatchOption, IfSome, IfOk, IfErr};
 
 use crate::faults::{Cause, Fault};
 use crate::keywords::{is, is_word_byte, misplaced};
@@ -21,7 +22,7 @@ fn skipped(text: &[u8]) -> &[u8]
     ensures tokens { tokens result.now ≡ tokens text.now }
     ensures shorter { length result.now ≤ length text.now }
     ensures begins { BeginsToken result.now }
-    ensures suffix { (before : List ℕ) × (text.now ≡ before ++ result.now) }
+    ensures from { result.now ≡ from_token false text.now }
 {
     let mut rest = text;
     let mut comment = false;
@@ -43,6 +44,7 @@ fn token(text: &[u8]) -> Option<(&[u8], &[u8])>
     requires { BeginsToken text.now }
     ensures tokens { MatchOption result (tokens text.now ≡ []) (λ x. tokens text.now ≡ x.0.now ∷ tokens x.1.now) }
     ensures shorter { IfSome result (λ x. length x.1.now < length text.now) }
+    ensures rest { IfSome result (λ x. x.1.now ≡ drop (length x.0.now) text.now) }
 {
     let Some((first, after)) = text.split_first() else {
         return None;
@@ -61,17 +63,54 @@ fn token(text: &[u8]) -> Option<(&[u8], &[u8])>
 pub fn next(text: &[u8]) -> Option<(&[u8], &[u8])>
     ensures tokens { MatchOption result (tokens text.now ≡ []) (λ x. tokens text.now ≡ x.0.now ∷ tokens x.1.now) }
     ensures shorter { IfSome result (λ x. length x.1.now < length text.now) }
+    ensures behind { IfSome result (λ x. x.1.now ≡ behind_token text.now) }
 {
     token(skipped(text))
 }
 
+// How many tokens a text has.
+fn count(text: &[u8]) -> usize
+    ensures { result ≡ length (tokens text.now) }
+{
+    let mut found = 0;
+    let mut rest = text;
+    while let Some((_, after)) = next(rest) {
+        found += 1;
+        rest = after;
+    }
+    found
+}
+
+// What comes behind the first token.
+fn after_first(text: &[u8]) -> &[u8]
+    ensures { result.now ≡ behind_token text.now }
+{
+    match next(text) {
+        Some((_, rest)) => rest,
+        None => skipped(text),
+    }
+}
+
+/// The text from the token on with which `left` tokens are left; nothing where none is.
+pub fn last(text: &[u8], left: usize) -> &[u8]
+    ensures { result.now ≡ last_tokens left text.now }
+{
+    let over = count(text).saturating_sub(left);
+    let mut rest = text;
+    let mut behind = 0;
+    while behind < over {
+        rest = after_first(rest);
+        behind += 1;
+    }
+    skipped(rest)
+}
+
 /// The fault at the first token of what is left of the text, or at its end.
 pub fn fault(cause: Cause, text: &[u8]) -> Fault
-    ensures cause { IsCause cause result }
+    ensures is { IsFault cause (tokens text.now) result }
     ensures of_text { IsOfText result }
-    ensures place { IsAtToken text.now result }
 {
-    Fault::Text(cause, skipped(text).len())
+    Fault::Text(cause, count(text))
 }
 
 /// What comes after a token that has to stand here.

@@ -1,10 +1,10 @@
 //! Whole texts.
 
 ghost use Rattle.frame_text.specs.Chains.{IsScript};
-ghost use Rattle.frame_text.specs.Conditions.{condition_of_text};
-ghost use Rattle.frame_text.specs.Frames.{tree_of_text};
-ghost use Rattle.frame_text.specs.Messages.{send_of_text};
-ghost use Rattle.frame_text.specs.Places.{StandsIn};
+ghost use Rattle.frame_text.specs.Conditions.{condition_of_text, whole_condition};
+ghost use Rattle.frame_text.specs.Frames.{tree_of_text, whole_script};
+ghost use Rattle.frame_text.specs.Messages.{send_of_text, whole_send};
+ghost use Rattle.frame_text.specs.Places.{StandsIn, TellsFault};
 ghost use Rattle.frame_text.specs.Reading.{ReadsTokens, ReadsTokensInMemory, FailsReadingTokens, Breaks, HasNoFault};
 ghost use Rattle.frame_text.specs.Reading.{IsOfText, ReadsScript, IsTextError};
 ghost use Rattle.frame_tree.specs.Bounds.{IsSound};
@@ -26,13 +26,13 @@ use std::alloc::Allocator;
 
 // The frame of a script, with at most 1,000,000 messages at worst.
 fn script<B: Builder>(builder: &B, text: &[u8]) -> Result<B::Frame, Fault>
-    ensures tree { ReadsTokensInMemory B.refused B.tree result (tree_of_text text.now) }
+    ensures tree { ReadsTokensInMemory B.refused B.tree result (whole_script text.now) }
     ensures sound { IfOk result (λ f. IsSound (B.tree f)) }
     ensures script { IfOk result (λ f. IsScript (B.tree f)) }
 {
     let frame = definitions::script(builder, text, &Scope::Empty, &Scope::Empty, 32)?;
     if builder.messages(&frame) > 1_000_000 {
-        return Err(Fault::Text(Cause::Messages, text.len()));
+        return Err(fault(Cause::Messages, text));
     }
     Ok(frame)
 }
@@ -40,7 +40,7 @@ fn script<B: Builder>(builder: &B, text: &[u8]) -> Result<B::Frame, Fault>
 // The line and the message of a whole text.
 #[tactic(auto, unfolding(crate::specs::Reading::to_the_end))]
 fn send(text: &[u8]) -> Result<(Line, Message), Fault>
-    ensures tree { ReadsTokens (λ x. x) result (send_of_text text.now) }
+    ensures tree { ReadsTokens (λ x. x) result (whole_send text.now) }
     ensures of_text { IfErr result (λ e. IsOfText e) }
 {
     let (line, message, rest) = messages::send(text)?;
@@ -53,7 +53,7 @@ fn send(text: &[u8]) -> Result<(Line, Message), Fault>
 // The condition of a whole text.
 #[tactic(auto, unfolding(crate::specs::Reading::to_the_end))]
 fn condition<B: Builder>(builder: &B, text: &[u8]) -> Result<B::Cond, Fault>
-    ensures { ReadsTokensInMemory B.refused B.condition result (condition_of_text text.now) }
+    ensures { ReadsTokensInMemory B.refused B.condition result (whole_condition text.now) }
 {
     let (condition, rest) = conditions::condition(builder, text, 16)?;
     match next(rest) {
@@ -66,8 +66,8 @@ fn condition<B: Builder>(builder: &B, text: &[u8]) -> Result<B::Cond, Fault>
 // text comes before want of memory.
 #[tactic(auto, using(crate::proofs::Refusing::read_again, crate::proofs::Refusing::sure))]
 fn script_fault(text: &[u8], fault: Fault) -> Fault
-    requires { FailsReadingTokens fault (tree_of_text text.now) }
-    ensures { Breaks (HasNoFault (tree_of_text text.now)) result (tree_of_text text.now) }
+    requires { FailsReadingTokens fault (whole_script text.now) }
+    ensures { Breaks (HasNoFault (whole_script text.now)) result (whole_script text.now) }
 {
     if let Fault::Text(..) = fault {
         return fault;
@@ -81,8 +81,8 @@ fn script_fault(text: &[u8], fault: Fault) -> Fault
 // The same of a condition.
 #[tactic(auto, using(crate::proofs::Refusing::read_again, crate::proofs::Refusing::sure))]
 fn condition_fault(text: &[u8], fault: Fault) -> Fault
-    requires { FailsReadingTokens fault (condition_of_text text.now) }
-    ensures { Breaks (HasNoFault (condition_of_text text.now)) result (condition_of_text text.now) }
+    requires { FailsReadingTokens fault (whole_condition text.now) }
+    ensures { Breaks (HasNoFault (whole_condition text.now)) result (whole_condition text.now) }
 {
     if let Fault::Text(..) = fault {
         return fault;
@@ -93,28 +93,56 @@ fn condition_fault(text: &[u8], fault: Fault) -> Fault
     }
 }
 
-/// The frame of a script. It is refused with the first fault from left to right; for want of memory only where it has
-/// none, so that what is answered of a text with a fault is the same with and without memory. A frame is sound, a chain
-/// of frames behind its definitions.
-#[tactic(auto, using(crate::proofs::Refusing::told, crate::proofs::Refusing::unsure))]
-pub fn parse<A: Allocator + Clone>(alloc: A, text: &[u8]) -> Result<Frame<A>, ScriptError>
-    ensures tree { ReadsScript tree_of result (tree_of_text text.now) }
-    ensures place { IfErr result (λ e. StandsIn text.now e) }
+// The frame of a script in memory, or its first fault.
+#[tactic(auto, using(crate::proofs::Refusing::unsure))]
+fn first_script<A: Allocator + Clone>(alloc: A, text: &[u8]) -> Result<Frame<A>, Fault>
+    ensures tree { ReadsTokensInMemory (HasNoFault (whole_script text.now)) tree_of result (whole_script text.now) }
     ensures sound { IfOk result (λ f. IsSound (tree_of f)) }
     ensures script { IfOk result (λ f. IsScript (tree_of f)) }
 {
     match script(&Boxes { alloc }, text) {
         Ok(frame) => Ok(frame),
-        Err(fault) => Err(located(text, script_fault(text, fault))),
+        Err(fault) => Err(script_fault(text, fault)),
+    }
+}
+
+// The same of a condition.
+#[tactic(auto, using(crate::proofs::Refusing::unsure))]
+fn first_condition<A: Allocator + Clone>(alloc: A, text: &[u8]) -> Result<Cond<A>, Fault>
+    ensures { ReadsTokensInMemory (HasNoFault (whole_condition text.now)) condition_in result
+        (whole_condition text.now) }
+{
+    match condition(&Boxes { alloc }, text) {
+        Ok(condition) => Ok(condition),
+        Err(fault) => Err(condition_fault(text, fault)),
+    }
+}
+
+/// The frame of a script. It is refused with the first fault from left to right; for want of memory only where it has
+/// none, so that what is answered of a text with a fault is the same with and without memory. A frame is sound, a chain
+/// of frames behind its definitions.
+#[tactic(auto, using(crate::proofs::Refusing::told, crate::proofs::Refusing::told_at, crate::proofs::Refusing::alone))]
+pub fn parse<A: Allocator + Clone>(alloc: A, text: &[u8]) -> Result<Frame<A>, ScriptError>
+    ensures tree { ReadsScript tree_of result (tree_of_text text.now) }
+    ensures place { IfErr result (λ e. StandsIn text.now e) }
+    ensures fault { IfErr result (λ e. TellsFault text.now (whole_script text.now) e) }
+    ensures sound { IfOk result (λ f. IsSound (tree_of f)) }
+    ensures script { IfOk result (λ f. IsScript (tree_of f)) }
+{
+    match first_script(alloc, text) {
+        Ok(frame) => Ok(frame),
+        Err(fault) => Err(located(text, fault)),
     }
 }
 
 /// The line and the message of a text such as `A rx 5 1 [0001]`. It takes no memory, and is never refused for want of
 /// it.
+#[tactic(auto, using(crate::proofs::Refusing::known, crate::proofs::Refusing::there, crate::proofs::Refusing::alone))]
 pub fn read_send(text: &[u8]) -> Result<(Line, Message), ScriptError>
     ensures tree { ReadsScript (λ x. x) result (send_of_text text.now) }
     ensures no_memory { IfErr result (λ e. IsTextError e) }
     ensures place { IfErr result (λ e. StandsIn text.now e) }
+    ensures fault { IfErr result (λ e. TellsFault text.now (whole_send text.now) e) }
 {
     match send(text) {
         Ok(read) => Ok(read),
@@ -124,13 +152,14 @@ pub fn read_send(text: &[u8]) -> Result<(Line, Message), ScriptError>
 
 /// The condition of a text such as `any ( fail silent )`. It is refused with the first fault from left to right; for
 /// want of memory only where it has none.
-#[tactic(auto, using(crate::proofs::Refusing::told, crate::proofs::Refusing::unsure))]
+#[tactic(auto, using(crate::proofs::Refusing::told, crate::proofs::Refusing::told_at, crate::proofs::Refusing::alone))]
 pub fn read_cond<A: Allocator + Clone>(alloc: A, text: &[u8]) -> Result<Cond<A>, ScriptError>
     ensures tree { ReadsScript condition_in result (condition_of_text text.now) }
     ensures place { IfErr result (λ e. StandsIn text.now e) }
+    ensures fault { IfErr result (λ e. TellsFault text.now (whole_condition text.now) e) }
 {
-    match condition(&Boxes { alloc }, text) {
+    match first_condition(alloc, text) {
         Ok(condition) => Ok(condition),
-        Err(fault) => Err(located(text, condition_fault(text, fault))),
+        Err(fault) => Err(located(text, fault)),
     }
 }

@@ -1,6 +1,6 @@
 //! Numbers, periods and data words.
 
-ghost use Rattle.frame_text.specs.Reading.{ReadsTokens, IsAtToken, IsCause, IsOfText};
+ghost use Rattle.frame_text.specs.Reading.{ReadsTokens, IsFault, IsOfText};
 ghost use Rattle.frame_text.specs.Tokens.{tokens};
 ghost use Rattle.frame_text.specs.Words.{unspelled, number_at, number_within, period_at};
 ghost use Rattle.frame_text.specs.Words.{words_at, counted, bracketed_at, optional_at};
@@ -34,9 +34,8 @@ fn data_word_in(word: &[u8]) -> Option<u16>
 
 // The fault of the first token of the text, which should have spelled something.
 fn unspelled_fault(word: &[u8], text: &[u8]) -> Fault
-    ensures cause { IsCause (unspelled word.now) result }
+    ensures is { IsFault (unspelled word.now) (tokens text.now) result }
     ensures of_text { IsOfText result }
-    ensures place { IsAtToken text.now result }
 {
     let cause = if is_word(word) {
         Cause::Number
@@ -52,7 +51,6 @@ pub fn number(text: &[u8]) -> Result<(u32, &[u8]), Fault>
     ensures tree { ReadsTokens (λ x. (x.0, tokens x.1.now)) result (number_at (tokens text.now)) }
     ensures fewer { IfOk result (λ x. length (tokens x.1.now) < length (tokens text.now)) }
     ensures of_text { IfErr result (λ e. IsOfText e) }
-    ensures place { IfErr result (λ e. IsAtToken text.now e) }
 {
     let Some((word, rest)) = next(text) else {
         return Err(fault(Cause::End, text));
@@ -69,7 +67,6 @@ pub fn number_in_range(text: &[u8], low: u32, high: u32) -> Result<(u32, &[u8]),
     ensures tree { ReadsTokens (λ x. (x.0, tokens x.1.now)) result (number_within low high (tokens text.now)) }
     ensures fewer { IfOk result (λ x. length (tokens x.1.now) < length (tokens text.now)) }
     ensures of_text { IfErr result (λ e. IsOfText e) }
-    ensures place { IfErr result (λ e. IsAtToken text.now e) }
     ensures within { IfOk result (λ x. (low ≤ x.0) × (x.0 ≤ high)) }
 {
     let (n, rest) = number(text)?;
@@ -84,7 +81,7 @@ pub fn number_in_range(text: &[u8], low: u32, high: u32) -> Result<(u32, &[u8]),
 pub fn period(text: &[u8]) -> Result<(u16, &[u8]), Fault>
     ensures tree { ReadsTokens (λ x. (x.0, tokens x.1.now)) result (period_at (tokens text.now)) }
     ensures fewer { IfOk result (λ x. length (tokens x.1.now) < length (tokens text.now)) }
-    ensures place { IfErr result (λ e. IsAtToken text.now e) }
+    ensures of_text { IfErr result (λ e. IsOfText e) }
 {
     let (micros, rest) = number_in_range(text, 100, 6_553_500)?;
     if micros % 100 != 0 {

@@ -13,8 +13,8 @@ use Rattle.mil_line.specs.Ranges.{is_number, is_in_range}
 use Rattle.mil_line.specs.declared.faults.Fault.{Fault as PlannedFault}
 use Rattle.mil_line.specs.declared.error.LineError.TheVariants.{TooMany, OutOfRange}
 use Rattle.frame_tree.specs.Tree.{Tree}
-use Rattle.frame_text.specs.Frames.{tree_of_text}
-use Rattle.frame_text.specs.Places.{IsPlaceOf}
+use Rattle.frame_text.specs.Frames.{whole_script, tree_of_text}
+use Rattle.frame_text.specs.Places.{placed}
 use Rattle.frame_text.specs.declared.faults.Cause.{Cause}
 use Rattle.frame_text.specs.declared.faults.Place.{Place}
 use Rattle.frame_code.specs.Table.{Code}
@@ -175,11 +175,11 @@ pub record IsScriptReached (text : Text) (line : ℕ) (below : Text) : Type 0 wh
   pub is : IsJobHead text head line below
   pub named : is_none_yet head.channels ≡ false
 
--- a place of a script, told by the lines of the whole text, of which this is the one in front of the script; lines are
--- counted as far as 64 bits count
-pub record IsPlaceBelow (line : ℕ) (below : Text) (place : Place) : Type 0 where
+-- the place of a script's first fault, told by the lines of the whole text, of which this is the one in front of the
+-- script; lines are counted as far as 64 bits count
+pub record IsPlaceBelow (line : ℕ) (below : Text) (cause : Cause) (place : Place) : Type 0 where
   pub inside : Place
-  pub stands : IsPlaceOf below inside
+  pub stands : placed below (whole_script below) ≡ Err (cause, inside)
   pub lines : place.line ≡ min (line + inside.line) (2 ^ 64 - 1)
   pub column : place.column ≡ inside.column
 
@@ -188,7 +188,7 @@ pub record IsScriptFault (text : Text) (cause : Cause) (place : Place) : Type 0 
   pub below : Text
   pub reached : IsScriptReached text line below
   pub fault : tree_of_text below ≡ Err cause
-  pub stands : IsPlaceBelow line below place
+  pub stands : IsPlaceBelow line below cause place
 
 -- the image of the script is refused for this
 pub record IsImageFault (text : Text) (line : ℕ) (IsRefused : Code → Type 0) : Type 0 where
@@ -233,17 +233,17 @@ pub record HasImageFault (below : Text) (IsRefused : Code → Type 0) : Type 0 w
 abbrev pub IsScriptRefused : Head → ℕ → Text → JobError → Type 0
 IsScriptRefused head line below (error.Line n why) = (is_none_yet head.channels ≡ true) × (n ≡ line) × (why ≡ Order)
 IsScriptRefused head line below (error.Script cause place) = (is_none_yet head.channels ≡ false)
-    × (tree_of_text below ≡ Err cause) × IsPlaceBelow line below place
+    × (tree_of_text below ≡ Err cause) × IsPlaceBelow line below cause place
 IsScriptRefused head line below (error.Assembly n why) = (is_none_yet head.channels ≡ false) × (n ≡ line)
     × HasImageFault below (λ code. IsTooLong code why)
 IsScriptRefused head line below (error.Loading n why) = (is_none_yet head.channels ≡ false) × (n ≡ line)
     × HasImageFault below (λ code. IsTooMuch code why)
 IsScriptRefused head line below error.Memory = is_none_yet head.channels ≡ false
 
--- a fault of the script stands at a place of it, whose line in front is this
+-- a fault of the script stands at its place in it, whose line in front is this
 abbrev pub IsPlacedBelow : ℕ → Text → JobError → Type 0
 IsPlacedBelow line below (error.Line n why) = ⊥
-IsPlacedBelow line below (error.Script cause place) = IsPlaceBelow line below place
+IsPlacedBelow line below (error.Script cause place) = IsPlaceBelow line below cause place
 IsPlacedBelow line below (error.Assembly n why) = ⊥
 IsPlacedBelow line below (error.Loading n why) = ⊥
 IsPlacedBelow line below error.Memory = Unit {0}

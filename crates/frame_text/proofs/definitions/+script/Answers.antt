@@ -20,7 +20,7 @@ returns-then-not-is-clause-tree g t c =
 
 pub returns-then-left-eq0-clause-tree : goal.returns-then-left-eq0-clause-tree
 returns-then-left-eq0-clause-tree g t c =
-    breaks_with _ c.fault.result cause.Definitions _ c.fault.ensures.cause (full c.args.left (scope_of c.args.scope.now) c.in-Some.word.now (tokens c.args.text.now) (tokens c.in-Some.rest.now) c.in-Some.ensures.tokens (sym c.is.ensures ∙ c.if-not-is.false) c.if-left-eq0.true)
+    breaks_with _ c.fault.result cause.Definitions (tokens c.args.text.now) _ c.fault.ensures.is (full c.args.left (scope_of c.args.scope.now) c.in-Some.word.now (tokens c.args.text.now) (tokens c.in-Some.rest.now) c.in-Some.ensures.tokens (sym c.is.ensures ∙ c.if-not-is.false) c.if-left-eq0.true)
 
 pub returns-in_err-name-clause-tree : goal.returns-in_err-name-clause-tree
 returns-in_err-name-clause-tree g t c =

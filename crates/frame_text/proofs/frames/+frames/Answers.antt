@@ -24,7 +24,7 @@ frames-returns-then-is-clause-made g t c =
 pub frames-returns-clause-made : goal.frames-returns-clause-made
 frames-returns-clause-made g t c =
     let i = c.loop-word.invariant.read in
-    breaks_with _ c.fault.result cause.End _ c.fault.ensures.cause (frames_end (frame_at (scope_of c.args.around.now.scope.now) c.args.around.now.depth) i.0 (tokens c.loop-word.rest.now) (g.B.Builder.row_trees c.loop-word.found) _ c.in_default.ensures.tokens i.2)
+    breaks_with _ c.fault.result cause.End (tokens c.loop-word.rest.now) _ c.fault.ensures.is (frames_end (frame_at (scope_of c.args.around.now.scope.now) c.args.around.now.depth) i.0 (tokens c.loop-word.rest.now) (g.B.Builder.row_trees c.loop-word.found) _ c.in_default.ensures.tokens i.2)
 
 pub frames-returns-in_err-one-clause-made : goal.frames-returns-in_err-one-clause-made
 frames-returns-in_err-one-clause-made g t c =

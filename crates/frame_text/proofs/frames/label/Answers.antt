@@ -1,7 +1,8 @@
-use Rattle.std.proofs.Common.{Err, ap, sym, ◌∙◌}
+use Rattle.std.proofs.Common.{Err, length, ap, sym, ◌∙◌}
+use Rattle.frame_text.specs.Tokens.{tokens}
 use Rattle.frame_text.proofs.Scripts.{fails_with, no_label}
 use Rattle.frame_text.proofs.frames.label.Goals as goal
 
 pub returns-in-None-clause-tree : goal.returns-in-None-clause-tree
 returns-in-None-clause-tree c =
-    fails_with c.fault-in-None.result c.misplaced.result _ c.fault-in-None.ensures.cause (no_label c.in-Some.word.now _ _ c.in-Some.ensures.tokens (sym c.in-None.is ∙ c.new.ensures) ∙ ap Err (sym c.misplaced.ensures))
+    fails_with c.fault-in-None.result c.misplaced.result (tokens c.args.text.now) _ c.fault-in-None.ensures.is (no_label c.in-Some.word.now _ _ c.in-Some.ensures.tokens (sym c.in-None.is ∙ c.new.ensures) ∙ ap (λ m. Err (m, length (tokens c.args.text.now))) (sym c.misplaced.ensures))

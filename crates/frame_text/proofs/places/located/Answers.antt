@@ -2,17 +2,12 @@ use Rattle.std.proofs.Common.{◌++◌, ◌-◌, length, drop, sym, ap, ◌∙�
 use Rattle.std.proofs.lemmas.List.{take-append-drop}
 use Rattle.frame_text.proofs.places.located.Goals as goal
 
-pub returns-in-Text-clause-inside : goal.returns-in-Text-clause-inside
-returns-in-Text-clause-inside c =
-    let n = length c.args.text.now - c.in-Text.left in
-    (c.without_last.result.now, drop n c.args.text.now, sym (take-append-drop n c.args.text.now) ∙ ap (λ xs. xs ++ drop n c.args.text.now) (sym c.without_last.ensures), c.place_after.ensures)
-
 pub returns-in-Memory-clause-inside : goal.returns-in-Memory-clause-inside
 returns-in-Memory-clause-inside c =
     let n = length c.args.text.now - c.in-Memory.left in
     let behind = c.before_last_token.ensures in (
       c.before_last_token.result.now,
       behind.0 ++ drop n c.args.text.now,
-      sym (take-append-drop n c.args.text.now) ∙ ap (λ xs. xs ++ drop n c.args.text.now) (sym c.without_last-in-Memory.ensures ∙ behind.1) ∙ append_assoc c.before_last_token.result.now behind.0 (drop n c.args.text.now),
-      c.place_after-in-Memory.ensures,
+      sym (take-append-drop n c.args.text.now) ∙ ap (λ xs. xs ++ drop n c.args.text.now) (sym c.without_last.ensures ∙ behind.1) ∙ append_assoc c.before_last_token.result.now behind.0 (drop n c.args.text.now),
+      c.place_after.ensures,
     )

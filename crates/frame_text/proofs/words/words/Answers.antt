@@ -31,9 +31,9 @@ returns-then-is-clause-tree c =
 pub returns-in_default-data_word_in-clause-tree : goal.returns-in_default-data_word_in-clause-tree
 returns-in_default-data_word_in-clause-tree c =
     let i = c.loop-word.invariant.read in
-    wrong_counted c.unspelled_fault.result _ _ c.unspelled_fault.ensures.cause (words_wrong i.0 c.in-Some.word.now (tokens c.loop-word.rest.now) (tokens c.in-Some.after.now) _ c.in-Some.ensures.tokens (sym c.is.ensures ∙ c.if-is.false) c.in_default-data_word_in.ensures i.2)
+    wrong_counted c.unspelled_fault.result _ (tokens c.loop-word.rest.now) _ c.unspelled_fault.ensures.is (words_wrong i.0 c.in-Some.word.now (tokens c.loop-word.rest.now) (tokens c.in-Some.after.now) _ c.in-Some.ensures.tokens (sym c.is.ensures ∙ c.if-is.false) c.in_default-data_word_in.ensures i.2)
 
 pub returns-clause-tree : goal.returns-clause-tree
 returns-clause-tree c =
     let i = c.loop-word.invariant.read in
-    wrong_counted c.fault.result _ _ c.fault.ensures.cause (words_end i.0 (tokens c.loop-word.rest.now) _ c.in_default.ensures.tokens i.2)
+    wrong_counted c.fault.result _ (tokens c.loop-word.rest.now) _ c.fault.ensures.is (words_end i.0 (tokens c.loop-word.rest.now) _ c.in_default.ensures.tokens i.2)
