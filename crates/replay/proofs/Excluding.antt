@@ -8,9 +8,9 @@ use Rattle.ch11_builder.specs.Packet.{Numbered, messages_of}
 use Rattle.ch11_reader.specs.Recording.{Found, holds_messages}
 use Rattle.ch11_reader.specs.Contents.{reading}
 use Rattle.bench_report.specs.Reports.{ChannelPart}
-use Rattle.bench_core.specs.Lawful.{channels_of}
-use Rattle.bench_core.specs.Settled.{kept_records}
-use Rattle.bench_core.proofs.Offers.{map_at}
+use Rattle.bench_settings.specs.Lawful.{channels_of}
+use Rattle.bench_settings.specs.Kept.{kept_records}
+use Rattle.bench_settings.proofs.Lists.{map_at}
 use Rattle.replay.specs.Accord.{reported, played, kept_in, is_one, AreOfChannels, AgreesOn, Agrees}
 use Rattle.replay.specs.Differences.{IsWrongChannel, IsStranger, awaited, IsUnlike, IsLeftOver, IsMiscounted, IsAtFault, IsFirstJob, IsFirstDifference}
 

@@ -4,7 +4,7 @@ use Rattle.std.specs.List.{AllByRecursion, slice_get}
 use Rattle.std.specs.Prelude.{Result, Ok, Err, OnOk, IfErr}
 use Rattle.frame_tree.specs.Tree.{Condition}
 use Rattle.ch11_reader.specs.Recording.{Found}
-use Rattle.bench_core.proofs.Offers.{map_at}
+use Rattle.bench_settings.proofs.Lists.{map_at}
 use Rattle.replay.specs.Accord.{kept_in, Agrees}
 use Rattle.replay.specs.Places.{heard_channels}
 use Rattle.replay.specs.Moves.{ReplayState, at_place, IsNextMet, IsNowhere, IsLatestMet, IsNowhereBefore, PastWhere, IsMemory}

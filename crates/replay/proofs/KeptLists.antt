@@ -9,8 +9,8 @@ use Rattle.ch11_f1.specs.Again.{as_message}
 use Rattle.ch11_builder.specs.Packet.{Numbered, messages_of}
 use Rattle.ch11_builder.specs.Packet as packet
 use Rattle.ch11_recording.specs.Items.{numbered, numbered_from, last_number}
-use Rattle.bench_core.specs.Settled.{is_kept, kept_records}
-use Rattle.bench_core.proofs.Lists.{numbered_more}
+use Rattle.bench_settings.specs.Kept.{is_kept, kept_records}
+use Rattle.bench_settings.proofs.Lists.{numbered_more}
 
 -- as messages of a file
 abbrev pub heard : List Numbered → List Message

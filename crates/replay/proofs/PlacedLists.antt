@@ -19,7 +19,7 @@ use Rattle.bc_machine.specs.Running.{beginning}
 use Rattle.job_file.specs.Spelled.{ChannelJob}
 use Rattle.job_file.specs.Meaning.{bus_of, world_at, end_of, records_in, records}
 use Rattle.job_file.proofs.Growth.{Grows, grows_same, grows_gap, grows_paced, grows_through, grows_message, records_count}
-use Rattle.bench_core.specs.Placing.{placed_up_to}
+use Rattle.bench_settings.specs.Placing.{placed_up_to}
 use Rattle.replay.proofs.FirstMet.{asks_is, meaning_is}
 
 abbrev BusPoint : Type 0

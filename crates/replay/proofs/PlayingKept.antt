@@ -13,7 +13,7 @@ use Rattle.ch11_recording.specs.Items.{numbered, last_number}
 use Rattle.ch11_reader.specs.Recording.{Found}
 use Rattle.ch11_reader.specs.Contents.{reading}
 use Rattle.bench_report.specs.Reports.{ChannelPart}
-use Rattle.bench_core.specs.Settled.{kept_records}
+use Rattle.bench_settings.specs.Kept.{kept_records}
 use Rattle.replay.specs.declared.tracks.Mark.{Mark}
 use Rattle.replay.specs.declared.standings.Standing.{Standing}
 use Rattle.replay.specs.declared.checkpoints.Stop.{Stop}

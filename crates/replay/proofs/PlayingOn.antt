@@ -15,8 +15,8 @@ use Rattle.ch11_recording.specs.Items.{numbered, last_number}
 use Rattle.ch11_reader.specs.Recording.{Found}
 use Rattle.ch11_reader.specs.Contents.{reading}
 use Rattle.bench_report.specs.Reports.{ChannelPart}
-use Rattle.bench_core.specs.Settled.{kept_records}
-use Rattle.bench_core.proofs.Offers.{map_at}
+use Rattle.bench_settings.specs.Kept.{kept_records}
+use Rattle.bench_settings.proofs.Lists.{map_at}
 use Rattle.replay.specs.Accord.{played, kept_in, AgreesOn}
 use Rattle.replay.specs.Differences.{awaited, IsUnlike, IsLeftOver, IsMiscounted, IsAtFault, IsFirstNumberAtFault}
 use Rattle.replay.specs.declared.tracks.Mark.{Mark}

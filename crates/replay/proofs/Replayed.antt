@@ -4,8 +4,8 @@ use Rattle.std.proofs.lemmas.Option.{slice_get_within}
 use Rattle.job_file.specs.Jobs.{JobState}
 use Rattle.ch11_reader.specs.Recording.{Found}
 use Rattle.bench_report.specs.Reports.{ChannelPart}
-use Rattle.bench_core.specs.Lawful.{channels_of}
-use Rattle.bench_core.proofs.Offers.{map_at}
+use Rattle.bench_settings.specs.Lawful.{channels_of}
+use Rattle.bench_settings.proofs.Lists.{map_at}
 use Rattle.replay.specs.declared.timeline.Timeline.{Timeline}
 use Rattle.replay.specs.Accord.{Agrees, AreOfChannels, reported}
 use Rattle.replay.specs.Opening.{AgreeBefore}

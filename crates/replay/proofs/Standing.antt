@@ -19,7 +19,7 @@ use Rattle.job_file.specs.Meaning.{records}
 use Rattle.job_file.specs.Machines.{IsOf, IsLatestOutcome}
 use Rattle.ch11_recording.specs.Items.{last_number}
 use Rattle.bench_report.specs.Reports.{ChannelPart}
-use Rattle.bench_core.proofs.Offers.{map_at}
+use Rattle.bench_settings.proofs.Lists.{map_at}
 use Rattle.replay.specs.declared.standings.Standing.{Standing}
 use Rattle.replay.specs.declared.standings.Kept.{Kept}
 use Rattle.replay.specs.Accord.{played, kept_in}

@@ -11,7 +11,7 @@ use Rattle.job_file.specs.Machines.{BusSoFar}
 use Rattle.ch11_recording.specs.Items.{last_number}
 use Rattle.ch11_reader.specs.Recording.{Found}
 use Rattle.bench_report.specs.Reports.{ChannelPart}
-use Rattle.bench_core.proofs.Offers.{map_at}
+use Rattle.bench_settings.proofs.Lists.{map_at}
 use Rattle.replay.specs.Accord.{kept_in, Agrees}
 use Rattle.replay.specs.Places.{heard_channels, heard_of, latest_kept_number, IsAfter}
 use Rattle.replay.specs.declared.tracks.Mark.{Mark}

@@ -1,17 +1,19 @@
 -- The states that are kept, at checkpoints and of late.
-use Rattle.std.proofs.Common.{◌≡◌, ℕ, zero, suc, ◌+◌, ◌-◌, ◌*◌, ◌/◌, ◌%◌, ◌<◌, ◌≤◌, List, [], ◌∷◌, ◌++◌, length, take, drop, Option, Some, refl, sym, ap, ◌∙◌, subst, ◌⊎◌, ⊎_elim, inl, inr, arith}
+use Rattle.std.proofs.Common.{◌≡◌, ℕ, zero, suc, ◌+◌, ◌-◌, ◌*◌, ◌/◌, ◌%◌, ◌<◌, ◌≤◌, List, [], ◌∷◌, ◌++◌, length, take, drop, Option, Some, None, refl, sym, ap, ◌∙◌, subst, ◌⊎◌, ⊎_elim, inl, inr, arith}
 use Rattle.std.specs.List.{slice_get}
+use Rattle.std.specs.Option.{IfSome, IfNone}
 use Rattle.std.proofs.lemmas.Bool.{cases_lt}
 use Rattle.std.proofs.lemmas.List.{length-append, take_all}
 use Rattle.std.proofs.lemmas.Option.{slice_get_within}
 use Rattle.circular_buffer.specs.Buffer.{keep_last}
 use Rattle.circular_buffer.proofs.Places.{slice_get-drop, slice_get-last, slice_get-take}
+use Rattle.bench_settings.proofs.Lists.{map_at}
 use Rattle.replay.specs.declared.checkpoints.Stop.{Stop}
 use Rattle.replay.specs.declared.standings.Standing.{Standing}
-use Rattle.replay.specs.declared.timeline.Timeline.{Timeline}
 use Rattle.replay.specs.Tracks.{Pair}
-use Rattle.replay.specs.Standings.{AreAt, AreOf, IsTimeline, IsStop, AreCheckpoints, AreApart, AreStops, IsNearest, IsNoted, StandAt, Has}
-use Rattle.replay.proofs.Lists.{one_of, each_more}
+use Rattle.replay.specs.Moves.{IsIn, IsPlayedFromNearest, IsKeptBehind}
+use Rattle.replay.specs.Standings.{AreAt, IsStop, AreCheckpoints, AreApart, AreStops, IsNearest, IsNoted, IsStart, StandAt, Has, IsAmong, StopsGain, places_of}
+use Rattle.replay.proofs.Lists.{one_of, each_more, each_mapped}
 
 -- ---- checkpoints
 
@@ -25,34 +27,31 @@ apart pairs channels stops are k stop at = (are k stop at).0
 
 -- ---- the latest
 
--- one more is kept, and the first is let go where there were as many as may be
-pub kept_more : (pairs : List Pair) (channels : List ℕ) (stops : List Stop) (stop : Stop) (capacity : ℕ) → AreStops pairs channels stops → IsStop pairs channels stop
-    → AreStops pairs channels (keep_last capacity (stops ++ stop ∷ []))
-kept_more pairs channels stops stop capacity are is k other at =
-    let gone : ℕ = length (stops ++ stop ∷ []) - capacity in
-    each_more (λ n (s : Stop). IsStop pairs channels s) stops stop are is (gone + k) other (sym (slice_get-drop gone (stops ++ stop ∷ []) k (gone + k) refl) ∙ at)
+-- each of them is such
+abbrev pub AreAll : (Stop → Type 0) → List Stop → Type 0
+AreAll P stops = (k : ℕ) (stop : Stop) → slice_get stops k ≡ Some stop → P stop
 
-pub has_last : (stops : List Stop) (stop : Stop) (capacity place : ℕ) → 0 < capacity → stop.place ≡ place → Has (keep_last capacity (stops ++ stop ∷ [])) place
-has_last stops stop capacity place some is =
-    let gone : ℕ = length (stops ++ stop ∷ []) - capacity in
-    let long : length (stops ++ stop ∷ []) ≡ length stops + 1 = length-append stops (stop ∷ []) in
-    record {
-      at = length stops - gone;
-      stop = stop;
-      there =
-          slice_get-drop gone (stops ++ stop ∷ []) (length stops - gone) (length stops) (omega (arith, long, some))
-          ∙ slice_get-last stops stop (length stops) refl;
-      place_is = is;
-    }
+module _ (P : Stop → Type 0) where
+  -- one more is kept, and the first is let go where there were as many as may be
+  pub kept_more : (stops : List Stop) (stop : Stop) (capacity : ℕ) → AreAll P stops → P stop → AreAll P (keep_last capacity (stops ++ stop ∷ []))
+  kept_more stops stop capacity are is k other at =
+      let gone : ℕ = length (stops ++ stop ∷ []) - capacity in
+      each_more (λ _ (s : Stop). P s) stops stop are is (gone + k) other (sym (slice_get-drop gone (stops ++ stop ∷ []) k (gone + k) refl) ∙ at)
 
--- one is taken out in front
-module _ (pairs : List Pair) (channels : List ℕ) where
-  pub others_stay : (stops : List Stop) → AreStops pairs channels stops → AreStops pairs channels (drop 1 stops)
+  -- one is taken out in front
+  pub others_stay : (stops : List Stop) → AreAll P stops → AreAll P (drop 1 stops)
   others_stay stops are k stop at = are (suc k) stop (sym (slice_get-drop 1 stops k (suc k) (omega arith)) ∙ at)
 
-  pub out_in_front : (stops : List Stop) (stop : Stop) → AreStops pairs channels stops → slice_get stops 0 ≡ Some stop → IsStop pairs channels stop
-  out_in_front stops stop are at = are 0 stop at
+pub among_last : (stops : List Stop) (stop : Stop) (capacity : ℕ) → 0 < capacity → IsAmong (keep_last capacity (stops ++ stop ∷ [])) stop
+among_last stops stop capacity some =
+    let gone : ℕ = length (stops ++ stop ∷ []) - capacity in
+    let long : length (stops ++ stop ∷ []) ≡ length stops + 1 = length-append stops (stop ∷ []) in (
+      length stops - gone,
+      slice_get-drop gone (stops ++ stop ∷ []) (length stops - gone) (length stops) (omega (arith, long, some))
+          ∙ slice_get-last stops stop (length stops) refl,
+    )
 
+module _ (pairs : List Pair) (channels : List ℕ) where
   -- where they stand, if it is known
   pub stands_there : (at : Option ℕ) (all : List Standing) (place there : ℕ) → StandAt pairs channels at all → at ≡ Some place → place ≡ there → AreAt pairs channels there all
   stands_there at all place there stands is same = subst (λ (n : ℕ). AreAt pairs channels n all) same (subst (λ (o : Option ℕ). StandAt pairs channels o all) is stands)
@@ -141,42 +140,80 @@ module _ (checkpoints recent : List Stop) (place : ℕ) where
   pub nearest_of_all : (n : ℕ) (best : Stop) → IsNearest checkpoints (take n recent) place best → length recent ≤ n → IsNearest checkpoints recent place best
   nearest_of_all n best is le = subst (λ (xs : List Stop). IsNearest checkpoints xs place best) (take_all n recent le) is
 
--- the states are kept of the place that is nearest
-pub keeps_nearest : (checkpoints recent : List Stop) (to place : ℕ) (stop : Stop) → IsNearest checkpoints recent to stop → stop.place ≡ place
-    → Has checkpoints (to - (to - place)) ⊎ Has recent (to - (to - place))
-keeps_nearest checkpoints recent to place stop is same =
-    let back : stop.place ≡ to - (to - place) = omega (arith, is.below, same) in
+-- ---- where a move begins to play
+
+placed_in : (stops : List Stop) (k : ℕ) (stop : Stop) → slice_get stops k ≡ Some stop → IsIn (places_of stops) stop.place
+placed_in stops k stop at = (k, map_at (λ (s : Stop). s.place) stops k stop at)
+
+-- none that is kept and not past the end is behind the nearest
+none_nearer : (checkpoints recent : List Stop) (to : ℕ) (stop : Stop) → IsNearest checkpoints recent to stop → (place : ℕ) → IsIn (places_of recent) place → place ≤ to → place ≤ stop.place
+none_nearer checkpoints recent to stop is place kept =
+    each_mapped (λ (s : Stop). s.place) (λ _ (n : ℕ). n ≤ to → n ≤ stop.place) recent is.latest kept.0 place kept.1
+
+-- from the place itself, where it is not past the end and none that is kept is nearer
+pub starts_there : (checkpoints recent : List Stop) (from to : ℕ) (stop : Stop) → IsNearest checkpoints recent to stop → stop.place ≤ from → from ≤ to → IsStart (places_of recent) from to from
+starts_there checkpoints recent from to stop is not_nearer le = record {
+  at_hand = inr (inl refl);
+  within = le;
+  round = omega (arith, is.near, not_nearer);
+  begun = λ _. omega arith;
+  nearest = λ place kept low. omega (arith, none_nearer checkpoints recent to stop is place kept low, not_nearer);
+}
+
+-- else from the nearest that is kept
+pub starts_nearest : (checkpoints recent : List Stop) (from to : ℕ) (stop : Stop) → AreApart checkpoints → IsNearest checkpoints recent to stop → (from ≤ to → from ≤ stop.place)
+    → IsStart (places_of recent) from to stop.place
+starts_nearest checkpoints recent from to stop apart is begun = record {
+  at_hand =
+      ⊎_elim
+      (λ c. inl (let here : stop.place ≡ 64 * c.0 = apart c.0 stop c.1 in omega (arith, here)))
+      (λ r. inr (inr (placed_in recent r.0 stop r.1)))
+      is.one;
+  within = is.below;
+  round = is.near;
+  begun = begun;
+  nearest = none_nearer checkpoints recent to stop is;
+}
+
+-- so many messages are played from there
+pub played_from : (kept : List ℕ) (from to start : ℕ) → IsStart kept from to start → IsPlayedFromNearest kept from to (to - start)
+played_from kept from to start is = record {
+  start = start;
+  count = omega (arith, is.within);
+  at_hand = is.at_hand;
+  round = omega (arith, is.round, is.within);
+  begun = is.begun;
+  nearest = is.nearest;
+}
+
+-- ---- what is kept behind a move
+
+pub gained : (pairs : List Pair) (channels : List ℕ) (old new : List Stop) (saved : Option Stop) → StopsGain old saved new → AreStops pairs channels old → IfSome saved (IsStop pairs channels)
+    → AreStops pairs channels new
+gained pairs channels old new saved gain are is k stop at =
     ⊎_elim
-    (λ c. inl (record { at = c.0; stop = stop; there = c.1; place_is = back }))
-    (λ r. inr (record { at = r.0; stop = stop; there = r.1; place_is = back }))
-    is.one
+    (λ o. are o.0 stop o.1)
+    (λ (s : saved ≡ Some stop). subst (λ (x : Option Stop). IfSome x (IsStop pairs channels)) s is)
+    (gain k stop at)
 
--- it is not before a place that is not past, at which states are kept
-pub reaches : (checkpoints recent : List Stop) (from to : ℕ) (stop : Stop) → IsNearest checkpoints recent to stop → IsNoted recent from → from ≤ to → from ≤ stop.place
-reaches checkpoints recent from to stop is noted le =
-    ⊎_elim
-    (λ (round : from % 64 ≡ 0). omega (arith, round, is.near, le))
-    (λ (has : Has recent from).
-    let there : has.stop.place ≤ stop.place = is.latest has.at has.stop has.there (omega (arith, has.place_is, le)) in
-    omega (arith, there, has.place_is))
-    noted
-
--- ---- at a place
-
--- the jobs where they are after a move: only the controllers were written anew
-pub arrives : (t new : Timeline) (from to : ℕ) (pairs : List Pair) (channels : List ℕ) → IsTimeline t from → new.tracks ≡ t.tracks → new.channels ≡ t.channels → new.checkpoints ≡ t.checkpoints
-    → new.recent ≡ t.recent → pairs ≡ t.tracks.items → channels ≡ t.channels.items → AreAt pairs channels to new.live.items → AreOf pairs new.next.items
-    → StandAt pairs channels new.next_at new.next.items → IsTimeline new to
-arrives t new from to pairs channels is tracks all_channels checkpoints recent same same_channels live next next_at =
-    let ps : pairs ≡ new.tracks.items = same ∙ sym (ap (λ v. v.items) tracks) in
-    let cs : channels ≡ new.channels.items = same_channels ∙ sym (ap (λ v. v.items) all_channels) in
-    record {
-      room = rw (tracks, all_channels) is.room;
-      live = rw (← ps, ← cs) live;
-      next = rw (← ps) next;
-      next_at = rw (← ps, ← cs) next_at;
-      checkpoints = rw (tracks, all_channels, checkpoints) is.checkpoints;
-      enough = rw (all_channels, checkpoints) is.enough;
-      recent = rw (tracks, all_channels, recent) is.recent;
-      capacity = rw (recent) is.capacity;
-    }
+pub kept_behind : (from : ℕ) (old new : List Stop) (saved : Option Stop) → StopsGain old saved new → IfSome saved (IsAmong new) → IfSome saved (λ stop. stop.place ≡ from) → IfNone saved (IsNoted old from)
+    → IsKeptBehind from (places_of old) (places_of new)
+kept_behind from old new saved gain kept place noted = record {
+  begun = begun saved kept place noted;
+  others = λ p there. each_mapped (λ (s : Stop). s.place) (λ _ (n : ℕ). (n ≡ from) ⊎ IsIn (places_of old) n) new
+      (λ k stop at.
+      ⊎_elim
+      (λ o. inr (placed_in old o.0 stop o.1))
+      (λ (s : saved ≡ Some stop). inl (subst (λ (x : Option Stop). IfSome x (λ (y : Stop). y.place ≡ from)) s place))
+      (gain k stop at))
+      there.0 p there.1;
+}
+  where
+    begun : (saved : Option Stop) → IfSome saved (IsAmong new) → IfSome saved (λ stop. stop.place ≡ from) → IfNone saved (IsNoted old from)
+        → (from % 64 ≡ 0) ⊎ (IsIn (places_of old) from ⊎ IsIn (places_of new) from)
+    begun (Some stop) kept place noted = inr (inr (subst (IsIn (places_of new)) place (placed_in new kept.0 stop kept.1)))
+    begun None kept place noted =
+        ⊎_elim
+        (λ (round : from % 64 ≡ 0). inl round)
+        (λ (has : Has old from). inr (inl (subst (IsIn (places_of old)) has.place_is (placed_in old has.at has.stop has.there))))
+        noted

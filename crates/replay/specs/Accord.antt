@@ -9,8 +9,8 @@ use Rattle.ch11_builder.specs.Packet.{Numbered, messages_of}
 use Rattle.ch11_reader.specs.Recording.{Found, holds_messages}
 use Rattle.ch11_reader.specs.Contents.{reading}
 use Rattle.bench_report.specs.Reports.{ChannelPart}
-use Rattle.bench_core.specs.Lawful.{channels_of}
-use Rattle.bench_core.specs.Settled.{kept_records}
+use Rattle.bench_settings.specs.Lawful.{channels_of}
+use Rattle.bench_settings.specs.Kept.{kept_records}
 
 -- the channels of a report, in its order
 abbrev pub reported : List ChannelPart → List ℕ

@@ -10,8 +10,8 @@ use Rattle.ch11_recording.specs.Items.{numbered}
 use Rattle.ch11_reader.specs.Recording.{Found, holds_messages}
 use Rattle.ch11_reader.specs.Contents.{reading}
 use Rattle.bench_report.specs.Reports.{ChannelPart}
-use Rattle.bench_core.specs.Lawful.{channels_of}
-use Rattle.bench_core.specs.Settled.{kept_records}
+use Rattle.bench_settings.specs.Lawful.{channels_of}
+use Rattle.bench_settings.specs.Kept.{kept_records}
 use Rattle.replay.specs.Accord.{reported, played, is_one, AreOfChannels, AgreesOn, Agrees}
 
 -- ---- of the channels

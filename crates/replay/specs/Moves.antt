@@ -1,5 +1,5 @@
 -- A recording under the debugger, and what moves of it come to (own choice).
-use Rattle.std.specs.Prelude.{◌≡◌, ℕ, suc, ◌<◌, Bool, true, List, length, slice_get, Some}
+use Rattle.std.specs.Prelude.{◌≡◌, ℕ, suc, ◌+◌, ◌%◌, ◌<◌, ◌≤◌, ◌⊎◌, Bool, true, List, length, slice_get, Some}
 use Rattle.mil_word.specs.Timing.{least_gap}
 use Rattle.mil_message.specs.World.{Point}
 use Rattle.mil_bus.specs.declared.outcomes.Outcome.{Outcome}
@@ -30,10 +30,38 @@ opened jobs parts found = record { jobs = jobs; parts = parts; found = found; pl
 abbrev pub at_place : ℕ → ReplayState → ReplayState
 at_place place s = record { jobs = s.jobs; parts = s.parts; found = s.found; place = place }
 
--- the debugger: where it stands, and how many messages of the file its last move that succeeded has played
+-- The debugger: where it stands, how many messages of the file its last move that succeeded has played, and the places
+-- at which states are kept, besides the multiples of 64, at all of which they are.
 pub record DebuggerState : Type 0 where
   pub state : ReplayState
   pub replayed : ℕ
+  pub kept : List ℕ
+
+-- a place is one of these
+abbrev pub IsIn : List ℕ → ℕ → Type 0
+IsIn places place = (k : ℕ) × (slice_get places k ≡ Some place)
+
+-- A move from a place to another plays so many messages: those behind the nearest place that is not past where it ends
+-- and whose states are at hand. These are the multiples of 64, the places at which states are kept, and the one where
+-- the move begins.
+pub record IsPlayedFromNearest (kept : List ℕ) (from to played : ℕ) : Type 0 where
+  pub start : ℕ
+  pub count : start + played ≡ to
+  pub at_hand : (start % 64 ≡ 0) ⊎ ((start ≡ from) ⊎ IsIn kept start)
+  pub round : played ≤ to % 64
+  pub begun : from ≤ to → from ≤ start
+  pub nearest : (place : ℕ) → IsIn kept place → place ≤ to → place ≤ start
+
+-- Behind a move states are kept at places where they were before, and where it began: there they were at hand, or are
+-- kept now.
+pub record IsKeptBehind (from : ℕ) (old new : List ℕ) : Type 0 where
+  pub begun : (from % 64 ≡ 0) ⊎ (IsIn old from ⊎ IsIn new from)
+  pub others : (place : ℕ) → IsIn new place → (place ≡ from) ⊎ IsIn old place
+
+-- a move that succeeded: how many messages it played, and where states are kept behind it
+pub record IsMove (old new : DebuggerState) : Type 0 where
+  pub played : IsPlayedFromNearest old.kept old.state.place new.state.place new.replayed
+  pub kept : IsKeptBehind old.state.place old.kept new.kept
 
 -- how many messages the file has
 abbrev pub total_of : ReplayState → ℕ

@@ -11,7 +11,7 @@ use Rattle.ch11_builder.specs.Packet.{messages_of}
 use Rattle.ch11_reader.specs.Recording.{Found}
 use Rattle.ch11_reader.specs.Contents.{reading}
 use Rattle.bench_report.specs.Reports.{ChannelPart}
-use Rattle.bench_core.specs.Settled.{kept_records}
+use Rattle.bench_settings.specs.Kept.{kept_records}
 use Rattle.replay.specs.declared.error.ReplayError.{ReplayError}
 use Rattle.replay.specs.declared.error.ReplayError.TheVariants as error
 use Rattle.replay.specs.declared.playing.Played.{Played}

@@ -1,5 +1,5 @@
 -- Where the controllers of all jobs stand at a place of the file: behind so many of its messages.
-use Rattle.std.specs.Prelude.{◌≡◌, ℕ, ◌+◌, ◌*◌, ◌%◌, ◌<◌, ◌≤◌, ◌⊎◌, List, length, take, slice_get, Option, Some}
+use Rattle.std.specs.Prelude.{◌≡◌, ℕ, ◌+◌, ◌*◌, ◌%◌, ◌<◌, ◌≤◌, ◌⊎◌, List, length, map, take, slice_get, Option, Some}
 use Rattle.std.specs.Option.{IfSome}
 use Rattle.bc_machine.specs.Running.{MachineState}
 use Rattle.job_file.specs.Jobs.{JobState, job_in}
@@ -12,6 +12,7 @@ use Rattle.replay.specs.declared.checkpoints.Stop.{Stop}
 use Rattle.replay.specs.declared.timeline.Timeline.{Timeline}
 use Rattle.replay.specs.Accord.{kept_in}
 use Rattle.replay.specs.Finding.{count_to}
+use Rattle.replay.specs.Moves.{IsIn}
 use Rattle.replay.specs.Tracks.{Pair, IsThere}
 
 -- a controller that stands behind the last of so many kept messages of its job, as many as there are before a place,
@@ -74,15 +75,28 @@ AreApart stops = (k : ℕ) (stop : Stop) → slice_get stops k ≡ Some stop →
 abbrev pub AreStops : List Pair → List ℕ → List Stop → Type 0
 AreStops pairs channels stops = (k : ℕ) (stop : Stop) → slice_get stops k ≡ Some stop → IsStop pairs channels stop
 
--- whatever states the earlier ones were, the later ones are
-abbrev pub StopsStay : List Stop → List Stop → Type 0
-StopsStay old new = (pairs : List Pair) (channels : List ℕ) → AreStops pairs channels old → AreStops pairs channels new
+-- these states are among those
+abbrev pub IsAmong : List Stop → Stop → Type 0
+IsAmong whole stop = (k : ℕ) × (slice_get whole k ≡ Some stop)
 
--- so do these and what was taken out of them
+-- each of these is
+abbrev pub AreAmong : List Stop → List Stop → Type 0
+AreAmong whole stops = (k : ℕ) (stop : Stop) → slice_get stops k ≡ Some stop → IsAmong whole stop
+
+-- whatever states they and what was taken out of them were among, they are still
 abbrev pub StopsTurn : List Stop → Option Stop → List Stop → Option Stop → Type 0
 StopsTurn old out new taken =
-    (pairs : List Pair) (channels : List ℕ) → AreStops pairs channels old → IfSome out (IsStop pairs channels)
-    → AreStops pairs channels new × IfSome taken (IsStop pairs channels)
+    (whole : List Stop) → AreAmong whole old → IfSome out (IsAmong whole)
+    → AreAmong whole new × IfSome taken (IsAmong whole)
+
+-- each of the later ones is among the earlier, or was saved
+abbrev pub StopsGain : List Stop → Option Stop → List Stop → Type 0
+StopsGain old saved new =
+    (k : ℕ) (stop : Stop) → slice_get new k ≡ Some stop → IsAmong old stop ⊎ (saved ≡ Some stop)
+
+-- the places of states
+abbrev pub places_of : List Stop → List ℕ
+places_of stops = map (λ (stop : Stop). stop.place) stops
 
 -- controllers at a place, where it is known at which
 abbrev pub StandAt : List Pair → List ℕ → Option ℕ → List Standing → Type 0
@@ -135,6 +149,11 @@ pub record AreRestored (pairs : List Pair) (kept : List Kept) (done : ℕ) (all 
   pub there : (i : ℕ) (s : Standing) (k : Kept) → i < done → slice_get all i ≡ Some s → slice_get kept i ≡ Some k
       → saved_of s ≡ k
 
--- the states of a place are kept, and so may be played on from
-abbrev pub Keeps : Timeline → ℕ → Type 0
-Keeps t place = Has t.checkpoints.items place ⊎ Has t.recent.items place
+-- A place from which a move may play: the nearest that is not past where it ends, of the multiples of 64, those at
+-- which states are kept, and the one where it begins.
+pub record IsStart (kept : List ℕ) (from to start : ℕ) : Type 0 where
+  pub at_hand : (start % 64 ≡ 0) ⊎ ((start ≡ from) ⊎ IsIn kept start)
+  pub within : start ≤ to
+  pub round : to ≤ start + to % 64
+  pub begun : from ≤ to → from ≤ start
+  pub nearest : (place : ℕ) → IsIn kept place → place ≤ to → place ≤ start

@@ -1,5 +1,5 @@
 //! Opening a recording: do jobs, report and recording agree?
-ghost use Rattle.bench_core.specs.Lawful.{channels_of};
+ghost use Rattle.bench_settings.specs.Lawful.{channels_of};
 ghost use Rattle.replay.specs.Accord.{reported, AreOfChannels};
 ghost use Rattle.replay.specs.Differences.{IsWrongChannel, IsStranger};
 ghost use Rattle.replay.specs.Keeping.{AreSpaced};

@@ -5,11 +5,12 @@ ghost use Rattle.job_file.specs.Machines.{IsOf, IsLatestOutcome};
 ghost use Rattle.job_file.specs.Meaning.{bus_after};
 ghost use Rattle.mil_bus.specs.Exchange.{played};
 ghost use Rattle.replay.specs.Accord.{Agrees};
-ghost use Rattle.replay.specs.Moves.{OpensNot, PastWhere, StartWhere, IsMemory};
+ghost use Rattle.replay.specs.Moves.{OpensNot, PastWhere, StartWhere, IsMemory, IsMove};
 ghost use Rattle.replay.specs.Moves.{opened, at_place, total_of, OfJob};
 ghost use Rattle.replay.specs.Moves.{IsNextMet, IsNowhere, IsLatestMet, IsNowhereBefore};
 ghost use Rattle.replay.specs.Places.{latest_kept_number};
-ghost use Rattle.std.specs.Prelude.{◌≡◌, ◌+◌, ◌-◌, ◌<◌, ◌≤◌, ◌%◌, length, slice_get, Some, IfOk, IfErr, OnOk, OnErr};
+ghost use Rattle.std.specs.Prelude.{◌≡◌, ◌+◌, ◌-◌, ◌<◌, ◌≤◌, ◌%◌, [], length, slice_get};
+ghost use Rattle.std.specs.Prelude.{Some, IfOk, IfErr, OnOk, OnErr};
 
 use crate::checkpoints::empty_stops;
 use crate::error::ReplayError;
@@ -27,7 +28,8 @@ use std::marker::Model;
 
 /// A recording under the debugger, with the jobs and the report of its run, which agree with it. Contracts see the
 /// jobs, their parts of the report, the packets of the file, the place, which is behind how many messages it
-/// stands, and how many messages the last move that succeeded has played.
+/// stands, how many messages the last move that succeeded has played, and the places other than the multiples of 64 at
+/// which states are kept.
 #[derive(Drop)]
 pub struct Replay<'a> {
     index: Index<'a>,
@@ -40,6 +42,7 @@ impl<'a> Model for Replay<'a> {
     ghost use Rattle.job_file.specs.contracts.scripts.Script as scripts;
     ghost use Rattle.replay.specs.Moves.{DebuggerState};
     ghost use Rattle.replay.specs.Replaying.{IsReplay};
+    ghost use Rattle.replay.specs.Standings.{places_of};
     ghost use Rattle.replay.specs.Tracks.{jobs_in, parts_in};
     ghost use Rattle.std.specs.Coded.{codes};
 
@@ -55,6 +58,7 @@ impl<'a> Model for Replay<'a> {
         place = r.place;
       };
       replayed = r.replayed;
+      kept = places_of r.timeline.recent.items;
     } };
 
     ghost invariant = { λ r. IsReplay (record {
@@ -79,7 +83,7 @@ impl<'a> Replay<'a> {
         index: Index<'a>,
     ) -> Result<Replay<'a>, ReplayError>
         ensures ok { IfOk result (λ r. r.state ≡ opened jobs.now report.now.channels index.entry) }
-        ensures none { IfOk result (λ r. r.replayed ≡ 0) }
+        ensures none { IfOk result (λ r. (r.replayed ≡ 0) × (r.kept ≡ [])) }
         ensures agrees { OnOk result (Agrees jobs.now report.now.channels index.entry) }
         ensures mismatch { IfErr result (λ e. OpensNot jobs.now report.now.channels index.entry e) }
     {
@@ -103,7 +107,7 @@ impl<'a> Replay<'a> {
     fn move_to(&mut self, n: u64) -> Result<(), ReplayError>
         requires { n ≤ total_of self.old.state }
         ensures moved { OnOk result (self.new.state ≡ at_place n self.old.state) }
-        ensures ahead { OnOk result (self.old.state.place ≤ n → self.new.replayed ≤ n - self.old.state.place) }
+        ensures played { OnOk result (IsMove self.old self.new) }
         ensures refused { IfErr result (λ e. IsMemory e) }
         ensures same { OnErr result (self.new ≡ self.old) }
     {
@@ -122,6 +126,7 @@ impl<'a> Replay<'a> {
     pub fn forward(&mut self) -> Result<(), ReplayError>
         ensures there { OnOk result (self.old.state.place < total_of self.old.state) }
         ensures moved { OnOk result (self.new.state ≡ at_place (self.old.state.place + 1) self.old.state) }
+        ensures played { OnOk result (IsMove self.old self.new) }
         ensures few { OnOk result (self.new.replayed ≤ 1) }
         ensures refused { IfErr result (λ e. PastWhere (total_of self.old.state ≤ self.old.state.place) e) }
         ensures same { OnErr result (self.new ≡ self.old) }
@@ -136,6 +141,7 @@ impl<'a> Replay<'a> {
     pub fn back(&mut self) -> Result<(), ReplayError>
         ensures there { OnOk result (0 < self.old.state.place) }
         ensures moved { OnOk result (self.new.state ≡ at_place (self.old.state.place - 1) self.old.state) }
+        ensures played { OnOk result (IsMove self.old self.new) }
         ensures refused { IfErr result (λ e. StartWhere (self.old.state.place ≡ 0) e) }
         ensures same { OnErr result (self.new ≡ self.old) }
     {
@@ -149,6 +155,7 @@ impl<'a> Replay<'a> {
     pub fn go(&mut self, n: u64) -> Result<(), ReplayError>
         ensures there { OnOk result (n ≤ total_of self.old.state) }
         ensures moved { OnOk result (self.new.state ≡ at_place n self.old.state) }
+        ensures played { OnOk result (IsMove self.old self.new) }
         ensures refused { IfErr result (λ e. PastWhere (total_of self.old.state < n) e) }
         ensures same { OnErr result (self.new ≡ self.old) }
     {
@@ -163,6 +170,7 @@ impl<'a> Replay<'a> {
     pub fn find<A: Allocator + Clone>(&mut self, condition: &Cond<A>) -> Result<(), ReplayError>
         ensures there { OnOk result (IsNextMet self.old.state (condition_in condition.now) self.new.state.place) }
         ensures moved { OnOk result (self.new.state ≡ at_place self.new.state.place self.old.state) }
+        ensures played { OnOk result (IsMove self.old self.new) }
         ensures refused { IfErr result (λ e. PastWhere (IsNowhere self.old.state (condition_in condition.now)) e) }
         ensures same { OnErr result (self.new ≡ self.old) }
     {
@@ -186,6 +194,7 @@ impl<'a> Replay<'a> {
     ) -> Result<(), ReplayError>
         ensures there { OnOk result (IsLatestMet self.old.state (condition_in condition.now) self.new.state.place) }
         ensures moved { OnOk result (self.new.state ≡ at_place self.new.state.place self.old.state) }
+        ensures played { OnOk result (IsMove self.old self.new) }
         ensures refused { IfErr result
             (λ e. PastWhere (IsNowhereBefore self.old.state (condition_in condition.now)) e) }
         ensures same { OnErr result (self.new ≡ self.old) }
@@ -210,9 +219,10 @@ impl<'a> Replay<'a> {
         self.place
     }
 
-    /// How many messages of the file the last move that succeeded has played, from the nearest state that was kept: no
-    /// more than stand between the last multiple of 64 and the place, so 63 at most; one at most where it was to the
-    /// next message; and none before any move. A refusal leaves it as it was.
+    /// How many messages of the file the last move that succeeded has played, which are those behind the nearest place
+    /// that was not past its end and whose states were at hand: no more than stand between the last multiple of 64 and
+    /// the place, so 63 at most; one at most where it was to the next message; and none before any move. A refusal
+    /// leaves it as it was.
     pub fn replayed(&self) -> u64
         ensures value { result ≡ self.now.replayed }
         ensures few { result ≤ self.now.state.place % 64 }

@@ -1,8 +1,9 @@
 //! The jobs of a recording from place to place: where their controllers stand, and the states that are kept.
-ghost use Rattle.replay.specs.Standings.{AreApart, IsTimeline, IsNearest, IsNoted, Has, Keeps};
-ghost use Rattle.replay.specs.Standings.{HaveNoExtraMessages, AreAt, AreOf, StandAt, AreCheckpoints, IsStop, StopsStay};
-ghost use Rattle.replay.specs.Standings.{StopsTurn};
-ghost use Rattle.std.specs.Prelude.{◌≡◌, ◌≤◌, ◌<◌, ◌-◌, ◌*◌, ◌%◌, length, IfOk, IfSome, OnOk, OnErr, true};
+ghost use Rattle.replay.specs.Moves.{IsPlayedFromNearest, IsKeptBehind};
+ghost use Rattle.replay.specs.Standings.{AreApart, IsTimeline, IsNearest, IsNoted, IsStart, Has};
+ghost use Rattle.replay.specs.Standings.{HaveNoExtraMessages, AreAt, AreOf, StandAt, AreCheckpoints, IsStop};
+ghost use Rattle.replay.specs.Standings.{IsAmong, AreAmong, StopsTurn, StopsGain, places_of};
+ghost use Rattle.std.specs.Prelude.{◌≡◌, ◌≤◌, ◌<◌, ◌*◌, [], length, IfOk, IfSome, IfNone, OnOk, OnErr, true};
 
 use crate::checkpoints::{APART, Stop};
 use crate::standings::{Standing, play_all, restore_all, save_all};
@@ -67,23 +68,47 @@ fn turn(recent: &mut HeapCircularBuffer<Stop>, place: usize, found: Option<Stop>
     found
 }
 
-/// Makes the states of a place the latest, where they are among these, and says whether they are.
-fn renew(recent: &mut HeapCircularBuffer<Stop>, place: usize) -> bool
+/// Makes the states of a place the latest, where they are among these.
+fn renew(recent: &mut HeapCircularBuffer<Stop>, place: usize)
     requires { recent.old.capacity ≡ 32 }
-    ensures stops { StopsStay recent.old.items recent.new.items }
+    ensures stops { AreAmong recent.old.items recent.new.items }
     ensures capacity { recent.new.capacity ≡ 32 }
-    ensures has { result ≡ true → Has recent.new.items place }
 {
     let mut found = None;
     for _turn in 0..recent.len() {
         found = turn(recent, place, found);
     }
-    match found {
+    if let Some(stop) = found {
+        let _ = recent.push_back(stop);
+    }
+}
+
+/// Whether the states of a place are among these.
+fn is_among(recent: &HeapCircularBuffer<Stop>, place: usize) -> bool
+    ensures { result ≡ true → Has recent.now.items place }
+{
+    for i in 0..recent.len() {
+        if let Some(stop) = recent.get(i) {
+            if stop.place == place {
+                return true;
+            }
+        }
+    }
+    false
+}
+
+/// Makes the states of a place the latest: those that were saved, or else those that are among these.
+fn note(recent: &mut HeapCircularBuffer<Stop>, place: usize, saved: Option<Stop>)
+    requires { recent.old.capacity ≡ 32 }
+    ensures stops { StopsGain recent.old.items saved recent.new.items }
+    ensures kept { IfSome saved (IsAmong recent.new.items) }
+    ensures capacity { recent.new.capacity ≡ 32 }
+{
+    match saved {
         Some(stop) => {
             let _ = recent.push_back(stop);
-            true
         }
-        None => false,
+        None => renew(recent, place),
     }
 }
 
@@ -130,6 +155,7 @@ impl Timeline {
         ensures stands { IfOk result (λ t. IsTimeline t 0) }
         ensures tracks { IfOk result (λ t. t.tracks ≡ tracks) }
         ensures channels { IfOk result (λ t. t.channels ≡ channels) }
+        ensures recent { IfOk result (λ t. t.recent.items ≡ []) }
     {
         let recent = HeapCircularBuffer::with_capacity(alloc, RECENT)?;
         Ok(Timeline {
@@ -143,28 +169,68 @@ impl Timeline {
         })
     }
 
-    /// Keeps the states where the controllers stand as the latest. They are not saved anew where they are kept already,
-    /// and not at all at a checkpoint.
-    fn note(&mut self, place: usize) -> Result<(), AllocError>
-        requires { IsTimeline self.old place }
-        ensures stands { IsTimeline self.new place }
-        ensures tracks { self.new.tracks ≡ self.old.tracks }
-        ensures channels { self.new.channels ≡ self.old.channels }
-        ensures noted { OnOk result (IsNoted self.new.recent.items place) }
+    /// The states where the controllers stand, to be kept. None where they are kept already, as at each checkpoint.
+    fn saved(&self, place: usize) -> Result<Option<Stop>, AllocError>
+        requires { IsTimeline self.now place }
+        ensures stop { IfOk result
+            (λ saved. IfSome saved (IsStop self.now.tracks.items self.now.channels.items)) }
+        ensures place { IfOk result (λ saved. IfSome saved (λ stop. stop.place ≡ place)) }
+        ensures noted { IfOk result (λ saved. IfNone saved (IsNoted self.now.recent.items place)) }
     {
-        if place % APART == 0 {
-            return Ok(());
-        }
-        if renew(&mut self.recent, place) {
-            return Ok(());
+        if place % APART == 0 || is_among(&self.recent, place) {
+            return Ok(None);
         }
         let states = save_all(*self.live.allocator(), &self.live)?;
-        let _ = self.recent.push_back(Stop { place, states });
-        Ok(())
+        Ok(Some(Stop { place, states }))
+    }
+
+    /// Plays the controllers on from the place where they stand to a later one.
+    fn play_on(&mut self, from: usize, to: usize)
+        requires stands { IsTimeline self.old from }
+        requires order { from ≤ to }
+        requires end { to ≤ length self.old.channels.items }
+        ensures tracks { self.new.tracks ≡ self.old.tracks }
+        ensures channels { self.new.channels ≡ self.old.channels }
+        ensures recent { self.new.recent ≡ self.old.recent }
+        ensures arrived { IsTimeline self.new to }
+    {
+        play_all(&self.tracks, &mut self.live, &self.channels, from, to);
+    }
+
+    /// Plays the controllers from a place to another, and answers from where: from the place itself, or from a nearer
+    /// one whose states are kept.
+    fn play(&mut self, from: usize, to: usize) -> Result<usize, AllocError>
+        requires stands { IsTimeline self.old from }
+        requires end { to ≤ length self.old.channels.items }
+        ensures tracks { self.new.tracks ≡ self.old.tracks }
+        ensures channels { self.new.channels ≡ self.old.channels }
+        ensures recent { self.new.recent ≡ self.old.recent }
+        ensures arrived { OnOk result (IsTimeline self.new to) }
+        ensures stays { OnErr result (IsTimeline self.new from) }
+        ensures start { IfOk result (λ start. IsStart (places_of self.old.recent.items) from to start) }
+    {
+        let stop = nearest(&self.checkpoints, &self.recent, to);
+        let place = stop.place;
+        if place <= from && from <= to {
+            self.play_on(from, to);
+            return Ok(from);
+        }
+        bring(
+            &self.tracks,
+            &mut self.next,
+            &mut self.next_at,
+            stop,
+            &self.channels,
+        )?;
+        play_all(&self.tracks, &mut self.next, &self.channels, place, to);
+        swap(&mut self.live, &mut self.next);
+        self.next_at = Some(from);
+        Ok(place)
     }
 
     /// Takes the controllers from a place to another, and answers how many messages of the file were played on the way:
-    /// from the nearest place at or below it whose states are there.
+    /// from the nearest place at or below it whose states are there. The states of the place that they leave are kept;
+    /// where memory is refused, the states that are kept are as they were.
     pub(crate) fn travel(&mut self, from: usize, to: usize) -> Result<usize, AllocError>
         requires stands { IsTimeline self.old from }
         requires end { to ≤ length self.old.channels.items }
@@ -172,28 +238,14 @@ impl Timeline {
         ensures channels { self.new.channels ≡ self.old.channels }
         ensures arrived { OnOk result (IsTimeline self.new to) }
         ensures stays { OnErr result (IsTimeline self.new from) }
-        ensures within { IfOk result (λ n. n ≤ to) }
-        ensures played { IfOk result (λ n. Keeps self.new (to - n)) }
-        ensures few { IfOk result (λ n. n ≤ to % 64) }
-        ensures ahead { IfOk result (λ n. from ≤ to → n ≤ to - from) }
+        ensures same { OnErr result (self.new.recent ≡ self.old.recent) }
+        ensures played { IfOk result (λ n. IsPlayedFromNearest (places_of self.old.recent.items) from to n) }
+        ensures kept { OnOk result
+            (IsKeptBehind from (places_of self.old.recent.items) (places_of self.new.recent.items)) }
     {
-        self.note(from)?;
-        let stop = nearest(&self.checkpoints, &self.recent, to);
-        let place = stop.place;
-        if place == from {
-            play_all(&self.tracks, &mut self.live, &self.channels, from, to);
-        } else {
-            bring(
-                &self.tracks,
-                &mut self.next,
-                &mut self.next_at,
-                stop,
-                &self.channels,
-            )?;
-            play_all(&self.tracks, &mut self.next, &self.channels, place, to);
-            swap(&mut self.live, &mut self.next);
-            self.next_at = Some(from);
-        }
-        Ok(to - place)
+        let saved = self.saved(from)?;
+        let start = self.play(from, to)?;
+        note(&mut self.recent, from, saved);
+        Ok(to - start)
     }
 }

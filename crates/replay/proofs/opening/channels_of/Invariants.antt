@@ -1,5 +1,5 @@
 use Rattle.std.proofs.Common.{◌≡◌, take}
-use Rattle.bench_core.specs.Lawful.{channels_of}
+use Rattle.bench_settings.specs.Lawful.{channels_of}
 use Rattle.replay.proofs.opening.channels_of.Given as goal
 
 abbrev pub invariant-loop-job : goal.invariant-loop-job

@@ -1,5 +1,6 @@
-use Rattle.std.proofs.Common.{ℕ, List, [], length, sym, ap, ◌∙◌, subst, arith}
-use Rattle.replay.specs.Standings.{AreCheckpoints}
+use Rattle.std.proofs.Common.{ℕ, List, [], length, refl, sym, ap, ◌∙◌, subst, arith}
+use Rattle.replay.specs.declared.checkpoints.Stop.{Stop}
+use Rattle.replay.specs.Standings.{AreCheckpoints, places_of}
 use Rattle.replay.specs.Keeping.{AreSpaced}
 use Rattle.replay.proofs.Standing.{begun_at}
 use Rattle.replay.proofs.Replayed.{agreed, agreed_pairs, have_room, opened}
@@ -48,3 +49,6 @@ invariant_of-result c =
 pub returns-clause-agrees : goal.returns-clause-agrees
 returns-clause-agrees c =
     rw (← c.channels-parts.ensures.value) (agreed c.args.jobs.now c.channels-parts.result.now c.args.index c.in_ok-compare_channels.ensures.channels c.in_ok-compare_channels.ensures.known c.in_ok-tracks.ensures.agree)
+
+pub returns-clause-none : goal.returns-clause-none
+returns-clause-none c = (refl, ap (λ (stops : List Stop). places_of stops) c.in_ok-timeline.ensures.recent)

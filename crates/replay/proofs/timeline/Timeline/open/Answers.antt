@@ -16,3 +16,6 @@ returns-clause-stands c = record {
   recent = subst (λ (b : Buffer Stop). AreStops c.args.tracks.items c.args.channels.items b.items) (sym c.in_ok-recent.ensures) (λ k stop at. absurd cc);
   capacity = ap (λ (b : Buffer Stop). b.capacity) c.in_ok-recent.ensures;
 }
+
+pub returns-clause-recent : goal.returns-clause-recent
+returns-clause-recent c = ap (λ (b : Buffer Stop). b.items) c.in_ok-recent.ensures
