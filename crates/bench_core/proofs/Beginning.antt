@@ -8,7 +8,7 @@ use Rattle.ch11_recording.specs.Recording.{AreDistinct}
 use Rattle.ch11_recording.specs.Laws.{IsFormat, IsPrologue}
 use Rattle.ch11_recording.specs.WrittenFile.{Format, channel_in, held_in, closed_packets}
 use Rattle.ch11_recording.proofs.Recordings.{file_of_none}
-use Rattle.bench_core.specs.Lawful.{channels_of}
+use Rattle.bench_settings.specs.Lawful.{channels_of}
 use Rattle.bench_core.specs.Bench.{LaneState, begun_lane, begun}
 use Rattle.bench_core.specs.Settled.{IsFresh}
 use Rattle.bench_core.specs.Channels.{IsMade}

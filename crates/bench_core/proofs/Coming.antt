@@ -15,9 +15,10 @@ use Rattle.ch11_recording.specs.WrittenFile.{Format, channel_in, concerns, met, 
 use Rattle.ch11_recording.proofs.Growth.{after_more}
 use Rattle.ch11_recording.proofs.Kept.{not_mine, mine, items_channel}
 use Rattle.bench_core.specs.Bench.{LaneState, Bench, all_records}
-use Rattle.bench_core.specs.Settled.{is_kept, kept_of, IsSettled}
+use Rattle.bench_core.specs.Settled.{kept_of, IsSettled}
+use Rattle.bench_settings.specs.Kept.{is_kept}
 use Rattle.bench_core.specs.Writing.{MayCome}
-use Rattle.bench_core.proofs.Lists.{records_both}
+use Rattle.bench_settings.proofs.Lists.{records_both}
 use Rattle.bench_core.proofs.Steps.{channels_in, stands_apart}
 
 -- ---- numbers rise

@@ -20,7 +20,8 @@ use Rattle.bench_core.specs.World.{WorldState, with_bench, IsReached, IsKeptWorl
 use Rattle.bench_core.proofs.Steps.{IsBench, channels_in, one_of}
 use Rattle.bench_core.proofs.Tidy.{Stands, IsTidy, packets_at_most}
 use Rattle.bench_core.proofs.Coming.{holds, held_set, may_come}
-use Rattle.bench_core.proofs.Offers.{map_at, map_kept, all_set_to, set_same, offer_made, offer_is}
+use Rattle.bench_core.proofs.Offers.{all_set_to, set_same, offer_made, offer_is}
+use Rattle.bench_settings.proofs.Lists.{map_at, map_kept, which}
 use Rattle.bench_core.proofs.Worlds.{all_recorded, reached_bench, reached_tidy, reached_more}
 
 abbrev pub state : Format → List ℕ → ℕ → List LaneState → ℕ → List Item → List Item → WorldState
@@ -134,11 +135,6 @@ module _ (goes : FileGoesOn) (more : PacketsGoOn) (latest : LatestIsLast) (slots
       (may_come latest w.format w.bench l x behind at of (settled_of w.bench l i here bench) (item_front w.bench.taken behind x items))
 
 -- ---- where a channel stands
-
-pub which : {X Y : Type 0} (g : X → Y) (xs : List X) (i : ℕ) (y : Y) → slice_get (map g xs) i ≡ Some y → (x : X) × (slice_get xs i ≡ Some x) × (y ≡ g x)
-which g [] i y at = absurd cc
-which g (x ∷ xs) zero y at = (x, refl, cc)
-which g (x ∷ xs) (suc i) y at = which g xs i y at
 
 pub got : {X : Type 0} (xs : List X) (i : ℕ) (x d : X) → slice_get xs i ≡ Some x → slice_index_or xs i d ≡ x
 got [] i x d at = absurd cc

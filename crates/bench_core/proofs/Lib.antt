@@ -1,12 +1,7 @@
-pub mod Lists
 pub mod Growing
 pub mod Foreseen
 pub mod Steps
 pub mod Reading
-pub mod Ordered
-pub mod Sorting
-pub mod Adding
-pub mod Judged
 pub mod Tidy
 pub mod Coming
 pub mod Offers

@@ -14,6 +14,7 @@ use Rattle.ch11_builder.specs.Recorded.{IsRecorded}
 use Rattle.ch11_recording.specs.declared.item.Item.{Item}
 use Rattle.ch11_recording.specs.declared.item.Item.TheVariants as item
 use Rattle.ch11_recording.specs.Items.{numbered}
+use Rattle.bench_settings.proofs.Lists.{map_at, map_kept}
 use Rattle.bench_core.specs.Bench.{LaneState, Bench, has_room, with_message, with_end, message_of, next_offered, lane_offers, offered}
 use Rattle.bench_core.specs.Channels.{after_next, queued_next, next_in}
 
@@ -54,17 +55,6 @@ recorded_on job m n made of is all =
     subst (λ (k : ℕ). AreRecorded (take k (records job n.placed))) (sym is) (subst (λ (ps : List Placed). AreRecorded (take made (records job ps))) (sym of.actions) all)
 
 -- ---- lists, one of them changed
-
-module _ {X Y : Type 0} where
-  pub map_at : (g : X → Y) (xs : List X) (i : ℕ) (x : X) → slice_get xs i ≡ Some x → slice_get (map g xs) i ≡ Some (g x)
-  map_at g [] i x at = absurd cc
-  map_at g (y ∷ xs) zero x at = let same : y ≡ x = cc in ap (λ (z : X). Some (g z)) same
-  map_at g (y ∷ xs) (suc i) x at = map_at g xs i x at
-
-  pub map_kept : (g : X → Y) (xs : List X) (i : ℕ) (x v : X) → slice_get xs i ≡ Some x → g v ≡ g x → map g (slice_set xs i v) ≡ map g xs
-  map_kept g [] i x v at same = refl
-  map_kept g (y ∷ xs) zero x v at same = let here : x ≡ y = cc in ap (λ (z : Y). z ∷ map g xs) (same ∙ ap g here)
-  map_kept g (y ∷ xs) (suc i) x v at same = ap (λ (ys : List Y). g y ∷ ys) (map_kept g xs i x v at same)
 
 pub set_same : {X : Type 0} (xs : List X) (i : ℕ) (x : X) → slice_get xs i ≡ Some x → slice_set xs i x ≡ xs
 set_same [] i x at = refl

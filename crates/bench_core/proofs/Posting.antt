@@ -11,11 +11,11 @@ use Rattle.bc_machine.specs.UnderWay.{IsUnderWay}
 use Rattle.job_file.specs.Jobs.{JobState, job_in}
 use Rattle.job_file.specs.Meaning.{records}
 use Rattle.job_file.specs.Machines.{IsOf}
-use Rattle.bench_core.specs.Placing.{placed_up_to}
+use Rattle.bench_settings.specs.Placing.{placed_up_to}
 use Rattle.bench_core.specs.Bench.{LaneState, with_post}
 use Rattle.bench_core.proofs.Foreseen.{records_posted}
 use Rattle.bench_core.proofs.Offers.{AreRecorded}
-use Rattle.bench_core.proofs.Ordered.{up_to_same}
+use Rattle.bench_settings.proofs.Ordered.{up_to_same}
 
 -- at a number that no message comes to it makes no difference
 pub left_out : (most : ℕ) (actions : List Placed) (one : Placed) → most < one.number → placed_up_to most actions ≡ placed_up_to most (actions ++ one ∷ [])

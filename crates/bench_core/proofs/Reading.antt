@@ -12,7 +12,7 @@ use Rattle.ch11_recording.specs.WrittenFile.{Format, held_in, closed_records}
 use Rattle.ch11_recording.specs.Laws.{IsFormat, IsPrologue, IsItem, RecordingIsRead, RecordsAreKept}
 use Rattle.bench_core.specs.Bench.{LaneState, Bench}
 use Rattle.bench_core.specs.Settled.{kept_of, HasRecorded, ReadsBack}
-use Rattle.bench_core.proofs.Lists.{records_both}
+use Rattle.bench_settings.proofs.Lists.{records_both}
 use Rattle.bench_core.proofs.Steps.{IsLane, IsBench}
 
 abbrev heard : List Numbered → List Message

@@ -14,9 +14,10 @@ use Rattle.ch11_recording.specs.Laws.{IsItem}
 use Rattle.bench_core.specs.declared.step.Step.{Step}
 use Rattle.bench_core.specs.declared.step.Step.TheVariants.{Offer, Take, Post}
 use Rattle.bench_core.specs.Bench.{LaneState, Bench, begun, all_records, has_room, with_message, with_end, message_of, next_offered, lane_offers, taken_from, with_post, lane_posts, stepped, after_steps}
-use Rattle.bench_core.specs.Settled.{kept_records, kept_of, IsFresh, HasRecorded}
+use Rattle.bench_core.specs.Settled.{kept_of, IsFresh, HasRecorded}
+use Rattle.bench_settings.specs.Kept.{kept_records}
 use Rattle.bench_core.proofs.Foreseen.{records_posted}
-use Rattle.bench_core.proofs.Lists.{own_more, other_more, NoneAbove, none_above_more, none_above_next, kept_more, kept_same}
+use Rattle.bench_settings.proofs.Lists.{own_more, other_more, NoneAbove, none_above_more, none_above_next, kept_more, kept_same}
 
 -- a channel, where these are its items so far
 pub record IsLane (items : List Item) (l : LaneState) : Type 0 where

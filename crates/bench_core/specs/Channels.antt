@@ -11,7 +11,7 @@ use Rattle.ch11_recording.specs.declared.item.Item.{Item}
 use Rattle.ch11_recording.specs.declared.item.Item.TheVariants as item
 use Rattle.bench_core.specs.Bench.{LaneState, all_records, with_message, with_end, message_of}
 use Rattle.bench_core.specs.Settled.{HasRecorded}
-use Rattle.bench_core.specs.Placing.{placed_up_to, IsOrdered}
+use Rattle.bench_settings.specs.Placing.{placed_up_to, IsOrdered}
 use Rattle.bench_core.specs.declared.lane.Lane.TheInside.{Inside}
 
 -- a channel after what comes next of it, where the queue has room or not

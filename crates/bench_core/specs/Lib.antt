@@ -1,6 +1,4 @@
 pub mod Codes
-pub mod Lawful
-pub mod Placing
 pub mod Bench
 pub mod Settled
 pub mod Channels

@@ -13,15 +13,8 @@ use Rattle.ch11_recording.specs.WrittenFile.{Format, held_in, written_file}
 use Rattle.ch11_recording.specs.Recording.{AreDistinct}
 use Rattle.ch11_recording.specs.Laws.{IsFormat, IsPrologue}
 use Rattle.bench_core.specs.declared.step.Step.{Step}
+use Rattle.bench_settings.specs.Kept.{kept_records}
 use Rattle.bench_core.specs.Bench.{LaneState, Bench, all_records, begun, after_steps}
-
--- the number is none of these
-abbrev pub is_kept : List ℕ → Numbered → Bool
-is_kept refused n = not (list_any (λ number. number == n.number) refused)
-
--- records, numbered from 1, but for the refused
-abbrev pub kept_records : List ℕ → List Record → List Numbered
-kept_records refused rs = filter (is_kept refused) (numbered_from 1 rs)
 
 -- the messages that a channel has made, but for the refused
 abbrev pub kept_of : LaneState → List Numbered

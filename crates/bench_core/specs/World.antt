@@ -9,12 +9,12 @@ use Rattle.ch11_builder.specs.Held.{Held}
 use Rattle.ch11_recording.specs.Recording.{AreDistinct}
 use Rattle.ch11_recording.specs.Laws.{IsFormat, IsPrologue}
 use Rattle.ch11_recording.specs.WrittenFile.{Format, held_in, written_file, closed_packets}
-use Rattle.bench_core.specs.declared.settings.Settings.{Settings}
+use Rattle.bench_settings.specs.declared.settings.Settings.{Settings}
 use Rattle.bench_core.specs.declared.step.Step.{Step}
 use Rattle.bench_core.specs.declared.step.Step.TheVariants.{Offer, Take, Post}
 use Rattle.bench_core.specs.declared.error.PlayError.{PlayError}
 use Rattle.bench_core.specs.declared.error.PlayError.TheVariants as fault
-use Rattle.bench_core.specs.Lawful.{format_of}
+use Rattle.bench_settings.specs.Lawful.{format_of}
 use Rattle.bench_core.specs.Bench.{LaneState, Bench, begun_lane, begun, after_steps}
 use Rattle.bench_core.specs.Settled.{IsSettled, IsFresh, ReadsBack}
 use Rattle.bench_core.specs.Channels.{posts_of, has_terminal, report_part, IsMade}

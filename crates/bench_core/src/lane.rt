@@ -7,11 +7,10 @@ ghost use Rattle.std.specs.Prelude.{OnErr};
 ghost use Rattle.std.specs.Prelude.{◌≡◌, ◌<◌, ◌||◌, not, if◌then◌else◌, [], ◌∷◌, ◌++◌, vec_len, Some, None, IfOk, OnOk};
 ghost use Rattle.std.specs.Vec.{vec_capacity};
 
-use crate::parts::channel_report;
-use crate::placing::{add_posted, ordered_actions};
-use crate::settings::MOST_POSTS;
+use crate::posted::add_posted;
 use bc_machine::{Actions, Machine, Placed, Schedule};
 use bench_report::ChannelReport;
+use bench_settings::{MOST_POSTS, channel_report, ordered_actions};
 use ch11_recording::{Item, record_fits};
 use job_file::{Job, next_record};
 use mil_host::Action;

@@ -1,21 +1,18 @@
 //! The bench one step at a time: every interleaving of buses, hosts and writer; and one channel from its job to a
 //! recording.
 //!
-//! It may know: words, messages, host actions, gaps and planned faults, the bus, the monitor, trees, the
-//! controller, jobs, bodies, the builder, the reader, the writer, recordings, reports, histories. Its tests:
+//! It may know: words, messages, host actions, gaps and planned faults, the bus, the monitor, trees, the controller,
+//! jobs, bodies, the builder, the reader, the writer, recordings, reports, what runs share, histories. Its tests:
 //! `bench_tests`. Its wrong bodies: `edits/`.
 #![tactic(auto)]
 
 mod alone;
 mod channel_fault;
 mod error;
-mod judging;
 mod lane;
 mod laws;
-mod parts;
-mod placing;
 mod play;
-mod settings;
+mod posted;
 mod step;
 mod stepping;
 mod world;
@@ -23,11 +20,7 @@ mod writing;
 
 pub use alone::one_channel;
 pub use channel_fault::ChannelFault;
-pub use error::{PlayError, WorldError};
-pub use judging::judge;
+pub use error::PlayError;
 pub use laws::bench_is_settled;
-pub use parts::channel_report;
-pub use placing::{add_action, ordered_actions};
-pub use settings::{DEFAULT_LIMIT, DEFAULT_QUEUE, DEFAULT_VERSION, MOST_POSTS, Settings};
 pub use step::Step;
 pub use world::World;

@@ -1,7 +1,7 @@
 //! The bench of jobs, one step at a time.
 ghost use Rattle.bench_core.specs.Bench.{LaneState, begun_lane, offered, posted, taken_from, stepped};
 ghost use Rattle.bench_core.specs.Channels.{after_next, queued_next, next_in, IsMade};
-ghost use Rattle.bench_core.specs.Lawful.{AreLawful, RefusesJobs};
+ghost use Rattle.bench_settings.specs.Lawful.{AreLawful, RefusesJobs};
 ghost use Rattle.bench_core.specs.World.{world_of, with_bench, file_of, report_of, IsWhole};
 ghost use Rattle.ch11_builder.specs.Held.{fresh};
 ghost use Rattle.ch11_recording.specs.WrittenFile.{channel_in};
@@ -10,14 +10,12 @@ ghost use Rattle.std.specs.Prelude.{IfErr, OnOk, OnErr, MatchOption, option_to_l
 ghost use Rattle.std.specs.Prelude.{◌≡◌, ◌≢◌, ◌<◌, ◌≤◌, ◌^◌, ◌++◌, nat_lt, map, length, slice_get, Some, Option, IfOk};
 ghost use Rattle.std.specs.VecDeque.{deque_capacity};
 
-use crate::error::WorldError;
-use crate::judging::judge;
 use crate::lane::Lane;
 use crate::laws::bench_is_settled;
-use crate::settings::Settings;
 use crate::step::Step;
 use crate::writing::{LONGEST, channel_of, write};
 use bench_report::Report;
+use bench_settings::{Settings, WorldError, judge};
 use ch11_builder::{Builder, BuilderError};
 use ch11_recording::{Item, file_is_packets, latest_is_last, recording_goes_on};
 use history::History;

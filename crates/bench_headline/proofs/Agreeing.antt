@@ -13,9 +13,9 @@ use Rattle.ch11_recording.specs.declared.item.Item.{Item}
 use Rattle.ch11_recording.specs.Items.{channel_of}
 use Rattle.ch11_recording.specs.Laws.{IsItem, FileGoesOn}
 use Rattle.bench_report.specs.Reports.{ChannelPart, RunReport}
-use Rattle.bench_core.specs.declared.settings.Settings.{Settings}
-use Rattle.bench_core.specs.Lawful.{AreLawful, channels_of, format_of}
-use Rattle.bench_core.specs.Settled.{kept_records}
+use Rattle.bench_settings.specs.declared.settings.Settings.{Settings}
+use Rattle.bench_settings.specs.Lawful.{AreLawful, channels_of, format_of}
+use Rattle.bench_settings.specs.Kept.{kept_records}
 use Rattle.bench_run.specs.Runs.{IsRun, IsPartOf, IsReadAs, ArePairs, records_of}
 use Rattle.replay.specs.Accord.{Agrees, AgreesOn, AreOfChannels, reported, played, is_one}
 use Rattle.replay.specs.PlacedActions.{PlacedActionsSuffice}

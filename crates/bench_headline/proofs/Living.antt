@@ -7,10 +7,10 @@ use Rattle.ch11_reader.specs.Recording.{Found, packets_in}
 use Rattle.ch11_reader.specs.Joined.{RecordingsJoin}
 use Rattle.ch11_recording.specs.Laws.{FileGoesOn}
 use Rattle.bench_report.specs.Reports.{ChannelPart, RunReport}
-use Rattle.bench_core.specs.declared.settings.Settings.{Settings}
-use Rattle.bench_core.specs.Lawful.{AreLawful}
-use Rattle.bench_core.proofs.Offers.{map_at}
-use Rattle.bench_core.proofs.Fields.{which}
+use Rattle.bench_settings.specs.declared.settings.Settings.{Settings}
+use Rattle.bench_settings.specs.Lawful.{AreLawful}
+use Rattle.bench_settings.proofs.Lists.{map_at}
+use Rattle.bench_settings.proofs.Lists.{which}
 use Rattle.bench_mail.specs.declared.mailbox.Inbox.{Inbox}
 use Rattle.bench_run.specs.Runs.{IsRun}
 use Rattle.bench_run.specs.Live.{LiveChannel, live_job, with_posts, AreLive}

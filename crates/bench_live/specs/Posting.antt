@@ -5,7 +5,7 @@ use Rattle.std.specs.List.{filter, position_or_len, AllByRecursion}
 use Rattle.mil_trunk.specs.Tags.{has, bound_of}
 use Rattle.text_lines.specs.Words.{Text}
 use Rattle.text_lines.specs.Lines.{text_lines}
-use Rattle.bench_core.specs.Lawful.{most_posts}
+use Rattle.bench_settings.specs.Lawful.{most_posts}
 use Rattle.bench_mail.specs.declared.mailbox.Post.{Post}
 use Rattle.bench_mail.specs.declared.mailbox.Mailbox.{Mailbox}
 use Rattle.bench_mail.specs.declared.mailbox.Inbox.{Inbox}

@@ -1,5 +1,5 @@
 //! Runs that are paced, and runs while a host posts what lines ask for.
-ghost use Rattle.bench_core.specs.Lawful.{AreLawful};
+ghost use Rattle.bench_settings.specs.Lawful.{AreLawful};
 ghost use Rattle.bench_live.specs.Posting.{AreHandsOf};
 ghost use Rattle.bench_run.specs.Live.{AreInboxesOf, HaveMail, RanLive, LeavesLive};
 ghost use Rattle.bench_run.specs.Runs.{RanOrLeft, RefusesNoneWithRoom};
@@ -10,11 +10,11 @@ use crate::gates::SessionGate;
 use crate::pace::Pace;
 use crate::show::Show;
 use crate::telling::post_all;
-use bench_core::Settings;
 use bench_mail::Inbox;
 use bench_report::Report;
 use bench_run::{HoldingGate, LiveError, RunError, run, run_live};
 use bench_run_command::Progress;
+use bench_settings::Settings;
 use ch11_writer::Sink;
 use job_file::Job;
 use std::alloc::{AllocError, Global};

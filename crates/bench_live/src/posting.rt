@@ -8,8 +8,8 @@ ghost use Rattle.text_lines.specs.Lines.{is_line_end};
 
 use crate::desk::{Desk, Hand};
 use crate::line::{LivePost, read_post};
-use bench_core::MOST_POSTS;
 use bench_mail::{Mailbox, PostError};
+use bench_settings::MOST_POSTS;
 use mil_host::BadAction;
 use std::alloc::Global;
 use std::io::BufRead;

@@ -1,7 +1,8 @@
 //! The messages of a run as people read them, while it goes on.
 
-use bench_decode::{Line, Place, Shown, write_columns, write_message};
+use bench_decode::{Place, Shown, TextLine, write_columns, write_message};
 use ch11_f1::{RECORD_HEAD, body, put_record};
+use ch11_layout::View;
 use crossbeam_queue::ArrayQueue;
 use mil_line::MOST_SENT;
 use mil_monitor::Record;
@@ -96,14 +97,14 @@ impl Show {
 }
 
 /// Writes a message that waited.
-fn write_waiting<W: Write>(line: &mut Line, out: &mut W, waiting: &Waiting) -> io::Result<()> {
+fn write_waiting<W: Write>(line: &mut TextLine, out: &mut W, waiting: &Waiting) -> io::Result<()> {
     let end = waiting.len.min(BODY);
     let Ok(messages) = body::messages(&waiting.body[..end]) else {
         return Ok(());
     };
     let mut rest = messages;
     'messages: while let Some(seen) = rest.next() {
-        write_message(line, out, &waiting.place, &seen)?;
+        write_message(line, out, &waiting.place, &View::of(&seen))?;
     }
     Ok(())
 }
@@ -113,7 +114,7 @@ fn write_waiting<W: Write>(line: &mut Line, out: &mut W, waiting: &Waiting) -> i
 pub fn show_all<R: Wait + Clock, W: Write>(
     rt: &R,
     show: &Show,
-    line: &mut Line,
+    line: &mut TextLine,
     out: &mut W,
 ) -> io::Result<()> {
     write_columns(line, out)?;
@@ -152,7 +153,7 @@ impl Showing {
         let show = Arc::new(alloc, Show::new(alloc)?)?;
         let theirs = Arc::try_clone(&show)?;
         let own = rt.clone()?;
-        let mut line = Line::new(alloc, shown)?;
+        let mut line = TextLine::new(alloc, shown)?;
         let started = thread::spawn(rt, move || {
             show_all(&own, &theirs, &mut line, &mut io::writer(&own)).is_ok()
         });

@@ -11,8 +11,8 @@ use Rattle.ch11_recording.specs.WrittenFile.{Format, held_in, closes, closed_by,
 use Rattle.ch11_recording.specs.Recording.{Recording, IsRecordingOf}
 use Rattle.ch11_recording.specs.Laws.{IsFormat, RecordingIsRead, RecordsAreKept, EndedIsClosed, FileIsPackets, AllPacketsAreWhole}
 use Rattle.bench_report.specs.Reports.{ChannelPart}
-use Rattle.bench_core.specs.declared.settings.Settings.{Settings}
-use Rattle.bench_core.specs.Lawful.{AreLawful, channels_of, format_of}
+use Rattle.bench_settings.specs.declared.settings.Settings.{Settings}
+use Rattle.bench_settings.specs.Lawful.{AreLawful, channels_of, format_of}
 use Rattle.bench_run.specs.declared.entry.Entry.{Entry}
 use Rattle.bench_run.specs.Entries.{item_of}
 use Rattle.bench_run.specs.Runs.{Ran, IsCut}

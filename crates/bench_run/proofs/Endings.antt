@@ -19,9 +19,9 @@ use Rattle.ch11_recording.specs.WrittenFile.{Format, held_in, closed_records}
 use Rattle.ch11_recording.specs.Recording.{AreDistinct}
 use Rattle.ch11_recording.specs.Laws.{IsItem, RecordsAreKept, EndedIsClosed}
 use Rattle.bench_report.specs.Reports.{ChannelPart, Rises}
-use Rattle.bench_core.specs.declared.settings.Settings.{Settings}
-use Rattle.bench_core.specs.Lawful.{channels_of}
-use Rattle.bench_core.specs.Settled.{kept_records, is_kept}
+use Rattle.bench_settings.specs.declared.settings.Settings.{Settings}
+use Rattle.bench_settings.specs.Lawful.{channels_of}
+use Rattle.bench_settings.specs.Kept.{kept_records, is_kept}
 use Rattle.bench_run.specs.declared.entry.Entry.{Entry}
 use Rattle.bench_run.specs.declared.entry.Entry.TheVariants as entry
 use Rattle.bench_run.specs.Entries.{index_of, item_of, entry_of, entries_to_the_end}

@@ -3,8 +3,8 @@ use Rattle.std.proofs.Common.{◌≡◌, ℕ, zero, suc, ◌^◌, ◌<◌, List,
 use Rattle.std.specs.List.{AllByRecursion}
 use Rattle.mil_monitor.specs.declared.Record.{Record}
 use Rattle.job_file.specs.Jobs.{JobState}
-use Rattle.bench_core.specs.Lawful.{channels_of}
-use Rattle.bench_core.specs.Settled.{kept_records, is_kept}
+use Rattle.bench_settings.specs.Lawful.{channels_of}
+use Rattle.bench_settings.specs.Kept.{kept_records, is_kept}
 use Rattle.bench_run.specs.Writer.{AreOrdered}
 use Rattle.bench_run.proofs.Ended.{some_ordered}
 

@@ -9,9 +9,9 @@ use Rattle.bc_machine.specs.declared.placed.Placed.{Placed}
 use Rattle.job_file.specs.Jobs.{JobState}
 use Rattle.bench_report.specs.Reports.{ChannelPart}
 use Rattle.ch11_recording.specs.Recording.{AreDistinct}
-use Rattle.bench_core.specs.declared.settings.Settings.{Settings}
-use Rattle.bench_core.specs.Lawful.{AreLawful, channels_of}
-use Rattle.bench_core.specs.Settled.{kept_records}
+use Rattle.bench_settings.specs.declared.settings.Settings.{Settings}
+use Rattle.bench_settings.specs.Lawful.{AreLawful, channels_of}
+use Rattle.bench_settings.specs.Kept.{kept_records}
 use Rattle.bench_run.specs.declared.entry.Entry.{Entry}
 use Rattle.bench_mail.specs.declared.mailbox.Mailbox.{Mailbox}
 use Rattle.bench_mail.specs.declared.mailbox.Inbox.{Inbox}

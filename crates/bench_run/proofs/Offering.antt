@@ -9,8 +9,8 @@ use Rattle.mil_monitor.specs.declared.Record.{Record}
 use Rattle.mil_trunk.proofs.Tagging.{length-filter_le}
 use Rattle.ch11_recording.specs.Items.{numbered, numbered_from}
 use Rattle.bench_report.specs.Reports.{Rises}
-use Rattle.bench_core.specs.Settled.{is_kept, kept_records}
-use Rattle.bench_core.proofs.Lists.{NoneAbove}
+use Rattle.bench_settings.specs.Kept.{is_kept, kept_records}
+use Rattle.bench_settings.proofs.Lists.{NoneAbove}
 use Rattle.bench_run.specs.Entries.{entry_of}
 
 -- ---- lists

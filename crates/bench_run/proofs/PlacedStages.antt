@@ -10,7 +10,7 @@ use Rattle.job_file.specs.Machines.{IsOf}
 use Rattle.bench_run.specs.declared.entry.Entry.{Entry}
 use Rattle.bench_mail.specs.declared.mailbox.Post.{Post}
 use Rattle.bench_run.specs.declared.posting.Posts.{Posts}
-use Rattle.bench_core.specs.Placing.{placed_up_to}
+use Rattle.bench_settings.specs.Placing.{placed_up_to}
 use Rattle.bench_mail.specs.Mail.{received_by}
 use Rattle.bench_run.specs.Live.{with_posts}
 use Rattle.bench_run.specs.Posted.{IsPosted}

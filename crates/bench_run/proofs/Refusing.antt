@@ -2,7 +2,7 @@
 use Rattle.std.proofs.Common.{ℕ, List, Option, subst}
 use Rattle.job_file.specs.Jobs.{JobState}
 use Rattle.bench_report.specs.Reports.{RunReport}
-use Rattle.bench_core.specs.declared.settings.Settings.{Settings}
+use Rattle.bench_settings.specs.declared.settings.Settings.{Settings}
 use Rattle.bench_mail.specs.declared.mailbox.Mailbox.{Mailbox}
 use Rattle.bench_mail.specs.declared.mailbox.Inbox.{Inbox}
 use Rattle.bench_run.specs.declared.error.RunError.{RunError}

@@ -14,9 +14,9 @@ use Rattle.job_file.specs.Jobs.{JobState}
 use Rattle.ch11_builder.specs.Recorded.{IsRecorded}
 use Rattle.ch11_recording.specs.Items.{numbered}
 use Rattle.bench_report.specs.Reports.{ChannelPart, Rises}
-use Rattle.bench_core.specs.Placing.{placed_up_to}
-use Rattle.bench_core.specs.Settled.{kept_records}
-use Rattle.bench_core.proofs.Lists.{NoneAbove, kept_more, kept_same}
+use Rattle.bench_settings.specs.Placing.{placed_up_to}
+use Rattle.bench_settings.specs.Kept.{kept_records}
+use Rattle.bench_settings.proofs.Lists.{NoneAbove, kept_more, kept_same}
 use Rattle.bench_run.specs.declared.entry.Entry.{Entry}
 use Rattle.bench_run.specs.declared.entry.Entry.TheVariants as entry
 use Rattle.bench_run.specs.Entries.{index_of, entry_of}

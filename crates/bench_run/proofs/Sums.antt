@@ -10,7 +10,7 @@ use Rattle.mil_trunk.proofs.Bounds.{bounds_outside-one}
 use Rattle.job_file.specs.Jobs.{JobState}
 use Rattle.ch11_builder.specs.Packet.{Numbered}
 use Rattle.ch11_recording.specs.Recording.{AreDistinct}
-use Rattle.bench_core.specs.Lawful.{channels_of}
+use Rattle.bench_settings.specs.Lawful.{channels_of}
 use Rattle.bench_run.specs.declared.entry.Entry.{Entry}
 use Rattle.bench_run.specs.Entries.{index_of, entry_of, entries_to_the_end}
 use Rattle.bench_run.specs.Runs.{most_in_all, others_than}

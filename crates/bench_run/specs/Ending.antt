@@ -10,8 +10,8 @@ use Rattle.mil_trunk.specs.Tags.{has}
 use Rattle.mil_trunk.specs.Ends.{IsTicketOf, IsTakerOf, capacity_of, tags_of, bounds_of, bounds_in, sent, received}
 use Rattle.bench_report.specs.Reports.{ChannelPart, RunReport}
 use Rattle.ch11_recording.specs.Recording.{Recording}
-use Rattle.bench_core.specs.Lawful.{AreLawful, channels_of}
-use Rattle.bench_core.specs.Settled.{kept_records}
+use Rattle.bench_settings.specs.Lawful.{AreLawful, channels_of}
+use Rattle.bench_settings.specs.Kept.{kept_records}
 use Rattle.bench_run.specs.declared.entry.Entry.{Entry}
 use Rattle.bench_run.specs.Entries.{index_of, entries_to_the_end}
 use Rattle.bench_run.specs.declared.ending.Before.{Before}

@@ -9,8 +9,8 @@ use Rattle.mil_host.specs.declared.actions.Action.{Action}
 use Rattle.bc_machine.specs.declared.placed.Placed.{Placed}
 use Rattle.job_file.specs.Jobs.{JobState}
 use Rattle.bench_report.specs.Reports.{ChannelPart, RunReport, NeverFalls}
-use Rattle.bench_core.specs.declared.settings.Settings.{Settings}
-use Rattle.bench_core.specs.Lawful.{AreSettingsInRange, AreLawful}
+use Rattle.bench_settings.specs.declared.settings.Settings.{Settings}
+use Rattle.bench_settings.specs.Lawful.{AreSettingsInRange, AreLawful}
 use Rattle.bench_mail.specs.declared.mailbox.Post.{Post}
 use Rattle.bench_mail.specs.declared.mailbox.Mailbox.{Mailbox}
 use Rattle.bench_mail.specs.declared.mailbox.Inbox.{Inbox}

@@ -17,10 +17,10 @@ use Rattle.ch11_recording.specs.WrittenFile.{written_file, closed_packets, whole
 use Rattle.ch11_recording.specs.Recording.{AreDistinct}
 use Rattle.ch11_recording.specs.Laws.{IsFormat, IsPrologue, IsItem}
 use Rattle.bench_report.specs.Reports.{ChannelPart, RunReport, Rises}
-use Rattle.bench_core.specs.declared.settings.Settings.{Settings}
-use Rattle.bench_core.specs.Lawful.{format_of, channels_of, AreSettingsInRange, AreLawful}
-use Rattle.bench_core.specs.Placing.{placed_up_to}
-use Rattle.bench_core.specs.Settled.{kept_records}
+use Rattle.bench_settings.specs.declared.settings.Settings.{Settings}
+use Rattle.bench_settings.specs.Lawful.{format_of, channels_of, AreSettingsInRange, AreLawful}
+use Rattle.bench_settings.specs.Placing.{placed_up_to}
+use Rattle.bench_settings.specs.Kept.{kept_records}
 use Rattle.bench_run.specs.declared.error.RunError.{RunError}
 use Rattle.bench_run.specs.declared.error.RunError.TheVariants as fault
 

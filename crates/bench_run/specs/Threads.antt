@@ -17,8 +17,8 @@ use Rattle.job_file.specs.Machines.{IsOf}
 use Rattle.ch11_builder.specs.Recorded.{IsRecorded}
 use Rattle.ch11_recording.specs.Items.{numbered}
 use Rattle.bench_report.specs.Reports.{ChannelPart, Rises}
-use Rattle.bench_core.specs.Placing.{placed_up_to, IsOrdered}
-use Rattle.bench_core.specs.Settled.{kept_records}
+use Rattle.bench_settings.specs.Placing.{placed_up_to, IsOrdered}
+use Rattle.bench_settings.specs.Kept.{kept_records}
 use Rattle.bench_run.specs.declared.entry.Entry.{Entry}
 use Rattle.bench_run.specs.declared.channel.Ended.{Ended}
 use Rattle.bench_run.specs.declared.threads.Offers.{Offers}

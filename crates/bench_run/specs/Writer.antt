@@ -10,8 +10,8 @@ use Rattle.ch11_recording.specs.declared.item.Item.TheVariants as item
 use Rattle.ch11_recording.specs.Items.{numbered, last_number}
 use Rattle.ch11_recording.specs.WrittenFile.{Format}
 use Rattle.ch11_recording.specs.Recording.{Recording, IsRecordingOf}
-use Rattle.bench_core.specs.declared.settings.Settings.{Settings}
-use Rattle.bench_core.specs.Lawful.{format_of}
+use Rattle.bench_settings.specs.declared.settings.Settings.{Settings}
+use Rattle.bench_settings.specs.Lawful.{format_of}
 use Rattle.bench_run.specs.declared.entry.Entry.{Entry}
 use Rattle.bench_run.specs.declared.entry.Entry.TheVariants as entry
 use Rattle.bench_run.specs.Entries.{index_of, item_of}

@@ -1,5 +1,5 @@
 //! What comes of a run, once its threads have ended.
-ghost use Rattle.bench_core.specs.Lawful.{AreLawful, channels_of};
+ghost use Rattle.bench_settings.specs.Lawful.{AreLawful, channels_of};
 ghost use Rattle.bench_run.specs.Ending.{IsAllLive, AnswersRun};
 ghost use Rattle.bench_run.specs.Live.{AreInboxesOf};
 ghost use Rattle.bench_run.specs.Writer.{IsRunLogged, HasBegun};
@@ -9,9 +9,9 @@ ghost use Rattle.std.specs.Prelude.{◌<◌, ◌^◌, Err};
 use crate::entry::Entry;
 use crate::error::{LiveError, RunError};
 use crate::writer::Log;
-use bench_core::Settings;
 use bench_mail::{Inbox, Mailbox};
 use bench_report::{ChannelReport, Report};
+use bench_settings::Settings;
 use ch11_recording::{file_is_packets, recording_is_read_again};
 use ch11_writer::Sink;
 use job_file::Job;

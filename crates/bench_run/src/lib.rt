@@ -2,8 +2,8 @@
 //! mailboxes.
 //!
 //! It may know: words, host actions, gaps and planned faults, terminals, the bus, the monitor, the assembler, the
-//! loader, the controller, jobs, bodies, the builder, the reader, the writer, recordings, the trunk, reports, the
-//! bench one step at a time, mailboxes. Its tests: `run_tests`. Its wrong bodies: `edits/`.
+//! loader, the controller, jobs, bodies, the builder, the reader, the writer, recordings, the trunk, reports, what runs
+//! share, mailboxes. Its tests: `run_tests`. Its wrong bodies: `edits/`.
 #![tactic(auto)]
 
 mod channel;

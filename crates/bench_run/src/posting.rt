@@ -2,7 +2,7 @@
 ghost use Rattle.bc_machine.specs.Posting.{with_placed, at_next};
 ghost use Rattle.bc_machine.specs.UnderWay.{IsUnderWay};
 ghost use Rattle.bc_machine.specs.declared.placed.Placed.{Placed};
-ghost use Rattle.bench_core.specs.Placing.{placed_up_to, IsOrdered};
+ghost use Rattle.bench_settings.specs.Placing.{placed_up_to, IsOrdered};
 ghost use Rattle.bench_mail.specs.Mail.{IsInboxOf};
 ghost use Rattle.bench_mail.specs.declared.mailbox.Post.{Post};
 ghost use Rattle.bench_run.specs.Posted.{IsPosted};
@@ -10,8 +10,8 @@ ghost use Rattle.job_file.specs.Jobs.{JobState};
 ghost use Rattle.std.specs.Prelude.{◌≡◌, ◌<◌, ◌++◌, ◌∷◌, [], ℕ, List, IsTrue, IsFalse};
 
 use bc_machine::{Machine, Placed, Schedule};
-use bench_core::add_action;
 use bench_mail::{Inbox, Mailbox, Post};
+use bench_settings::add_action;
 use mil_word::fields::HIGHEST_ADDRESS;
 use std::sync::Wait;
 

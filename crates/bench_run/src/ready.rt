@@ -1,5 +1,5 @@
 //! What a run needs before its threads start.
-ghost use Rattle.bench_core.specs.Lawful.{channels_of};
+ghost use Rattle.bench_settings.specs.Lawful.{channels_of};
 ghost use Rattle.bench_run.specs.Ending.{IsReady};
 ghost use Rattle.std.specs.Prelude.{◌≡◌, ◌≤◌, length, vec_len, All, IfOk};
 

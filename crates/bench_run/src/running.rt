@@ -1,5 +1,5 @@
 //! Jobs on threads of their own, and one recording of them all; with posts of hosts, or without.
-ghost use Rattle.bench_core.specs.Lawful.{AreLawful};
+ghost use Rattle.bench_settings.specs.Lawful.{AreLawful};
 ghost use Rattle.bench_mail.specs.Mail.{IsMadeFor};
 ghost use Rattle.bench_mail.specs.declared.mailbox.Mailbox.{Mailbox};
 ghost use Rattle.bench_run.specs.Live.{AreInboxesOf, HaveMail, RanLive, RanLiveOrLeft, LeavesLive};
@@ -12,9 +12,9 @@ use crate::error::{LiveError, RunError};
 use crate::gate::Gate;
 use crate::ready::ready;
 use crate::scope::{begin, run_ready};
-use bench_core::{Settings, WorldError, judge};
 use bench_mail::{Inbox, Mailbox};
 use bench_report::Report;
+use bench_settings::{Settings, WorldError, judge};
 use ch11_recording::Recorder;
 use ch11_writer::Sink;
 use job_file::Job;

@@ -1,5 +1,5 @@
 //! The threads of a run in their scope, while the calling thread writes.
-ghost use Rattle.bench_core.specs.Lawful.{format_of};
+ghost use Rattle.bench_settings.specs.Lawful.{format_of};
 ghost use Rattle.bench_run.specs.Ending.{MayStart, AnswersRun};
 ghost use Rattle.bench_run.specs.Writer.{IsRunLogged};
 ghost use Rattle.ch11_recording.specs.Recording.{IsRecordingOf};
@@ -12,9 +12,9 @@ use crate::gate::Gate;
 use crate::ready::Own;
 use crate::threads::{Joined, Offers, join_all, parted, start_all};
 use crate::writer::{Log, settle, write};
-use bench_core::Settings;
 use bench_mail::Inbox;
 use bench_report::{ChannelReport, Report};
+use bench_settings::Settings;
 use ch11_recording::Recorder;
 use ch11_writer::Sink;
 use std::alloc::{AllocError, Global};

@@ -1,5 +1,5 @@
 //! The threads of a run: each is started with its job, and joined again.
-ghost use Rattle.bench_core.specs.Lawful.{channels_of};
+ghost use Rattle.bench_settings.specs.Lawful.{channels_of};
 ghost use Rattle.bench_run.specs.Entries.{index_of};
 ghost use Rattle.bench_run.specs.Live.{AreInboxesOf};
 ghost use Rattle.bench_run.specs.Runs.{ArePairs};
@@ -22,9 +22,9 @@ use crate::entry::Entry;
 use crate::gate::Gate;
 use crate::posting::Posts;
 use bc_machine::Schedule;
-use bench_core::ordered_actions;
 use bench_mail::{Inbox, Mailbox};
 use bench_report::ChannelReport;
+use bench_settings::ordered_actions;
 use job_file::Job;
 use mil_trunk::{Tags, Ticket, Trunk};
 use std::alloc::{AllocError, Global};

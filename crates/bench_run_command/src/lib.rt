@@ -1,8 +1,8 @@
-//! The command `bench run`: jobs on threads of their own, one recording of them all, its progress, and how much is
-//! in it.
+//! The command `bench run`: jobs on threads of their own, one recording of them all, its progress, and how much is in
+//! it.
 //!
-//! It may know: jobs, the reader, the writer, reports, the bench one step at a time, runs, watched files. Its
-//! tests: `run_tests`. Its wrong bodies: `edits/`.
+//! It may know: jobs, the reader, the writer, reports, what runs share, runs, watched files. Its tests: `run_tests`.
+//! Its wrong bodies: `edits/`.
 #![tactic(auto)]
 
 mod counts;

@@ -3,9 +3,9 @@ ghost use Rattle.bench_run.specs.Runs.{RanOrLeft};
 ghost use Rattle.std.specs.Prelude.{◌-◌, ◌<◌, ◌^◌};
 
 use crate::progress::Progress;
-use bench_core::Settings;
 use bench_report::Report;
 use bench_run::{HoldingGate, OpenGate, RunError, run};
+use bench_settings::Settings;
 use ch11_writer::Sink;
 use job_file::Job;
 use std::alloc::Global;

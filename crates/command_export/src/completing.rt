@@ -1,9 +1,9 @@
 //! `bench complete`: a recording made into the file that other Chapter 10 and 11 tools expect.
 
 use bench_complete::{Additions, CompleteFault, Completion, UtcSecond};
-use bench_core::DEFAULT_VERSION;
 use bench_files::{Hold, Kind};
 use bench_requests::{Fault, read_whole};
+use bench_settings::DEFAULT_VERSION;
 use ch11_reader::Skip;
 use clap::{ArgMatches, Command};
 use command_parts::options::{

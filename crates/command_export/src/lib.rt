@@ -2,8 +2,8 @@
 //! value change dump, as a picture, or as the file that other tools expect.
 //!
 //! It may know: what commands share, requests, files, the reader, the packets of a stream, times, watched files,
-//! selections, words of a text, the bench one step at a time, `bench_export`, `bench_draw` and `bench_complete`. It has
-//! no tests: each command is tried by `.ci/commands`, and its faults by `.ci/faults`. It has no wrong bodies.
+//! selections, words of a text, what runs share, `bench_export`, `bench_draw` and `bench_complete`. It has no tests:
+//! each command is tried by `.ci/commands`, and its faults by `.ci/faults`. It has no wrong bodies.
 #![tactic(auto)]
 
 pub mod completing;

@@ -1,10 +1,9 @@
-//! Two buses run, each on a thread of its own, while the host of a terminal on each posts a vector word and a
-//! service request: a program that can be copied. What is printed of the run is the same whatever the order of the
-//! threads: which messages met the posts is left out, and message 50 of each channel waits until its host has
-//! posted.
+//! Two buses run, each on a thread of its own, while the host of a terminal on each posts a vector word and a service
+//! request: a program that can be copied. What is printed of the run is the same whatever the order of the threads:
+//! which messages met the posts is left out, and message 50 of each channel waits until its host has posted.
 //!
-//! It may know: host actions, jobs, the writer, the trunk, reports, the bench one step at a time, mailboxes, runs.
-//! It has no tests: what it prints is compared with its file `stdout`. It has no wrong bodies.
+//! It may know: host actions, jobs, the writer, reports, what runs share, mailboxes, runs. It has no tests: what it
+//! prints is compared with its file `stdout`. It has no wrong bodies.
 #![tactic(auto)]
 
 ghost use Rattle.bench_mail.specs.Mail.{IsInboxOf, MayPost};
@@ -14,10 +13,10 @@ ghost use Rattle.std.specs.Prelude.{◌≡◌, ◌∷◌, [], IfSome};
 mod gate;
 mod hosts;
 
-use bench_core::Settings;
 use bench_mail::{Inbox, Mailbox, Poster};
 use bench_report::{ChannelReport, Report};
 use bench_run::run_live;
+use bench_settings::Settings;
 use ch11_writer::MemorySink;
 use gate::Posted;
 use hosts::{Host, post_all};

@@ -1,7 +1,8 @@
 //! Calls on the bench one step at a time.
 use crate::told::Told;
 use crate::worked::{FIVE, ONE, jobs_of, settings_of};
-use bench_core::{PlayError, Step, World, WorldError};
+use bench_core::{PlayError, Step, World};
+use bench_settings::WorldError;
 use std::alloc::Global;
 
 /// The steps of a queue of one item between a channel of five messages and one of one; a take is None.

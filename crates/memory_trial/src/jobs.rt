@@ -1,7 +1,7 @@
 //! Calls on jobs.
 use crate::told::Told;
 use crate::worked::{FIVE, HUNDRED, ONE, job_of};
-use bench_core::ordered_actions;
+use bench_settings::ordered_actions;
 use job_file::{JobError, JobsError, read_job, read_jobs};
 use std::alloc::Global;
 

@@ -1,5 +1,5 @@
 //! Texts and bytes that the calls are made with.
-use bench_core::Settings;
+use bench_settings::Settings;
 use job_file::{Job, read_job};
 use std::alloc::Global;
 

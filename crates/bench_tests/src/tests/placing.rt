@@ -2,8 +2,8 @@
 use crate::tests::channels::job_of;
 use crate::tests::equal::{reads, same_in};
 use bc_machine::{Actions, Placed};
-use bench_core::{channel_report, ordered_actions};
 use bench_report::ChannelReport;
+use bench_settings::{channel_report, ordered_actions};
 use std::alloc::Global;
 use std::process::Abort;
 

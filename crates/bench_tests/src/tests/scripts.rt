@@ -1,8 +1,9 @@
 //! Scripts: what happens in a world step by step, and what is found then.
 use crate::tests::channels::job_of;
 use crate::tests::equal::{are_bytes, reads, same_in};
-use bench_core::{PlayError, Settings, Step, World, WorldError};
+use bench_core::{PlayError, Step, World};
 use bench_report::print_report;
+use bench_settings::{Settings, WorldError};
 use ch11_header::read_header;
 use ch11_reader::Index;
 use job_file::Job;

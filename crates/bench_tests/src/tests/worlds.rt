@@ -5,7 +5,8 @@ use crate::tests::scripts::Then::{
     Finds, HasPacket, Holds, IsFront, Leaves, Plays, Reports, Times,
 };
 use crate::tests::scripts::{Found, MadeOf, Script, are_played, made, steps_of};
-use bench_core::{PlayError, WorldError};
+use bench_core::PlayError;
+use bench_settings::WorldError;
 use std::alloc::Global;
 use std::process::Abort;
 

@@ -2,10 +2,10 @@
 ghost use Rattle.bench_live.specs.Posting.{AreHandsOf, IsOpened};
 ghost use Rattle.bench_run.specs.Live.{AreInboxesOf};
 
-use bench_core::Settings;
 use bench_live::{Desk, Hand, Manner, Pace, Session, next_fault, open_desk};
 use bench_mail::Inbox;
 use bench_report::{ChannelReport, Report};
+use bench_settings::Settings;
 use ch11_writer::MemorySink;
 use job_file::{Job, read_jobs};
 use std::alloc::Global;

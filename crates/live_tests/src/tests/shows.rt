@@ -1,6 +1,6 @@
 //! Messages that are shown as they are recorded.
 use arrayvec::ArrayVec;
-use bench_decode::{Line, Shown};
+use bench_decode::{Shown, TextLine};
 use bench_live::{Show, show_all};
 use mil_monitor::Record;
 use std::test::Fail;
@@ -30,7 +30,7 @@ fn a_message_is_shown_as_it_is_decoded(rt: HostRuntime) -> Result<(), Fail> {
     let show = Show::new(rt.alloc())?;
     show.take(&rt, 3, 7, &message());
     show.end();
-    let mut line = Line::new(rt.alloc(), Shown::Plain)?;
+    let mut line = TextLine::new(rt.alloc(), Shown::Plain)?;
     let mut out = Vec::new(rt.alloc());
     assert!(&rt; show_all(&rt, &show, &mut line, &mut out).is_ok());
     assert_eq!(&rt; str::from_utf8(&out).unwrap_or(""), SHOWN);

@@ -1,6 +1,7 @@
 //! Recordings that a bench writes of one job.
-use bench_core::{Settings, Step, World};
+use bench_core::{Step, World};
 use bench_report::{Report, read_report};
+use bench_settings::Settings;
 use job_file::{Job, read_job};
 use std::alloc::Global;
 use std::process::Abort;

@@ -1,8 +1,8 @@
 //! Jobs and settings of the runs, and what is asked of a file.
 use crate::tests::equal::same_in;
-use bench_core::Settings;
 use bench_report::{ChannelReport, Report, print_report};
 use bench_run::{Gate, RunError, run};
+use bench_settings::Settings;
 use ch11_reader::Index;
 use ch11_writer::MemorySink;
 use job_file::{Job, read_job};

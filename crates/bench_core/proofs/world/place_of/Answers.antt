@@ -1,6 +1,7 @@
 use Rattle.std.proofs.Common.{◌≡◌, ℕ, slice_get, Some, sym, ap, ◌∙◌}
 use Rattle.bench_core.specs.Bench.{LaneState}
-use Rattle.bench_core.proofs.Offers.{map_at, there}
+use Rattle.bench_core.proofs.Offers.{there}
+use Rattle.bench_settings.proofs.Lists.{map_at}
 use Rattle.bench_core.proofs.world.place_of.Goals as goal
 
 pub returns-then-channel : goal.returns-then-channel

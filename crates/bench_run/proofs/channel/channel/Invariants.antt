@@ -1,6 +1,6 @@
 use Rattle.std.proofs.Common.{◌≡◌, ◌-◌, vec_capacity}
 use Rattle.mil_trunk.specs.Ends.{tags_of, bounds_of}
-use Rattle.bench_core.specs.Placing.{IsOrdered}
+use Rattle.bench_settings.specs.Placing.{IsOrdered}
 use Rattle.bench_mail.specs.Mail.{received_by, IsInboxOf}
 use Rattle.bench_run.specs.Threads.{IsThreadStage}
 use Rattle.bench_run.proofs.channel.channel.Given as goal

@@ -1,7 +1,7 @@
 use Rattle.std.proofs.Common.{◌≡◌, List, ◌<◌, ◌≤◌, refl, sym, ap, ◌∙◌, subst, arith, false}
 use Rattle.mil_trunk.specs.Ends.{received}
 use Rattle.bench_report.specs.Reports.{ChannelPart, RunReport}
-use Rattle.bench_core.specs.Lawful.{channels_of, format_of}
+use Rattle.bench_settings.specs.Lawful.{channels_of, format_of}
 use Rattle.bench_run.specs.Runs.{Ran, IsCut, most_in_all}
 use Rattle.bench_run.specs.Writer.{IsLogged}
 use Rattle.bench_run.specs.Live.{AreLive}

@@ -3,7 +3,7 @@ use Rattle.std.specs.Prelude.{Some, slice_get}
 use Rattle.std.proofs.lemmas.List.{map-append, take_all}
 use Rattle.std.proofs.lemmas.Option.{slice_get_read}
 use Rattle.job_file.specs.Jobs.{JobState}
-use Rattle.bench_core.specs.Lawful.{channels_of}
+use Rattle.bench_settings.specs.Lawful.{channels_of}
 use Rattle.bench_run.proofs.Offering.{take_more}
 use Rattle.bench_run.proofs.ready.channels.Goals as goal
 

@@ -1,5 +1,5 @@
 use Rattle.std.proofs.Common.{◌≡◌, ◌≤◌, length, take, vec_len, vec_capacity}
-use Rattle.bench_core.specs.Lawful.{channels_of}
+use Rattle.bench_settings.specs.Lawful.{channels_of}
 use Rattle.bench_run.proofs.ready.channels.Given as goal
 
 abbrev pub invariant-loop-job : goal.invariant-loop-job

@@ -1,6 +1,6 @@
 use Rattle.std.proofs.Common.{[], subst}
-use Rattle.bench_core.specs.declared.error.WorldError.TheVariants as fault
-use Rattle.bench_core.specs.Lawful.{format_of, RefusesJobs}
+use Rattle.bench_settings.specs.declared.error.WorldError.TheVariants as fault
+use Rattle.bench_settings.specs.Lawful.{format_of, RefusesJobs}
 use Rattle.ch11_recording.specs.WrittenFile.{written_file}
 use Rattle.bench_run.proofs.Beginning.{nothing_taken}
 use Rattle.bench_run.proofs.Refusing.{ran_alone, left_alone}

@@ -1,6 +1,6 @@
 use Rattle.std.proofs.Common.{ℕ, [], List, sym, ap, ◌∙◌, subst}
 use Rattle.ch11_recording.specs.WrittenFile.{written_file}
-use Rattle.bench_core.specs.Lawful.{format_of}
+use Rattle.bench_settings.specs.Lawful.{format_of}
 use Rattle.bench_run.specs.declared.error.RunError.{RunError}
 use Rattle.bench_mail.specs.declared.mailbox.Inbox.{Inbox}
 use Rattle.bench_run.specs.Live.{AreInboxesOf, LeavesLate}

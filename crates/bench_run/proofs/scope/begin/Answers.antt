@@ -1,6 +1,6 @@
 use Rattle.std.proofs.Common.{[], true≢false, length, refl, ap, subst, arith}
 use Rattle.ch11_recording.specs.Recording.{IsRecordingOf}
-use Rattle.bench_core.specs.Lawful.{format_of}
+use Rattle.bench_settings.specs.Lawful.{format_of}
 use Rattle.bench_run.proofs.Beginning.{first_rises}
 use Rattle.bench_run.proofs.scope.begin.Goals as goal
 

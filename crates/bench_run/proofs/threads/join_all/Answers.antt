@@ -8,7 +8,7 @@ use Rattle.mil_trunk.specs.Views.{with_tag}
 use Rattle.mil_trunk.proofs.Tagging.{with_tag-append}
 use Rattle.job_file.specs.Jobs.{JobState}
 use Rattle.ch11_builder.specs.Packet.{Numbered}
-use Rattle.bench_core.specs.Settled.{kept_records}
+use Rattle.bench_settings.specs.Kept.{kept_records}
 use Rattle.bench_run.specs.declared.entry.Entry.{Entry}
 use Rattle.bench_mail.specs.declared.mailbox.Mailbox.{Mailbox}
 use Rattle.bench_mail.specs.declared.mailbox.Inbox.{Inbox}

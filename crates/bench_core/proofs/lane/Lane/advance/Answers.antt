@@ -3,7 +3,7 @@ use Rattle.bc_machine.specs.declared.placed.Placed.{Placed}
 use Rattle.bench_report.specs.Reports.{Rises}
 use Rattle.job_file.specs.Jobs.{job_in}
 use Rattle.job_file.specs.Meaning.{records}
-use Rattle.bench_core.specs.Placing.{placed_up_to}
+use Rattle.bench_settings.specs.Placing.{placed_up_to}
 use Rattle.bench_core.specs.Bench.{LaneState}
 use Rattle.bench_core.specs.Channels.{lane_in, after_next, queued_next, next_in}
 use Rattle.bench_core.proofs.Offers.{past_end, recorded_next, still_of, recorded_on, ended_lane, ended_item, message_lane, message_item, rises_message}

@@ -1,7 +1,7 @@
 use Rattle.std.proofs.Common.{ℕ, ◌++◌, ◌∷◌, [], length, sym, ap, ◌∙◌, subst, arith}
 use Rattle.bc_machine.specs.declared.placed.Placed.{Placed}
 use Rattle.bench_report.specs.Reports.{Rises}
-use Rattle.bench_core.specs.Placing.{placed_up_to}
+use Rattle.bench_settings.specs.Placing.{placed_up_to}
 use Rattle.bench_core.proofs.Posting.{placed_next, moved_next, posted_of, posted_recorded, posted_number, posted_placed, posted_count}
 use Rattle.bench_core.proofs.lane.Lane.post.Goals as goal
 

@@ -1,6 +1,6 @@
 use Rattle.std.proofs.Common.{◌≡◌, ◌<◌, ℕ, List}
 use Rattle.job_file.specs.Jobs.{JobState}
-use Rattle.bench_core.specs.Placing.{IsOrdered}
+use Rattle.bench_settings.specs.Placing.{IsOrdered}
 use Rattle.bench_mail.specs.declared.mailbox.Post.{Post}
 use Rattle.bench_mail.specs.Mail.{IsInboxOf}
 use Rattle.bench_run.specs.Posted.{IsPosted}

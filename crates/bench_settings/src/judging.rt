@@ -1,5 +1,5 @@
 //! Which jobs may be run, and with which settings.
-ghost use Rattle.bench_core.specs.Lawful.{AreSettingsInRange, AreLawful, RefusesJobs, channels_of};
+ghost use Rattle.bench_settings.specs.Lawful.{AreSettingsInRange, AreLawful, RefusesJobs, channels_of};
 ghost use Rattle.ch11_recording.specs.Recording.{AreDistinct};
 ghost use Rattle.job_file.specs.Jobs.{JobState};
 ghost use Rattle.std.specs.List.{list_any};

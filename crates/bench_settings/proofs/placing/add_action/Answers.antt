@@ -1,7 +1,7 @@
 use Rattle.std.proofs.Common.{◌∙◌}
-use Rattle.bench_core.proofs.Sorting.{rises}
-use Rattle.bench_core.proofs.Adding.{added_ordered, added_is}
-use Rattle.bench_core.proofs.placing.add_action.Goals as goal
+use Rattle.bench_settings.proofs.Sorting.{rises}
+use Rattle.bench_settings.proofs.Adding.{added_ordered, added_is}
+use Rattle.bench_settings.proofs.placing.add_action.Goals as goal
 
 pub put_in-requires-clause-rising : goal.put_in-requires-clause-rising
 put_in-requires-clause-rising c = rises 0 c.args.ordered.now.actions c.requires.ordered.order

@@ -4,7 +4,7 @@ use Rattle.std.specs.List.{AllByRecursion, list_any}
 use Rattle.std.proofs.lemmas.Bool.{eq-eqb, eqb-true}
 use Rattle.ch11_recording.specs.Recording.{AreDistinct}
 use Rattle.job_file.specs.Jobs.{JobState}
-use Rattle.bench_core.specs.Lawful.{channels_of}
+use Rattle.bench_settings.specs.Lawful.{channels_of}
 
 -- one of these jobs has a channel
 abbrev pub has_channel : ℕ → List JobState → Bool

@@ -1,5 +1,5 @@
 -- Placed actions that were sorted by number, and those of them up to one.
-use Rattle.std.proofs.Common.{◌≡◌, ℕ, zero, suc, ◌≤◌, true, not, ◌&&◌, eqb, nat_le, List, [], ◌∷◌, length, take, sym, ap, ◌∙◌, inl, inr, arith}
+use Rattle.std.proofs.Common.{◌≡◌, ℕ, zero, suc, ◌≤◌, true, not, ◌&&◌, eqb, nat_le, List, [], ◌∷◌, take, sym, ap, ◌∙◌, inl, inr, arith}
 use Rattle.std.specs.List.{AllByRecursion, AllWithin, list_all, list_any}
 use Rattle.std.specs.List.Sorted.{IsPermutation}
 use Rattle.std.proofs.lemmas.Bool.{eqb-true, leb-true, and_parts, or_cases}
@@ -12,8 +12,8 @@ use Rattle.bc_machine.specs.Rising.{IsRising, IsParted}
 use Rattle.bc_machine.proofs.Around.{stop}
 use Rattle.job_file.specs.JobRanges.{may_act}
 use Rattle.bench_report.specs.Reports.{IsPlace, NeverFalls}
-use Rattle.bench_core.specs.Placing.{placed_up_to, IsOrdered}
-use Rattle.bench_core.proofs.Ordered.{AreUpTo, AreFrom, from_least, up_to_same, up_to_itself, at_up_to}
+use Rattle.bench_settings.specs.Placing.{placed_up_to, IsOrdered}
+use Rattle.bench_settings.proofs.Ordered.{AreUpTo, AreFrom, from_least, up_to_same, up_to_itself, at_up_to}
 
 -- ---- numbers that never fall
 

@@ -1,5 +1,5 @@
 -- Lists of records and numbers.
-use Rattle.std.proofs.Common.{◌≡◌, ◌≢◌, ℕ, zero, suc, ◌+◌, ◌<◌, ◌≤◌, Bool, true, false, not, ◌||◌, cond, eqb, List, [], ◌∷◌, ◌++◌, take, slice_get, Some, refl, sym, ap, ◌∙◌, append_assoc, arith, subst}
+use Rattle.std.proofs.Common.{◌≡◌, ◌≢◌, ℕ, zero, suc, ◌+◌, ◌<◌, ◌≤◌, Bool, true, false, not, ◌||◌, cond, eqb, List, [], ◌∷◌, ◌++◌, take, map, slice_get, slice_set, Some, refl, sym, ap, ◌∙◌, append_assoc, arith, subst}
 use Rattle.std.specs.List.{AllByRecursion, filter, list_any}
 use Rattle.std.proofs.lemmas.List.{append-nil}
 use Rattle.std.proofs.lemmas.List.Elements.{filter-append}
@@ -9,7 +9,7 @@ use Rattle.mil_monitor.specs.declared.Record.{Record}
 use Rattle.ch11_builder.specs.Packet.{Numbered}
 use Rattle.ch11_recording.specs.declared.item.Item.{Item}
 use Rattle.ch11_recording.specs.Items.{channel_of, record_in, records_in, numbered, numbered_from}
-use Rattle.bench_core.specs.Settled.{is_kept}
+use Rattle.bench_settings.specs.Kept.{is_kept}
 
 -- ---- records of a channel
 
@@ -120,3 +120,21 @@ kept_same refused made rs r low at =
     or_true : (b : Bool) → (b || (true || false)) ≡ true
     or_true true = refl
     or_true false = refl
+
+-- ---- lists, one of them mapped
+
+module _ {X Y : Type 0} where
+  pub map_at : (g : X → Y) (xs : List X) (i : ℕ) (x : X) → slice_get xs i ≡ Some x → slice_get (map g xs) i ≡ Some (g x)
+  map_at g [] i x at = absurd cc
+  map_at g (y ∷ xs) zero x at = let same : y ≡ x = cc in ap (λ (z : X). Some (g z)) same
+  map_at g (y ∷ xs) (suc i) x at = map_at g xs i x at
+
+  pub map_kept : (g : X → Y) (xs : List X) (i : ℕ) (x v : X) → slice_get xs i ≡ Some x → g v ≡ g x → map g (slice_set xs i v) ≡ map g xs
+  map_kept g [] i x v at same = refl
+  map_kept g (y ∷ xs) zero x v at same = let here : x ≡ y = cc in ap (λ (z : Y). z ∷ map g xs) (same ∙ ap g here)
+  map_kept g (y ∷ xs) (suc i) x v at same = ap (λ (ys : List Y). g y ∷ ys) (map_kept g xs i x v at same)
+
+pub which : {X Y : Type 0} (g : X → Y) (xs : List X) (i : ℕ) (y : Y) → slice_get (map g xs) i ≡ Some y → (x : X) × (slice_get xs i ≡ Some x) × (y ≡ g x)
+which g [] i y at = absurd cc
+which g (x ∷ xs) zero y at = (x, refl, cc)
+which g (x ∷ xs) (suc i) y at = which g xs i y at

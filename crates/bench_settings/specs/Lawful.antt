@@ -4,9 +4,9 @@ use Rattle.job_file.specs.Jobs.{JobState}
 use Rattle.ch11_recording.specs.WrittenFile.{Format}
 use Rattle.ch11_recording.specs.Recording.{AreDistinct}
 use Rattle.ch11_recording.specs.Laws.{IsPrologue}
-use Rattle.bench_core.specs.declared.settings.Settings.{Settings}
-use Rattle.bench_core.specs.declared.error.WorldError.{WorldError}
-use Rattle.bench_core.specs.declared.error.WorldError.TheVariants as fault
+use Rattle.bench_settings.specs.declared.settings.Settings.{Settings}
+use Rattle.bench_settings.specs.declared.error.WorldError.{WorldError}
+use Rattle.bench_settings.specs.declared.error.WorldError.TheVariants as fault
 
 abbrev pub format_of : Settings → Format
 format_of s = record { version = s.version; limit = s.limit }

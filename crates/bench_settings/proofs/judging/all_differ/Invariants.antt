@@ -1,7 +1,7 @@
 use Rattle.std.proofs.Common.{length}
 use Rattle.ch11_recording.specs.Recording.{AreDistinct}
-use Rattle.bench_core.specs.Lawful.{channels_of}
-use Rattle.bench_core.proofs.judging.all_differ.Given as goal
+use Rattle.bench_settings.specs.Lawful.{channels_of}
+use Rattle.bench_settings.proofs.judging.all_differ.Given as goal
 
 -- the jobs so far have channels that differ from all behind them
 abbrev pub invariant-loop-job : goal.invariant-loop-job

@@ -1,7 +1,7 @@
 use Rattle.std.proofs.Common.{◌≡◌, take, sym, subst, ◌∙◌, rules}
 use Rattle.bench_report.specs.Reports.{NeverFalls}
-use Rattle.bench_core.proofs.Sorting.{rises, order_taken, taken_is}
-use Rattle.bench_core.proofs.parts.channel_report.Goals as goal
+use Rattle.bench_settings.proofs.Sorting.{rises, order_taken, taken_is}
+use Rattle.bench_settings.proofs.parts.channel_report.Goals as goal
 
 pub behind-kept-requires : goal.behind-kept-requires
 behind-kept-requires c = rises 0 c.args.ordered c.requires.ordered.order

@@ -1,7 +1,7 @@
 use Rattle.std.proofs.Common.{ap, ◌∙◌, rules}
-use Rattle.bench_core.specs.Placing.{placed_up_to}
-use Rattle.bench_core.proofs.Sorting.{sorted_fits, sorted_is}
-use Rattle.bench_core.proofs.placing.ordered_actions.Goals as goal
+use Rattle.bench_settings.specs.Placing.{placed_up_to}
+use Rattle.bench_settings.proofs.Sorting.{sorted_fits, sorted_is}
+use Rattle.bench_settings.proofs.placing.ordered_actions.Goals as goal
 
 pub returns-clause-fit : goal.returns-clause-fit
 returns-clause-fit c =

@@ -1,6 +1,6 @@
 //! The part of a report that tells of one channel.
 ghost use Rattle.bc_machine.specs.declared.placed.Placed.{Placed};
-ghost use Rattle.bench_core.specs.Placing.{placed_up_to, IsOrdered};
+ghost use Rattle.bench_settings.specs.Placing.{placed_up_to, IsOrdered};
 ghost use Rattle.bench_report.specs.Reports.{Rises};
 ghost use Rattle.std.specs.Prelude.{◌≡◌, ◌≤◌, List};
 

@@ -1,9 +1,9 @@
 use Rattle.std.proofs.Common.{◌≡◌, true, false, IsTrue, List, ◌∷◌, sym, subst, rules}
 use Rattle.ch11_recording.specs.Recording.{AreDistinct}
 use Rattle.job_file.specs.Jobs.{JobState}
-use Rattle.bench_core.specs.Lawful.{channels_of}
-use Rattle.bench_core.proofs.Judged.{distinct_more, distinct_less, not_distinct}
-use Rattle.bench_core.proofs.judging.all_differ.Goals as goal
+use Rattle.bench_settings.specs.Lawful.{channels_of}
+use Rattle.bench_settings.proofs.Judged.{distinct_more, distinct_less, not_distinct}
+use Rattle.bench_settings.proofs.judging.all_differ.Goals as goal
 
 not_true : {X : Type 0} → IsTrue false → X
 not_true h = absurd (let impossible : false ≡ true = search rules in cc)

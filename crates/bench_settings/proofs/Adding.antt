@@ -1,5 +1,5 @@
 -- An action put into an ordered list, behind those of its number.
-use Rattle.std.proofs.Common.{◌≡◌, ℕ, zero, suc, ◌<◌, ◌≤◌, Bool, true, false, cond, eqb, List, [], ◌∷◌, ◌++◌, length, refl, sym, ap, ◌∙◌, append-nil, arith}
+use Rattle.std.proofs.Common.{◌≡◌, ℕ, zero, suc, ◌<◌, ◌≤◌, Bool, true, false, cond, eqb, List, [], ◌∷◌, ◌++◌, refl, sym, ap, ◌∙◌, append-nil, arith}
 use Rattle.std.specs.List.{AllByRecursion, insert}
 use Rattle.std.proofs.lemmas.Bool.{eqb-true, ne_eqb}
 use Rattle.std.proofs.lemmas.List.Elements.{filter-append, All-from_recursion, recursion_from_All}
@@ -7,9 +7,9 @@ use Rattle.bc_machine.specs.declared.placed.Placed.{Placed}
 use Rattle.bc_machine.specs.Controller.{placed_at}
 use Rattle.bc_machine.specs.Rising.{IsParted}
 use Rattle.bench_report.specs.Reports.{IsPlace, NeverFalls}
-use Rattle.bench_core.specs.Placing.{placed_up_to, IsOrdered}
-use Rattle.bench_core.proofs.Ordered.{up_to_same, up_to_itself, at_up_to}
-use Rattle.bench_core.proofs.Sorting.{up_to_last}
+use Rattle.bench_settings.specs.Placing.{placed_up_to, IsOrdered}
+use Rattle.bench_settings.proofs.Ordered.{up_to_same, up_to_itself, at_up_to}
+use Rattle.bench_settings.proofs.Sorting.{up_to_last}
 
 parted_behind : (number i : ℕ) (p : Placed) (ps : List Placed) → IsParted number (suc i) (p ∷ ps) → IsParted number i ps
 parted_behind number i p ps parted = record {

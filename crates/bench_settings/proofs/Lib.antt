@@ -1,0 +1,5 @@
+pub mod Lists
+pub mod Ordered
+pub mod Sorting
+pub mod Adding
+pub mod Judged
