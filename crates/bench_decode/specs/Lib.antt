@@ -1,5 +1,4 @@
 pub mod ByTime
-pub mod Forms
 pub mod Letters
 pub mod Numbering
 pub mod Superseding

@@ -1,5 +1,6 @@
 //! The chosen messages of a recording, in the order of their stamps.
 ghost use Rattle.bench_decode.specs.ByTime.{AreByTime, AreChosen, chosen, told_of};
+ghost use Rattle.bench_select.specs.Selecting.{selects};
 ghost use Rattle.ch11_f1.specs.BodyReading.{Message};
 ghost use Rattle.ch11_f1.specs.Views.{message_of};
 ghost use Rattle.ch11_reader.specs.Contents.{heard_in, Heard};
@@ -9,6 +10,7 @@ use crate::messages::Place;
 use crate::numbers::Numbers;
 use bench_select::Selection;
 use ch11_f1::{Messages, Seen};
+use ch11_layout::View;
 use ch11_reader::{Index, Packet};
 use std::alloc::{AllocError, Global};
 
@@ -60,6 +62,13 @@ fn chosen_messages<'a>(
     Ok(choosing.found)
 }
 
+/// Whether a message of this number and channel is chosen.
+fn is_chosen(selection: &Selection, number: u64, channel: u16, seen: &Seen<'_>) -> bool
+    ensures { result ≡ selects selection.now number channel (message_of seen.now) }
+{
+    selection.selects(number, channel, &View::of(seen))
+}
+
 impl<'a> Choosing<'a> {
     /// The next message of the file, which is of this number and channel.
     fn choose(
@@ -73,7 +82,7 @@ impl<'a> Choosing<'a> {
             → OnOk result (AreChosen selection.now ((channel, message_of seen.now) ∷ history) self.new) }
     {
         let place = self.numbers.place(number, channel);
-        if selection.selects(number, channel, seen) {
+        if is_chosen(selection, number, channel, seen) {
             self.found.push(Chosen { place, seen: *seen })?;
         }
         Ok(())

@@ -1,17 +1,16 @@
 //! The form of a message as text, and the bits of its block status word.
 
-use crate::forms::Form;
-use crate::line::Line;
+use crate::line::TextLine;
 use crate::modes::mode_name;
 use ch11_layout::block::{
     FORMAT_ERROR, INVALID_WORD_ERROR, MESSAGE_ERROR, RESPONSE_TIMEOUT, SYNC_TYPE_ERROR,
     TERMINAL_TO_TERMINAL, WORD_COUNT_ERROR,
 };
-use ch11_layout::is_set;
+use ch11_layout::{RecordedForm, is_set};
 
 /// Puts numbers, each behind a space.
 #[inline]
-fn put_numbers<const N: usize>(line: &mut Line, numbers: [u8; N]) {
+fn put_numbers<const N: usize>(line: &mut TextLine, numbers: [u8; N]) {
     for number in numbers {
         line.put_small(number);
     }
@@ -19,7 +18,7 @@ fn put_numbers<const N: usize>(line: &mut Line, numbers: [u8; N]) {
 
 /// Puts what stands behind the word of a mode command: a 0 where the subaddress is 0, its numbers, and what it asks.
 fn put_mode<const N: usize>(
-    line: &mut Line,
+    line: &mut TextLine,
     subaddress: u8,
     numbers: [u8; N],
     transmit: bool,
@@ -35,25 +34,25 @@ fn put_mode<const N: usize>(
 
 /// Puts a word of a script with its numbers.
 #[inline]
-fn put_word<const N: usize>(line: &mut Line, word: &[u8], numbers: [u8; N]) {
+fn put_word<const N: usize>(line: &mut TextLine, word: &[u8], numbers: [u8; N]) {
     line.put(word);
     put_numbers(line, numbers);
 }
 
 /// Puts a form in the words of a script, with the count of data words of its command.
-pub(crate) fn put_form(line: &mut Line, form: Form) {
+pub(crate) fn put_form(line: &mut TextLine, form: RecordedForm) {
     match form {
-        Form::Receive {
+        RecordedForm::Receive {
             address,
             subaddress,
             count,
         } => put_word(line, b"rx", [address, subaddress, count]),
-        Form::Transmit {
+        RecordedForm::Transmit {
             address,
             subaddress,
             count,
         } => put_word(line, b"tx", [address, subaddress, count]),
-        Form::Mode {
+        RecordedForm::Mode {
             address,
             subaddress,
             transmit,
@@ -62,9 +61,13 @@ pub(crate) fn put_form(line: &mut Line, form: Form) {
             line.put(b"mode");
             put_mode(line, subaddress, [address, code], transmit, code);
         }
-        Form::Between { .. } | Form::BetweenAll { .. } => put_transfer(line, form),
-        Form::ReceiveAll { subaddress, count } => put_word(line, b"brx", [subaddress, count]),
-        Form::ModeAll {
+        RecordedForm::Between { .. } | RecordedForm::BetweenAll { .. } => put_transfer(line, form),
+        RecordedForm::ReceiveAll { subaddress, count } => put_word(
+            line,
+            b"brx",
+            [subaddress, count],
+        ),
+        RecordedForm::ModeAll {
             subaddress,
             transmit,
             code,
@@ -72,21 +75,21 @@ pub(crate) fn put_form(line: &mut Line, form: Form) {
             line.put(b"bmode");
             put_mode(line, subaddress, [code], transmit, code);
         }
-        Form::Unknown => line.put(b"no known form"),
+        RecordedForm::Unknown => line.put(b"no known form"),
     }
 }
 
 /// Puts a transfer of terminals.
-fn put_transfer(line: &mut Line, form: Form) {
+fn put_transfer(line: &mut TextLine, form: RecordedForm) {
     match form {
-        Form::Between {
+        RecordedForm::Between {
             sender,
             sender_subaddress: from,
             receiver,
             receiver_subaddress: to,
             count,
         } => put_word(line, b"rt", [sender, from, receiver, to, count]),
-        Form::BetweenAll {
+        RecordedForm::BetweenAll {
             sender,
             sender_subaddress: from,
             receiver_subaddress: to,
@@ -116,7 +119,7 @@ const KINDS: [(u32, &[u8]); 5] = [
 ];
 
 /// Puts the names of the bits of a block status word that are set, each behind a space; the line is told elsewhere.
-pub(crate) fn put_block(line: &mut Line, block: u16) {
+pub(crate) fn put_block(line: &mut TextLine, block: u16) {
     if is_set(block, MESSAGE_ERROR) {
         line.begin_red();
         line.put(b" message_error");

@@ -9,7 +9,6 @@ mod chosen;
 mod details;
 mod digits;
 mod fields;
-mod forms;
 mod line;
 mod messages;
 mod modes;
@@ -23,8 +22,7 @@ mod whole;
 
 pub use chosen::{Chosen, messages_by_time};
 pub use details::put_details;
-pub use forms::Form;
-pub use line::{Line, Shown};
+pub use line::{Shown, TextLine};
 pub use messages::{Place, write_columns, write_message};
 pub use numbers::Numbers;
 pub use streaming::decode_from;

@@ -36,7 +36,7 @@ pub enum Shown {
 
 /// Lines that wait for the writer, at most 65,536 bytes of them.
 #[derive(Drop)]
-pub struct Line {
+pub struct TextLine {
     bytes: Vec<u8>,
     len: usize,
     // where the line began on which the text stands, less the bytes on it that take no column
@@ -44,10 +44,10 @@ pub struct Line {
     shown: Shown,
 }
 
-impl Line {
+impl TextLine {
     /// No line yet. All memory is taken here.
-    pub fn new(alloc: Global, shown: Shown) -> Result<Line, AllocError> {
-        Ok(Line {
+    pub fn new(alloc: Global, shown: Shown) -> Result<TextLine, AllocError> {
+        Ok(TextLine {
             bytes: vec![in alloc; 0; SIZE]?,
             len: 0,
             begin: 0,

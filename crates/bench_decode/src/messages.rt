@@ -1,17 +1,13 @@
 //! A message as a line.
 ghost use Rattle.bench_decode.specs.Letters as spec;
-ghost use Rattle.ch11_f1.specs.Views.{message_of};
 ghost use Rattle.std.specs.Prelude.{◌≡◌};
 
 use crate::digits::{decimals_of, in_columns};
 use crate::fields::{has_names, put_block, put_form};
-use crate::forms::Form;
-use crate::line::Line;
+use crate::line::TextLine;
 use crate::readings::{Reading, put_reading};
 use crate::times::Time;
-use ch11_f1::Seen;
-use ch11_layout::block::LINE_B;
-use ch11_layout::{Layout, is_set};
+use ch11_layout::{RecordedForm, View};
 use std::io;
 use std::io::Write;
 
@@ -47,7 +43,7 @@ pub struct Place {
 }
 
 /// Writes the line with the names of the columns, which stands in front of the first message.
-pub fn write_columns<W: Write>(line: &mut Line, out: &mut W) -> io::Result<()> {
+pub fn write_columns<W: Write>(line: &mut TextLine, out: &mut W) -> io::Result<()> {
     line.hand_on(out)?;
     line.put(FIRST_COLUMNS);
     line.pad_to(REPLIES);
@@ -63,49 +59,44 @@ pub fn write_columns<W: Write>(line: &mut Line, out: &mut W) -> io::Result<()> {
 /// block status word, its gap times word and all its words as hexadecimal digits. What waits in `line` may go to the
 /// writer before or behind; a fault is the writer's.
 pub fn write_message<W: Write>(
-    line: &mut Line,
+    line: &mut TextLine,
     out: &mut W,
     place: &Place,
-    seen: &Seen<'_>,
+    view: &View<'_>,
 ) -> io::Result<()> {
     line.hand_on(out)?;
-    put_place(line, place, seen);
-    let form = Form::of(seen);
-    if form == Form::Unknown {
-        put_raw(line, seen);
-        put_data(line, out, seen, 0, seen.word_count())?;
+    put_place(line, place, view);
+    let form = view.form();
+    if form == RecordedForm::Unknown {
+        put_raw(line, view);
+        put_data(line, out, view, 0, view.word_count())?;
     } else {
-        let layout = Layout::of(seen);
         put_form(line, form);
         line.pad_to(REPLIES);
-        let reading = Reading::of(seen, &layout);
-        put_reading(line, seen, &layout, reading);
-        put_words(line, out, seen, &layout, reading)?;
+        let reading = Reading::of(view);
+        put_reading(line, view, reading);
+        put_words(line, out, view, reading)?;
     }
-    if has_names(seen.block) {
-        put_block(line, seen.block);
+    if has_names(view.block()) {
+        put_block(line, view.block());
     }
     line.end_line();
     Ok(())
 }
 
 /// The letter of the line that a message went over.
-pub(crate) fn letter_of(seen: &Seen<'_>) -> u8
-    ensures { result ≡ spec.letter_of (message_of seen.now) }
+pub(crate) fn letter_of(view: &View<'_>) -> u8
+    ensures { result ≡ spec.letter_of view.now }
 {
-    if is_set(seen.block, LINE_B) {
-        b'B'
-    } else {
-        b'A'
-    }
+    if view.is_on_line_b() { b'B' } else { b'A' }
 }
 
 /// Puts the columns in front of the form.
 #[inline(always)]
-fn put_place(line: &mut Line, place: &Place, seen: &Seen<'_>) {
-    let time = Time::of(seen.stamp);
+fn put_place(line: &mut TextLine, place: &Place, view: &View<'_>) {
+    let time = Time::of(view.stamp());
     if place.number >= WIDE || place.in_channel >= WIDE || time.seconds >= LONG {
-        return put_wide_place(line, place, time, letter_of(seen));
+        return put_wide_place(line, place, time, letter_of(view));
     }
     line.put_front(
         &in_columns(place.number as u32, 1),
@@ -113,12 +104,12 @@ fn put_place(line: &mut Line, place: &Place, seen: &Seen<'_>) {
         &decimals_of(time),
         &in_columns(u32::from(place.channel), 0),
         &in_columns(place.in_channel as u32, 0),
-        letter_of(seen),
+        letter_of(view),
     );
 }
 
 /// Puts the same of numbers that their columns may have no room for.
-fn put_wide_place(line: &mut Line, place: &Place, time: Time, letter: u8) {
+fn put_wide_place(line: &mut TextLine, place: &Place, time: Time, letter: u8) {
     line.put_right(place.number, 7);
     line.put(b" ");
     line.put_right(time.seconds, 5);
@@ -133,15 +124,15 @@ fn put_wide_place(line: &mut Line, place: &Place, time: Time, letter: u8) {
 }
 
 /// Puts that a message has no known form, its block status word and its gap times word.
-fn put_raw(line: &mut Line, seen: &Seen<'_>) {
+fn put_raw(line: &mut TextLine, view: &View<'_>) {
     line.begin_red();
-    put_form(line, Form::Unknown);
+    put_form(line, RecordedForm::Unknown);
     line.end_red();
     line.pad_to(REPLIES);
     line.put(b"block");
-    line.put_word(seen.block);
+    line.put_word(view.block());
     line.put(b" gaps");
-    line.put_word(seen.gaps);
+    line.put_word(view.gaps());
 }
 
 /// The bytes of the words from a place up to another, as far as there are any.
@@ -153,34 +144,33 @@ fn between(words: &[u8], from: usize, to: usize) -> &[u8] {
 
 /// Puts the data words of a message; those that go with a second command stand behind 'then'.
 fn put_words<W: Write>(
-    line: &mut Line,
+    line: &mut TextLine,
     out: &mut W,
-    seen: &Seen<'_>,
-    layout: &Layout,
+    view: &View<'_>,
     reading: Reading,
 ) -> io::Result<()> {
-    let (from, to) = reading.first_words(layout);
-    put_data(line, out, seen, from, to)?;
-    let (from, to) = reading.other_words(seen, layout);
+    let (from, to) = reading.first_words(view);
+    put_data(line, out, view, from, to)?;
+    let (from, to) = reading.other_words(view);
     if from >= to {
         return Ok(());
     }
     line.fill_to(WORDS - 1);
     line.put(b" then");
-    line.put_words(out, between(seen.words, from, to))
+    line.put_words(out, between(view.bytes(), from, to))
 }
 
 /// Puts the words from a place up to another, and comes to the column of data words where these or names follow.
 fn put_data<W: Write>(
-    line: &mut Line,
+    line: &mut TextLine,
     out: &mut W,
-    seen: &Seen<'_>,
+    view: &View<'_>,
     from: usize,
     to: usize,
 ) -> io::Result<()> {
-    if from >= to && !has_names(seen.block) {
+    if from >= to && !has_names(view.block()) {
         return Ok(());
     }
     line.fill_to(WORDS - 1);
-    line.put_words(out, between(seen.words, from, to))
+    line.put_words(out, between(view.bytes(), from, to))
 }

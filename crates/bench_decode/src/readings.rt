@@ -1,13 +1,10 @@
 //! How the words of a message are shown.
 
 use crate::fields::put_form;
-use crate::forms::of_one;
-use crate::line::Line;
-use crate::replies::{Reply, address_at, put_front, put_gap, put_replies, put_reply};
+use crate::line::TextLine;
+use crate::replies::{address_at, put_front, put_gap, put_replies, put_reply};
 use crate::superseding::second_command;
-use ch11_f1::Seen;
-use ch11_layout::block::{SYNC_TYPE_ERROR, WORD_COUNT_ERROR};
-use ch11_layout::{Layout, first_gap, is_set, second_gap};
+use ch11_layout::{RecordedForm, Reply, View};
 use mil_word::Command;
 
 /// What the words of a message are shown as.
@@ -25,19 +22,20 @@ pub(crate) enum Reading {
 impl Reading {
     /// What the words of a message are shown as.
     #[inline]
-    pub(crate) fn of(seen: &Seen<'_>, layout: &Layout) -> Reading {
-        if seen.block & (1 << WORD_COUNT_ERROR | 1 << SYNC_TYPE_ERROR) == 0 {
+    pub(crate) fn of(view: &View<'_>) -> Reading {
+        if !view.has_word_count_error() && !view.has_sync_type_error() {
             return Reading::Laid;
         }
-        match second_command(seen) {
+        match second_command(view) {
             Some(place) => Reading::Second(place),
-            None => without_second(seen, layout),
+            None => without_second(view),
         }
     }
 
     /// Where the words begin and end that stand in front of a second command, or where there is none all that are shown
     /// as data words.
-    pub(crate) fn first_words(&self, layout: &Layout) -> (usize, usize) {
+    pub(crate) fn first_words(&self, view: &View<'_>) -> (usize, usize) {
+        let layout = view.layout();
         match *self {
             Reading::Laid => (layout.data_start, layout.data_end),
             Reading::Second(place) => (layout.commands, place),
@@ -46,31 +44,33 @@ impl Reading {
     }
 
     /// Where the data words begin and end that go with a second command.
-    pub(crate) fn other_words(&self, seen: &Seen<'_>, layout: &Layout) -> (usize, usize) {
+    pub(crate) fn other_words(&self, view: &View<'_>) -> (usize, usize) {
         let Reading::Second(place) = *self else {
             return (0, 0);
         };
-        if Command::of(seen.word(place)).is_transmit() {
-            (place.saturating_add(2), layout.words)
+        let words = view.word_count();
+        if Command::of(view.word(place)).is_transmit() {
+            (place.saturating_add(2), words)
         } else {
-            (place.saturating_add(1), layout.words.saturating_sub(1))
+            (place.saturating_add(1), words.saturating_sub(1))
         }
     }
 }
 
 /// What the words of a message are shown as in which no second command is told. Words of another number than is due
 /// can't be told apart where a status word is not of the terminal that is due.
-fn without_second(seen: &Seen<'_>, layout: &Layout) -> Reading {
-    if !is_set(seen.block, WORD_COUNT_ERROR) {
+fn without_second(view: &View<'_>) -> Reading {
+    if !view.has_word_count_error() {
         return Reading::Laid;
     }
+    let layout = view.layout();
     let (commands, front, end) = (layout.commands, layout.data_start, layout.data_end);
     if commands < front
-        && address_at(seen, commands) != address_at(seen, commands.saturating_sub(1))
+        && address_at(view, commands) != address_at(view, commands.saturating_sub(1))
     {
         return Reading::Unclear(commands);
     }
-    if end < layout.words && address_at(seen, end) != address_at(seen, 0) {
+    if end < layout.words && address_at(view, end) != address_at(view, 0) {
         return Reading::Unclear(front);
     }
     Reading::Laid
@@ -79,43 +79,43 @@ fn without_second(seen: &Seen<'_>, layout: &Layout) -> Reading {
 /// Puts the status words of a message, each with the names of its bits and its response time; those of a second command
 /// behind its form.
 #[inline]
-pub(crate) fn put_reading(line: &mut Line, seen: &Seen<'_>, layout: &Layout, reading: Reading) {
+pub(crate) fn put_reading(line: &mut TextLine, view: &View<'_>, reading: Reading) {
     match reading {
-        Reading::Laid => put_replies(line, seen, layout),
-        Reading::Second(place) => put_second(line, seen, layout, place),
-        Reading::Unclear(place) => put_unclear(line, seen, layout, place),
+        Reading::Laid => put_replies(line, view),
+        Reading::Second(place) => put_second(line, view, place),
+        Reading::Unclear(place) => put_unclear(line, view, place),
     }
 }
 
 /// Puts a second command, and the status word that answers it.
-fn put_second(line: &mut Line, seen: &Seen<'_>, layout: &Layout, place: usize) {
-    let command = Command::of(seen.word(place));
+fn put_second(line: &mut TextLine, view: &View<'_>, place: usize) {
+    let command = Command::of(view.word(place));
     line.begin_red();
     line.put(b"second command ");
     line.end_red();
-    put_form(line, of_one(command));
+    put_form(line, RecordedForm::of_command(command));
     line.put(b": ");
     let answer = if command.is_transmit() {
         place.saturating_add(1)
     } else {
-        layout.words.saturating_sub(1)
+        view.word_count().saturating_sub(1)
     };
     put_reply(
         line,
         Reply {
-            status: seen.word(answer),
+            status: view.word(answer),
             due: command.address(),
-            gap: first_gap(seen),
+            gap: view.first_gap(),
         },
     );
 }
 
 /// Puts the status word in front of words that can't be told apart, if any, and the response times of these words.
-fn put_unclear(line: &mut Line, seen: &Seen<'_>, layout: &Layout, place: usize) {
-    let (first, second) = (first_gap(seen), second_gap(seen));
-    let told = layout.commands < place;
+fn put_unclear(line: &mut TextLine, view: &View<'_>, place: usize) {
+    let (first, second) = (view.first_gap(), view.second_gap());
+    let told = view.layout().commands < place;
     if told {
-        put_front(line, seen, layout);
+        put_front(line, view);
         line.put(b", ");
     }
     line.begin_red();

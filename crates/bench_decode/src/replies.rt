@@ -1,25 +1,14 @@
 //! Status words and response times.
 
-use crate::line::Line;
-use ch11_f1::Seen;
-use ch11_layout::block::TERMINAL_TO_TERMINAL;
-use ch11_layout::{Layout, first_gap, is_set, second_gap};
-use mil_word::{Command, Status};
-
-/// A status word that came: of which terminal it was due, and behind which gap it came, in ticks.
-#[derive(Clone, Copy)]
-pub(crate) struct Reply {
-    pub(crate) status: u16,
-    pub(crate) due: u8,
-    pub(crate) gap: u8,
-}
+use crate::line::TextLine;
+use ch11_layout::{Reply, View};
+use mil_word::Status;
 
 /// Puts the status words of a message, each with the names of its bits and its response time.
 #[inline]
-pub(crate) fn put_replies(line: &mut Line, seen: &Seen<'_>, layout: &Layout) {
-    let between = is_set(seen.block, TERMINAL_TO_TERMINAL);
-    let front = front_of(seen, layout);
-    let back = back_of(seen, layout, between);
+pub(crate) fn put_replies(line: &mut TextLine, view: &View<'_>) {
+    let between = view.is_transfer();
+    let (front, back) = (view.front_reply(), view.back_reply());
     let first_told = front.is_some() || back.is_some() && !between;
     let second_told = back.is_some() && between;
     let mut any = false;
@@ -32,7 +21,7 @@ pub(crate) fn put_replies(line: &mut Line, seen: &Seen<'_>, layout: &Layout) {
         put_reply(line, reply);
         any = true;
     }
-    let (first, second) = (first_gap(seen), second_gap(seen));
+    let (first, second) = (view.first_gap(), view.second_gap());
     if !first_told && first != 0 {
         put_missing(line, any, first);
         any = true;
@@ -47,65 +36,34 @@ pub(crate) fn put_replies(line: &mut Line, seen: &Seen<'_>, layout: &Layout) {
 }
 
 /// Parts what follows from what stands there, if anything does.
-fn part(line: &mut Line, any: bool) {
+fn part(line: &mut TextLine, any: bool) {
     if any {
         line.put(b", ");
     }
 }
 
 /// Puts a gap behind which no status word stands, separated from what stands there.
-fn put_missing(line: &mut Line, any: bool, gap: u8) {
+fn put_missing(line: &mut TextLine, any: bool, gap: u8) {
     part(line, any);
     line.put(b"no status word");
     put_gap(line, gap);
 }
 
 /// Puts the status word in front of the data words, if there is one.
-pub(crate) fn put_front(line: &mut Line, seen: &Seen<'_>, layout: &Layout) {
-    if let Some(reply) = front_of(seen, layout) {
+pub(crate) fn put_front(line: &mut TextLine, view: &View<'_>) {
+    if let Some(reply) = view.front_reply() {
         put_reply(line, reply);
     }
 }
 
 /// The terminal address of a word, as a command or a status word has it.
-pub(crate) fn address_at(seen: &Seen<'_>, place: usize) -> u8 {
-    Status::of(seen.word(place)).address()
-}
-
-/// The status word in front of the data words, of the terminal that sends them.
-#[inline]
-fn front_of(seen: &Seen<'_>, layout: &Layout) -> Option<Reply> {
-    if layout.commands >= layout.data_start {
-        return None;
-    }
-    let command = seen.word(if layout.commands == 2 { 1 } else { 0 });
-    Some(Reply {
-        status: seen.word(layout.commands),
-        due: Command::of(command).address(),
-        gap: first_gap(seen),
-    })
-}
-
-/// The status word behind the data words, of the terminal that receives them.
-#[inline]
-fn back_of(seen: &Seen<'_>, layout: &Layout, between: bool) -> Option<Reply> {
-    if layout.data_end >= layout.words {
-        return None;
-    }
-    Some(Reply {
-        status: seen.word(layout.data_end),
-        due: Command::of(seen.word(0)).address(),
-        gap: if between {
-            second_gap(seen)
-        } else {
-            first_gap(seen)
-        },
-    })
+pub(crate) fn address_at(view: &View<'_>, place: usize) -> u8 {
+    Status::of(view.word(place)).address()
 }
 
 /// Puts a status word with the names of its bits and its response time.
 #[inline]
-pub(crate) fn put_reply(line: &mut Line, reply: Reply) {
+pub(crate) fn put_reply(line: &mut TextLine, reply: Reply) {
     line.put_digits(reply.status);
     let address = Status::of(reply.status).address();
     if address != reply.due || reply.status & 0x07FF != 0 {
@@ -120,7 +78,7 @@ pub(crate) fn put_reply(line: &mut Line, reply: Reply) {
 }
 
 /// Puts the names of the bits of a status word that are set (MIL-STD-1553B 4.3.3.5.3).
-fn put_bits(line: &mut Line, status: u16) {
+fn put_bits(line: &mut TextLine, status: u16) {
     let word = Status::of(status);
     let bits: [(bool, &[u8]); 9] = [
         (word.has_message_error(), b" message_error"),
@@ -141,7 +99,7 @@ fn put_bits(line: &mut Line, status: u16) {
 }
 
 /// Puts a gap in microseconds.
-pub(crate) fn put_gap(line: &mut Line, gap: u8) {
+pub(crate) fn put_gap(line: &mut TextLine, gap: u8) {
     let (whole, tenth) = (gap / 10, b'0' + gap % 10);
     if whole < 10 {
         line.put(&[b' ', b'0' + whole, b'.', tenth, b' ', b'u', b's']);

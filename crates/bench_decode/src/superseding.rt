@@ -1,12 +1,9 @@
 //! A second command in a message, which supersedes the first.
 ghost use Rattle.bench_decode.specs.Superseding as spec;
-ghost use Rattle.ch11_f1.specs.Views.{message_of};
 ghost use Rattle.ch11_layout.specs.Layouts.{commands_in};
 ghost use Rattle.std.specs.Prelude.{◌≡◌, ◌≤◌, MatchOption};
 
-use ch11_f1::Seen;
-use ch11_layout::block::{SYNC_TYPE_ERROR, TERMINAL_TO_TERMINAL, WORD_COUNT_ERROR};
-use ch11_layout::{Layout, first_gap, is_set, second_gap};
+use ch11_layout::{View, is_set};
 use mil_mode::{ModeRow, data_words, mode_of};
 use mil_word::{Command, Status};
 
@@ -39,90 +36,83 @@ fn is_answerable(command: Command) -> bool
 }
 
 /// The status word that answers the word at a place, where that is a command.
-fn answer_to(seen: &Seen<'_>, place: usize) -> Status
+fn answer_to(view: &View<'_>, place: usize) -> Status
     requires { place ≤ 1000 }
-    ensures { result ≡ spec.answer_at place (message_of seen.now) }
+    ensures { result ≡ spec.answer_at place view.now }
 {
-    let command = Command::of(seen.word(place));
+    let command = Command::of(view.word(place));
     let answer = if command.is_transmit() {
         place + 1
     } else {
-        seen.word_count().saturating_sub(1)
+        view.word_count().saturating_sub(1)
     };
-    Status::of(seen.word(answer))
+    Status::of(view.word(answer))
 }
 
 /// Whether the words behind that at a place are the answer to it as a command, and no more.
-fn is_whole(seen: &Seen<'_>, place: usize) -> bool
+fn is_whole(view: &View<'_>, place: usize) -> bool
     requires { place ≤ 1000 }
-    ensures { result ≡ spec.is_whole place (message_of seen.now) }
+    ensures { result ≡ spec.is_whole place view.now }
 {
-    let command = Command::of(seen.word(place));
-    seen.word_count() == place + 2 + usize::from(data_words_of(command))
+    let command = Command::of(view.word(place));
+    view.word_count() == place + 2 + usize::from(data_words_of(command))
 }
 
 /// Whether a status word alone is the answer to it, which says that there are no data words.
-fn is_excused(seen: &Seen<'_>, place: usize) -> bool
+fn is_excused(view: &View<'_>, place: usize) -> bool
     requires { place ≤ 1000 }
-    ensures { result ≡ spec.is_excused place (message_of seen.now) }
+    ensures { result ≡ spec.is_excused place view.now }
 {
-    let answer = answer_to(seen, place);
-    Command::of(seen.word(place)).is_transmit()
-        && seen.word_count() == place + 2
+    let answer = answer_to(view, place);
+    Command::of(view.word(place)).is_transmit()
+        && view.word_count() == place + 2
         && (answer.has_message_error() || answer.has_busy())
 }
 
 /// Whether the word at a place is answered as a command.
-fn is_answered(seen: &Seen<'_>, place: usize) -> bool
+fn is_answered(view: &View<'_>, place: usize) -> bool
     requires { place ≤ 1000 }
-    ensures { result ≡ spec.is_answered place (message_of seen.now) }
+    ensures { result ≡ spec.is_answered place view.now }
 {
-    let command = Command::of(seen.word(place));
-    place + 1 < seen.word_count()
+    let command = Command::of(view.word(place));
+    place + 1 < view.word_count()
         && is_answerable(command)
-        && answer_to(seen, place).address() == command.address()
-        && (is_whole(seen, place) || is_excused(seen, place))
+        && answer_to(view, place).address() == command.address()
+        && (is_whole(view, place) || is_excused(view, place))
 }
 
 /// Whether one reply came, and words are not as they are due by number or sync.
-pub(crate) fn is_suspect(seen: &Seen<'_>) -> bool
-    ensures { result ≡ spec.is_suspect (message_of seen.now) }
+pub(crate) fn is_suspect(view: &View<'_>) -> bool
+    ensures { result ≡ spec.is_suspect view.now }
 {
-    (is_set(seen.block, WORD_COUNT_ERROR) || is_set(seen.block, SYNC_TYPE_ERROR))
-        && first_gap(seen) != 0
-        && second_gap(seen) == 0
+    (view.has_word_count_error() || view.has_sync_type_error())
+        && view.first_gap() != 0
+        && view.second_gap() == 0
 }
 
 /// How many of the words are commands of the message's form.
-fn command_count(seen: &Seen<'_>) -> u8
-    ensures many { result ≡ commands_in (message_of seen.now) }
+fn command_count(view: &View<'_>) -> usize
+    ensures many { result ≡ commands_in view.now }
     ensures few { result ≤ 2 }
 {
-    let words = seen.word_count();
-    if words == 0 {
-        0
-    } else if is_set(seen.block, TERMINAL_TO_TERMINAL) && words > 1 {
-        2
-    } else {
-        1
-    }
+    view.layout().commands
 }
 
 /// Whether the word behind the commands, where a status word is due, is one that the terminal could give that is due.
-fn has_own_status(seen: &Seen<'_>) -> bool
-    ensures { result ≡ spec.has_own_status (message_of seen.now) }
+fn has_own_status(view: &View<'_>) -> bool
+    ensures { result ≡ spec.has_own_status view.now }
 {
-    let commands = usize::from(command_count(seen));
-    let status = seen.word(commands);
-    let due = Command::of(seen.word(commands.saturating_sub(1))).address();
-    has_front(seen) && could_be_of(due, status)
+    let commands = command_count(view);
+    let status = view.word(commands);
+    let due = Command::of(view.word(commands.saturating_sub(1))).address();
+    has_front(view) && could_be_of(due, status)
 }
 
 /// Whether a status word stands right behind the commands.
-fn has_front(seen: &Seen<'_>) -> bool
-    ensures { result ≡ spec.has_front_word (message_of seen.now) }
+fn has_front(view: &View<'_>) -> bool
+    ensures { result ≡ spec.has_front_word view.now }
 {
-    let layout = Layout::of(seen);
+    let layout = view.layout();
     layout.commands < layout.data_start
 }
 
@@ -141,11 +131,11 @@ fn has_reserved(status: u16) -> bool
 }
 
 /// How many words the controller has to send behind the commands.
-fn controller_words(seen: &Seen<'_>) -> u8
-    ensures { result ≡ spec.controller_words (message_of seen.now) }
+fn controller_words(view: &View<'_>) -> u8
+    ensures { result ≡ spec.controller_words view.now }
 {
-    let first = Command::of(seen.word(0));
-    if command_count(seen) == 2 || first.is_transmit() {
+    let first = Command::of(view.word(0));
+    if command_count(view) == 2 || first.is_transmit() {
         0
     } else {
         data_words_of(first)
@@ -153,13 +143,13 @@ fn controller_words(seen: &Seen<'_>) -> u8
 }
 
 /// The first word that is answered as a command from one place up to another, that one included.
-fn first_answered(seen: &Seen<'_>, from: usize, to: usize) -> Option<usize>
+fn first_answered(view: &View<'_>, from: usize, to: usize) -> Option<usize>
     requires { to ≤ 900 }
-    ensures { MatchOption result (spec.IsAnsweredNowhere from to (message_of seen.now))
-        (λ place. spec.IsFirstAnswered from to (message_of seen.now) place) }
+    ensures { MatchOption result (spec.IsAnsweredNowhere from to view.now)
+        (λ place. spec.IsFirstAnswered from to view.now place) }
 {
     'places: for place in from..to + 1 {
-        if is_answered(seen, place) {
+        if is_answered(view, place) {
             return Some(place);
         }
     }
@@ -167,13 +157,13 @@ fn first_answered(seen: &Seen<'_>, from: usize, to: usize) -> Option<usize>
 }
 
 /// The place of the second command of a message, where the record tells one.
-pub(crate) fn second_command(seen: &Seen<'_>) -> Option<usize>
-    ensures { MatchOption result (spec.HasNoSecond (message_of seen.now))
-        (λ place. spec.IsSecond (message_of seen.now) place) }
+pub(crate) fn second_command(view: &View<'_>) -> Option<usize>
+    ensures { MatchOption result (spec.HasNoSecond view.now)
+        (λ place. spec.IsSecond view.now place) }
 {
-    if !is_suspect(seen) || has_own_status(seen) {
+    if !is_suspect(view) || has_own_status(view) {
         return None;
     }
-    let from = usize::from(command_count(seen));
-    first_answered(seen, from, from + usize::from(controller_words(seen)))
+    let from = command_count(view);
+    first_answered(view, from, from + usize::from(controller_words(view)))
 }

@@ -4,11 +4,12 @@ ghost use Rattle.ch11_reader.specs.Contents.{heard_in};
 ghost use Rattle.std.specs.Prelude.{reverse, IfOk};
 
 use crate::chosen::{Chosen, messages_by_time};
-use crate::line::{Line, Shown};
-use crate::messages::{write_columns, write_message};
+use crate::line::{Shown, TextLine};
+use crate::messages::{Place, write_columns, write_message};
 use crate::numbers::Numbers;
 use bench_select::Selection;
 use ch11_f1::Messages;
+use ch11_layout::View;
 use ch11_reader::{Index, Packet, ReadError, Skip, SkippingIndex};
 use ch11_stream::StreamFault;
 use std::alloc::{AllocError, Global};
@@ -33,7 +34,7 @@ pub struct Output {
 /// What a recording is printed with, on the way.
 #[derive(Drop)]
 pub(crate) struct Printing {
-    pub(crate) line: Line,
+    pub(crate) line: TextLine,
     numbers: Numbers,
     pub(crate) count: u64,
 }
@@ -42,7 +43,7 @@ impl Printing {
     /// Nothing was printed yet.
     pub(crate) fn begin(alloc: Global, shown: Shown) -> Result<Printing, AllocError> {
         Ok(Printing {
-            line: Line::new(alloc, shown)?,
+            line: TextLine::new(alloc, shown)?,
             numbers: Numbers::new(alloc)?,
             count: 0,
         })
@@ -116,7 +117,13 @@ fn put_by_time<W: Write>(
 ) -> Result<(), StreamFault> {
     let messages = asked_by_time(alloc, index, output)?;
     'messages: for one in messages.as_slice() {
-        put_message(printing, out, output.decoded, one)?;
+        put_message(
+            printing,
+            out,
+            output.decoded,
+            &one.place,
+            &View::of(&one.seen),
+        )?;
     }
     Ok(())
 }
@@ -145,7 +152,7 @@ fn messages_at<'a>(index: &Index<'a>, place: usize) -> Messages<'a> {
 /// Prints the first skips, as long as they lie in front of an offset, and answers those behind them.
 fn put_skips<'s, W: Write>(
     alloc: Global,
-    line: &mut Line,
+    line: &mut TextLine,
     out: &mut W,
     skips: &'s [Skip],
     offset: usize,
@@ -164,7 +171,7 @@ fn put_skips<'s, W: Write>(
 /// Prints a skip.
 pub(crate) fn put_skip<W: Write>(
     alloc: Global,
-    line: &mut Line,
+    line: &mut TextLine,
     out: &mut W,
     skip: &Skip,
 ) -> Result<(), StreamFault> {
@@ -191,8 +198,9 @@ pub(crate) fn put_messages<W: Write>(
     for seen in messages {
         number = number.saturating_add(1);
         let place = printing.numbers.place(number, channel);
-        if all || output.selection.selects(number, channel, &seen) {
-            put_message(printing, out, output.decoded, &Chosen { place, seen })?;
+        let view = View::of(&seen);
+        if all || output.selection.selects(number, channel, &view) {
+            put_message(printing, out, output.decoded, &place, &view)?;
         }
     }
     Ok(())
@@ -203,32 +211,37 @@ fn put_message<W: Write>(
     printing: &mut Printing,
     out: &mut W,
     decoded: bool,
-    one: &Chosen<'_>,
+    place: &Place,
+    view: &View<'_>,
 ) -> io::Result<()> {
     if !decoded {
         printing.count = printing.count.saturating_add(1);
-        return put_as_dump(&mut printing.line, out, one);
+        return put_as_dump(&mut printing.line, out, place, view);
     }
     if printing.count == 0 {
         write_columns(&mut printing.line, out)?;
     }
     printing.count = printing.count.saturating_add(1);
-    write_message(&mut printing.line, out, &one.place, &one.seen)
+    write_message(&mut printing.line, out, place, view)
 }
 
 /// Prints a message as a dump has it.
-fn put_as_dump<W: Write>(line: &mut Line, out: &mut W, one: &Chosen<'_>) -> io::Result<()> {
-    let (place, seen) = (&one.place, &one.seen);
+fn put_as_dump<W: Write>(
+    line: &mut TextLine,
+    out: &mut W,
+    place: &Place,
+    view: &View<'_>,
+) -> io::Result<()> {
     line.hand_on(out)?;
     line.put_labelled(b"message ", place.number);
     line.put_labelled(b" channel ", u64::from(place.channel));
-    line.put_labelled(b" stamp ", seen.stamp);
+    line.put_labelled(b" stamp ", view.stamp());
     line.put(b" block");
-    line.put_word(seen.block);
+    line.put_word(view.block());
     line.put(b" gaps");
-    line.put_word(seen.gaps);
+    line.put_word(view.gaps());
     line.put(b" words");
-    line.put_words(out, seen.words)?;
+    line.put_words(out, view.bytes())?;
     line.end_line();
     Ok(())
 }

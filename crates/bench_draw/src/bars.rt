@@ -5,11 +5,7 @@ use crate::labels::direction;
 use crate::rows::{BAR, Lane};
 use crate::scale::{LEFT, Run, Scale, WORD, end_of, runs_of};
 use bench_decode::{Place, put_details};
-use ch11_f1::Seen;
-use ch11_layout::block::{
-    INVALID_WORD_ERROR, MESSAGE_ERROR, RESPONSE_TIMEOUT, SYNC_TYPE_ERROR, WORD_COUNT_ERROR,
-};
-use ch11_layout::{Role, is_set};
+use ch11_layout::{Role, View};
 use mil_word::{Command, Status};
 use std::alloc::AllocError;
 use std::str;
@@ -41,24 +37,24 @@ pub(crate) fn draw_bar(
     canvas: &mut Canvas,
     lane: &Lane,
     place: &Place,
-    seen: &Seen<'_>,
+    view: &View<'_>,
 ) -> Result<(), AllocError> {
     let scale = &canvas.scale;
     let mut text = String::new(canvas.alloc);
     text.push_str("<g><title>")?;
-    put_details(&mut canvas.details, place, seen);
+    put_details(&mut canvas.details, place, view);
     text.push_str(str::from_utf8(canvas.details.text()).unwrap_or(""))?;
     text.push_str("</title>")?;
     let mut before = 0usize;
-    for run in runs_of(seen) {
+    for run in runs_of(view) {
         if run.words > 0 {
             put_run(&mut text, scale, lane, &run)?;
-            put_words(&mut text, scale, lane, &run, seen, before)?;
+            put_words(&mut text, scale, lane, &run, view, before)?;
         }
         before = before.saturating_add(run.words as usize);
     }
-    if is_set(seen.block, MESSAGE_ERROR) {
-        put_error(&mut text, scale, lane, seen)?;
+    if view.has_error() {
+        put_error(&mut text, scale, lane, view)?;
     }
     text.push_str("</g>\n")?;
     canvas.picture.put(text.as_str())
@@ -88,13 +84,13 @@ fn put_words(
     scale: &Scale,
     lane: &Lane,
     run: &Run,
-    seen: &Seen<'_>,
+    view: &View<'_>,
     before: usize,
 ) -> Result<(), AllocError> {
     let base = lane.bars.saturating_add(15);
-    let first = seen.word(before);
+    let first = view.word(before);
     match run.role {
-        Role::Data => put_data(text, scale, base, run, seen, before),
+        Role::Data => put_data(text, scale, base, run, view, before),
         Role::Command => put_command(text, scale, base, run, Command::of(first)),
         Role::Status => {
             let (middle, wide) = middle_of(scale, run.begin, run.end());
@@ -153,7 +149,7 @@ fn put_data(
     scale: &Scale,
     base: u64,
     run: &Run,
-    seen: &Seen<'_>,
+    view: &View<'_>,
     before: usize,
 ) -> Result<(), AllocError> {
     let (_, wide) = middle_of(scale, run.begin, run.end());
@@ -164,7 +160,7 @@ fn put_data(
     for place in 0..run.words as usize {
         let end = begin.saturating_add(WORD);
         let (middle, _) = middle_of(scale, begin, end);
-        let word = seen.word(before.saturating_add(place));
+        let word = view.word(before.saturating_add(place));
         write!(
             text,
             "<text x=\"{middle}\" y=\"{base}\" class=\"d\">{word:04X}</text>"
@@ -179,10 +175,10 @@ fn put_error(
     text: &mut String,
     scale: &Scale,
     lane: &Lane,
-    seen: &Seen<'_>,
+    view: &View<'_>,
 ) -> Result<(), AllocError> {
-    let left = scale.tenths(seen.stamp);
-    let width = scale.tenths(end_of(seen)).saturating_sub(left);
+    let left = scale.tenths(view.stamp());
+    let width = scale.tenths(end_of(view)).saturating_sub(left);
     let (x, wide) = (LEFT.saturating_add(left / 10), (width / 10).max(2));
     let top = lane.bars.saturating_sub(3);
     write!(
@@ -192,7 +188,7 @@ fn put_error(
     if wide >= KIND {
         let base = lane.bars.saturating_add(BAR + 11);
         write!(text, "<text x=\"{x}\" y=\"{base}\" class=\"e\">")?;
-        put_kinds(text, seen.block, wide)?;
+        put_kinds(text, view, wide)?;
         text.push_str("</text>")?;
     }
     Ok(())
@@ -201,13 +197,13 @@ fn put_error(
 /// How many pixels the letters of a kind of error take.
 const KIND: u64 = 16;
 
-/// Puts the kinds of errors that a block status word tells of, as many as there is room for in so many pixels.
-fn put_kinds(text: &mut String, block: u16, wide: u64) -> Result<(), AllocError> {
+/// Puts the kinds of errors of a message, as many as there is room for in so many pixels.
+fn put_kinds(text: &mut String, view: &View<'_>, wide: u64) -> Result<(), AllocError> {
     let kinds = [
-        (is_set(block, RESPONSE_TIMEOUT), "NR "),
-        (is_set(block, WORD_COUNT_ERROR), "WC "),
-        (is_set(block, SYNC_TYPE_ERROR), "SY "),
-        (is_set(block, INVALID_WORD_ERROR), "UW "),
+        (view.has_response_timeout(), "NR "),
+        (view.has_word_count_error(), "WC "),
+        (view.has_sync_type_error(), "SY "),
+        (view.has_invalid_word_error(), "UW "),
     ];
     let mut used = 0u64;
     for (told, kind) in kinds {

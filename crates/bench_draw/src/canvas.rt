@@ -2,7 +2,7 @@
 
 use crate::picture::Picture;
 use crate::scale::Scale;
-use bench_decode::Line;
+use bench_decode::TextLine;
 use bench_select::Selection;
 use std::alloc::Global;
 
@@ -13,5 +13,5 @@ pub(crate) struct Canvas {
     pub(crate) selection: Selection,
     pub(crate) scale: Scale,
     pub(crate) picture: Picture,
-    pub(crate) details: Line,
+    pub(crate) details: TextLine,
 }

@@ -16,7 +16,7 @@ use crate::picture::{MOST_BYTES, Picture};
 use crate::rows::Rows;
 use crate::scale::Scale;
 use bench_clock::Clock;
-use bench_decode::{Line, Shown};
+use bench_decode::{Shown, TextLine};
 use bench_select::Selection;
 use bench_watch::Reopen;
 use ch11_reader::Index;
@@ -106,7 +106,7 @@ fn draw_extent<D: Drawn>(
         selection: *selection,
         scale,
         picture,
-        details: Line::new(alloc, Shown::Plain)?,
+        details: TextLine::new(alloc, Shown::Plain)?,
     };
     draw_channels(&mut canvas, recording, &rows, extent.channels.as_slice())?;
     Ok(canvas.picture.end()?)

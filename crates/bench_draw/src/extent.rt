@@ -7,7 +7,8 @@ ghost use Rattle.std.specs.Prelude.{◌≡◌, ◌+◌, ◌<◌, ◌^◌, ℕ, L
 use crate::rows::Rows;
 use crate::scale::{Scale, end_of};
 use bench_select::Selection;
-use ch11_f1::{Messages, Seen};
+use ch11_f1::Messages;
+use ch11_layout::View;
 use ch11_reader::{Index, Packet};
 use ch11_stream::{Advance, Packets, StreamFault};
 use std::alloc::{AllocError, Global};
@@ -132,9 +133,10 @@ fn widen_by(
     let mut rest = messages;
     'messages: while let Some(seen) = rest.next() {
         number += 1;
-        if selection.selects(number, channel, &seen) {
+        let view = View::of(&seen);
+        if selection.selects(number, channel, &view) {
             found += 1;
-            widen(extent, channel, &seen)?;
+            widen(extent, channel, &view)?;
         }
     }
     let total = extent.messages.saturating_add(found);
@@ -143,12 +145,12 @@ fn widen_by(
 }
 
 /// The extent with one more message, which is not counted yet.
-fn widen(extent: &mut Extent, channel: u16, seen: &Seen<'_>) -> Result<(), AllocError>
+fn widen(extent: &mut Extent, channel: u16, view: &View<'_>) -> Result<(), AllocError>
     ensures { extent.new.messages ≡ extent.old.messages }
 {
-    let end = end_of(seen);
-    let ticks = end.saturating_sub(seen.stamp);
-    extent.begin = extent.begin.min(seen.stamp);
+    let end = end_of(view);
+    let ticks = end.saturating_sub(view.stamp());
+    extent.begin = extent.begin.min(view.stamp());
     extent.end = extent.end.max(end);
     extent.shortest = extent.shortest.min(ticks);
     extent.longest = extent.longest.max(ticks);

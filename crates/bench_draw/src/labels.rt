@@ -5,7 +5,7 @@ ghost use Rattle.std.specs.Prelude.{◌≤◌};
 use crate::picture::Picture;
 use crate::rows::Lane;
 use crate::scale::{LEFT, WIDTH};
-use bench_decode::Form;
+use ch11_layout::RecordedForm;
 use std::alloc::{AllocError, Global};
 
 /// How many pixels a label takes at most: 24 of them stand side by side.
@@ -25,7 +25,7 @@ const MOST: usize = 400;
 pub(crate) struct Label {
     pub(crate) at: u64,
     pub(crate) number: u64,
-    pub(crate) form: Form,
+    pub(crate) form: RecordedForm,
 }
 
 /// The labels of a lane, in the order of its messages.
@@ -89,7 +89,7 @@ pub(crate) fn place_of(wanted: u64, free: u64, labels: u64) -> u64
 fn width_of(label: &Label) -> u64 {
     let is_short = matches!(
         label.form,
-        Form::Receive { .. } | Form::Transmit { .. } | Form::Between { .. }
+        RecordedForm::Receive { .. } | RecordedForm::Transmit { .. } | RecordedForm::Between { .. }
     );
     if is_short && label.number < LONG_NUMBER {
         NARROW
@@ -138,47 +138,47 @@ fn draw_label(
 }
 
 /// Puts who is called: the address, T or R and the subaddress of a command, or that it is to all terminals.
-fn put_who(text: &mut String, form: Form) -> Result<(), AllocError> {
+fn put_who(text: &mut String, form: RecordedForm) -> Result<(), AllocError> {
     match form {
-        Form::Receive {
+        RecordedForm::Receive {
             address,
             subaddress,
             ..
         } => write!(text, "{address} R {subaddress}")?,
-        Form::Transmit {
+        RecordedForm::Transmit {
             address,
             subaddress,
             ..
         } => write!(text, "{address} T {subaddress}")?,
-        Form::Between {
+        RecordedForm::Between {
             receiver,
             receiver_subaddress,
             ..
         } => write!(text, "{receiver} R {receiver_subaddress}")?,
-        Form::Mode {
+        RecordedForm::Mode {
             address,
             transmit,
             ..
         } => write!(text, "{address} {}", direction(transmit))?,
-        Form::ReceiveAll { .. } | Form::BetweenAll { .. } | Form::ModeAll { .. } => {
-            text.push_str("broadcast")?
-        }
-        Form::Unknown => text.push_str("no form")?,
+        RecordedForm::ReceiveAll { .. }
+        | RecordedForm::BetweenAll { .. }
+        | RecordedForm::ModeAll { .. } => { text.push_str("broadcast")? }
+        RecordedForm::Unknown => text.push_str("no form")?,
     }
     Ok(())
 }
 
 /// Puts what else there is of a message: the sender of a transfer, a mode code, what all terminals are to receive.
-fn put_what(text: &mut String, form: Form) -> Result<(), AllocError> {
+fn put_what(text: &mut String, form: RecordedForm) -> Result<(), AllocError> {
     match form {
-        Form::Between {
+        RecordedForm::Between {
             sender,
             sender_subaddress,
             ..
         } => write!(text, "{sender} T {sender_subaddress}")?,
-        Form::Mode { code, .. } => write!(text, "mode {code}")?,
-        Form::ReceiveAll { subaddress, .. } => write!(text, "R {subaddress}")?,
-        Form::BetweenAll {
+        RecordedForm::Mode { code, .. } => write!(text, "mode {code}")?,
+        RecordedForm::ReceiveAll { subaddress, .. } => write!(text, "R {subaddress}")?,
+        RecordedForm::BetweenAll {
             sender,
             sender_subaddress,
             receiver_subaddress,
@@ -187,10 +187,10 @@ fn put_what(text: &mut String, form: Form) -> Result<(), AllocError> {
             text,
             "R {receiver_subaddress}, {sender} T {sender_subaddress}"
         )?,
-        Form::ModeAll { transmit, code, .. } => {
+        RecordedForm::ModeAll { transmit, code, .. } => {
             write!(text, "{} mode {code}", direction(transmit))?
         }
-        Form::Receive { .. } | Form::Transmit { .. } | Form::Unknown => {}
+        RecordedForm::Receive { .. } | RecordedForm::Transmit { .. } | RecordedForm::Unknown => {}
     }
     Ok(())
 }

@@ -9,10 +9,9 @@ use crate::load::Load;
 use crate::rhythm::Rhythm;
 use crate::rows::{Lane, Rows};
 use crate::scale::end_of;
-use bench_decode::{Form, Place};
-use ch11_f1::{Messages, Seen};
-use ch11_layout::block::{LINE_B, MESSAGE_ERROR};
-use ch11_layout::is_set;
+use bench_decode::Place;
+use ch11_f1::Messages;
+use ch11_layout::View;
 use ch11_reader::Packet;
 use std::alloc::{AllocError, Global};
 
@@ -119,13 +118,14 @@ pub(crate) fn draw_messages(
     'messages: while let Some(seen) = rest.next() {
         number = number.saturating_add(1);
         lanes.passed = lanes.passed.saturating_add(1);
-        if canvas.selection.selects(number, channel, &seen) {
+        let view = View::of(&seen);
+        if canvas.selection.selects(number, channel, &view) {
             let place = Place {
                 number,
                 channel,
                 in_channel: lanes.passed,
             };
-            draw_message(canvas, lanes, &place, &seen)?;
+            draw_message(canvas, lanes, &place, &view)?;
         }
     }
     Ok(())
@@ -136,29 +136,29 @@ fn draw_message(
     canvas: &mut Canvas,
     lanes: &mut Lanes,
     place: &Place,
-    seen: &Seen<'_>,
+    view: &View<'_>,
 ) -> Result<(), AllocError> {
     let rows = lanes.rows;
-    let end = end_of(seen);
-    lanes.rhythm.add(canvas.alloc, seen, end)?;
-    let bus = if is_set(seen.block, LINE_B) {
+    let end = end_of(view);
+    lanes.rhythm.add(canvas.alloc, view, end)?;
+    let bus = if view.is_on_line_b() {
         &mut lanes.on_b
     } else {
         &mut lanes.on_a
     };
     if rows.load {
-        bus.load.add(&canvas.scale, seen.stamp, end);
+        bus.load.add(&canvas.scale, view.stamp(), end);
     }
-    if rows.all || is_bar(&canvas.scale, end.saturating_sub(seen.stamp)) {
+    if rows.all || is_bar(&canvas.scale, end.saturating_sub(view.stamp())) {
         bus.labels.add(Label {
-            at: canvas.scale.tenths(seen.stamp) / 10,
+            at: canvas.scale.tenths(view.stamp()) / 10,
             number: place.number,
-            form: Form::of(seen),
+            form: view.form(),
         })?;
-        return draw_bar(canvas, &bus.lane, place, seen);
+        return draw_bar(canvas, &bus.lane, place, view);
     }
-    if is_set(seen.block, MESSAGE_ERROR) {
-        bus.load.fail(&canvas.scale, seen.stamp, place.number);
+    if view.has_error() {
+        bus.load.fail(&canvas.scale, view.stamp(), place.number);
     }
     Ok(())
 }

@@ -3,9 +3,7 @@ ghost use Rattle.bench_draw.specs.Rhythm.{is_near};
 ghost use Rattle.std.specs.Prelude.{◌≡◌};
 
 use crate::scale::Scale;
-use ch11_f1::Seen;
-use ch11_layout::block::{LINE_B, TERMINAL_TO_TERMINAL};
-use ch11_layout::is_set;
+use ch11_layout::View;
 use std::alloc::{AllocError, Global};
 
 /// How many commands of a channel are followed: the first of them.
@@ -26,16 +24,12 @@ struct Called {
 }
 
 impl Called {
-    fn of(seen: &Seen<'_>) -> Called {
-        let second = if is_set(seen.block, TERMINAL_TO_TERMINAL) {
-            seen.word(1)
-        } else {
-            0
-        };
+    fn of(view: &View<'_>) -> Called {
+        let second = if view.is_transfer() { view.word(1) } else { 0 };
         Called {
-            first: seen.word(0),
+            first: view.word(0),
             second,
-            line_b: is_set(seen.block, LINE_B),
+            line_b: view.is_on_line_b(),
         }
     }
 }
@@ -99,25 +93,25 @@ impl Rhythm {
     pub(crate) fn add(
         &mut self,
         alloc: Global,
-        seen: &Seen<'_>,
+        view: &View<'_>,
         end: u64,
     ) -> Result<(), AllocError> {
         // (in front of the first there is no time that is known)
         let pause = if self.latest == u64::MAX {
             u64::MAX
         } else {
-            seen.stamp.saturating_sub(self.latest)
+            view.stamp().saturating_sub(self.latest)
         };
         self.latest = end;
-        let called = Called::of(seen);
+        let called = Called::of(view);
         for command in self.commands.iter_mut() {
             if command.called == called {
-                return command.add(seen.stamp, pause);
+                return command.add(view.stamp(), pause);
             }
         }
         if self.commands.len() < COMMANDS {
             let mut begins = Vec::new(alloc);
-            begins.push(seen.stamp)?;
+            begins.push(view.stamp())?;
             self.commands.push(Recurring {
                 called,
                 begins,

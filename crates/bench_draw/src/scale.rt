@@ -1,8 +1,6 @@
 //! Times as places in the picture.
 
-use ch11_f1::Seen;
-use ch11_layout::block::TERMINAL_TO_TERMINAL;
-use ch11_layout::{Layout, Role, first_gap, is_set, second_gap};
+use ch11_layout::{Role, View};
 use mil_word::timing::{CONTIGUOUS_GAP, WORD_TIME};
 
 /// How many pixels the time takes from left to right.
@@ -98,18 +96,12 @@ fn pause(gap: u8) -> u64 {
 
 /// The runs of a message: a command, a second one, a status word in front of the data words, data words, a status
 /// word behind them. Runs without words are there too.
-pub(crate) fn runs_of(seen: &Seen<'_>) -> [Run; 5] {
-    let layout = Layout::of(seen);
-    let between = is_set(seen.block, TERMINAL_TO_TERMINAL);
+pub(crate) fn runs_of(view: &View<'_>) -> [Run; 5] {
+    let layout = view.layout();
     let front = layout.data_start.saturating_sub(layout.commands) as u64;
     let back = layout.words.saturating_sub(layout.data_end) as u64;
-    let last = if between {
-        second_gap(seen)
-    } else {
-        first_gap(seen)
-    };
     let command = Run {
-        begin: seen.stamp,
+        begin: view.stamp(),
         words: layout.commands.min(1) as u64,
         role: Role::Command,
     };
@@ -119,9 +111,11 @@ pub(crate) fn runs_of(seen: &Seen<'_>) -> [Run; 5] {
         role: Role::Command,
     };
     let status = Run {
-        begin: second
-            .end()
-            .saturating_add(if front > 0 { pause(first_gap(seen)) } else { 0 }),
+        begin: second.end().saturating_add(if front > 0 {
+            pause(view.first_gap())
+        } else {
+            0
+        }),
         words: front,
         role: Role::Status,
     };
@@ -133,7 +127,7 @@ pub(crate) fn runs_of(seen: &Seen<'_>) -> [Run; 5] {
     let reply = Run {
         begin: carried
             .end()
-            .saturating_add(if back > 0 { pause(last) } else { 0 }),
+            .saturating_add(if back > 0 { pause(view.last_gap()) } else { 0 }),
         words: back,
         role: Role::Status,
     };
@@ -141,7 +135,7 @@ pub(crate) fn runs_of(seen: &Seen<'_>) -> [Run; 5] {
 }
 
 /// The end of a message, in ticks.
-pub(crate) fn end_of(seen: &Seen<'_>) -> u64 {
-    let [_, _, _, _, last] = runs_of(seen);
+pub(crate) fn end_of(view: &View<'_>) -> u64 {
+    let [_, _, _, _, last] = runs_of(view);
     last.end()
 }

@@ -1,16 +1,14 @@
 //! The changes of the lines of a recording over time.
 ghost use Rattle.bench_export.specs.Changes as spec;
 ghost use Rattle.bench_export.specs.Moments as moments;
-ghost use Rattle.ch11_f1.specs.Views.{message_of};
-ghost use Rattle.ch11_layout.specs.Layouts.{layout_of, size_of};
+ghost use Rattle.ch11_layout.specs.Layouts.{size_of};
 ghost use Rattle.std.specs.Prelude.{◌≡◌, ◌+◌, ◌<◌, ◌^◌, ◌++◌, ◌==◌, ◌&&◌, nat_lt, length, OnOk};
 
 use crate::moments::{WORD, begin_of};
 use crate::place::Place;
 use bench_select::Selection;
-use ch11_f1::{Messages, Seen};
-use ch11_layout::block::{LINE_B, MESSAGE_ERROR};
-use ch11_layout::{Layout, Role, is_set};
+use ch11_f1::Messages;
+use ch11_layout::{Role, View};
 use ch11_reader::Packet;
 use mil_word::Command;
 use std::alloc::AllocError;
@@ -44,54 +42,54 @@ pub struct Change {
 }
 
 /// The terminal of the word at a place.
-fn terminal_at(seen: &Seen<'_>, layout: &Layout, place: usize) -> u8
-    requires { layout.now ≡ layout_of (message_of seen.now) }
-    ensures { result ≡ spec.terminal_at (message_of seen.now) place }
+fn terminal_at(view: &View<'_>, place: usize) -> u8
+    ensures { result ≡ spec.terminal_at view.now place }
 {
+    let layout = view.layout();
     let teller = match layout.role(place) {
         Role::Command | Role::Status => place,
         Role::Data => layout.data_start.saturating_sub(1),
     };
-    Command::of(seen.word(teller)).address()
+    Command::of(view.word(teller)).address()
 }
 
 /// The word at a place.
-fn driven_at(seen: &Seen<'_>, layout: &Layout, number: u64, place: usize) -> Driven
-    requires { layout.now ≡ layout_of (message_of seen.now) }
-    ensures { result ≡ spec.driven_at number (message_of seen.now) place }
+fn driven_at(view: &View<'_>, number: u64, place: usize) -> Driven
+    ensures { result ≡ spec.driven_at number view.now place }
 {
+    let layout = view.layout();
     Driven {
-        word: seen.word(place),
+        word: view.word(place),
         role: layout.role(place),
-        terminal: terminal_at(seen, layout, place),
+        terminal: terminal_at(view, place),
         number,
     }
 }
 
 /// A change of the line of a message.
 fn change_of(
-    seen: &Seen<'_>,
+    view: &View<'_>,
     channel: u16,
     tick: u128,
     driven: Option<Driven>,
     error: Option<bool>,
 ) -> Change
-    ensures { result ≡ spec.change_of (message_of seen.now) channel tick driven error }
+    ensures { result ≡ spec.change_of view.now channel tick driven error }
 {
     Change {
         tick,
         channel,
-        on_b: is_set(seen.block, LINE_B),
+        on_b: view.is_on_line_b(),
         driven,
         error,
     }
 }
 
 /// Whether a message with an error begins with the word at a place.
-fn error_begun(seen: &Seen<'_>, place: usize) -> Option<bool>
-    ensures { result ≡ spec.error_begun (message_of seen.now) place }
+fn error_begun(view: &View<'_>, place: usize) -> Option<bool>
+    ensures { result ≡ spec.error_begun view.now place }
 {
-    if is_set(seen.block, MESSAGE_ERROR) && place == 0 {
+    if view.has_error() && place == 0 {
         Some(true)
     } else {
         None
@@ -99,12 +97,12 @@ fn error_begun(seen: &Seen<'_>, place: usize) -> Option<bool>
 }
 
 /// Whether a message with an error is over behind the word at a place.
-fn error_over(seen: &Seen<'_>, layout: &Layout, place: usize) -> Option<bool>
-    requires layout { layout.now ≡ layout_of (message_of seen.now) }
-    requires within { place < layout.now.words }
-    ensures { result ≡ spec.error_over (message_of seen.now) place }
+fn error_over(view: &View<'_>, place: usize) -> Option<bool>
+    requires { place < size_of view.now }
+    ensures { result ≡ spec.error_over view.now place }
 {
-    if is_set(seen.block, MESSAGE_ERROR) && place + 1 == layout.words {
+    let layout = view.layout();
+    if view.has_error() && place + 1 == layout.words {
         Some(false)
     } else {
         None
@@ -112,13 +110,13 @@ fn error_over(seen: &Seen<'_>, layout: &Layout, place: usize) -> Option<bool>
 }
 
 /// Whether the word behind the one at a place begins at a tick.
-fn goes_on(seen: &Seen<'_>, layout: &Layout, place: usize, end: u128) -> bool
-    requires layout { layout.now ≡ layout_of (message_of seen.now) }
-    requires within { place < layout.now.words }
-    ensures { result ≡ (nat_lt (place + 1) (size_of (message_of seen.now))
-        && (moments.begin_of (message_of seen.now) (place + 1) == end)) }
+fn goes_on(view: &View<'_>, place: usize, end: u128) -> bool
+    requires { place < size_of view.now }
+    ensures { result ≡ (nat_lt (place + 1) (size_of view.now)
+        && (moments.begin_of view.now (place + 1) == end)) }
 {
-    place + 1 < layout.words && begin_of(seen, layout, place + 1) == end
+    let layout = view.layout();
+    place + 1 < layout.words && begin_of(view, place + 1) == end
 }
 
 /// Adds the changes of the word at a place.
@@ -126,25 +124,23 @@ fn goes_on(seen: &Seen<'_>, layout: &Layout, place: usize, end: u128) -> bool
 fn push_word(
     changes: &mut Vec<Change>,
     message: Place,
-    seen: &Seen<'_>,
-    layout: &Layout,
+    view: &View<'_>,
     place: usize,
 ) -> Result<(), AllocError>
-    requires layout { layout.now ≡ layout_of (message_of seen.now) }
-    requires within { place < layout.now.words }
+    requires { place < size_of view.now }
     ensures { OnOk result (changes.new.items
-        ≡ changes.old.items ++ spec.changes_at message.number message.channel (message_of seen.now) place) }
+        ≡ changes.old.items ++ spec.changes_at message.number message.channel view.now place) }
 {
-    let begin = begin_of(seen, layout, place);
+    let begin = begin_of(view, place);
     let end = begin + WORD;
-    let driven = driven_at(seen, layout, message.number, place);
-    let begun = error_begun(seen, place);
-    changes.push(change_of(seen, message.channel, begin, Some(driven), begun))?;
-    if goes_on(seen, layout, place, end) {
+    let driven = driven_at(view, message.number, place);
+    let begun = error_begun(view, place);
+    changes.push(change_of(view, message.channel, begin, Some(driven), begun))?;
+    if goes_on(view, place, end) {
         return Ok(());
     }
-    let over = error_over(seen, layout, place);
-    changes.push(change_of(seen, message.channel, end, None, over))?;
+    let over = error_over(view, place);
+    changes.push(change_of(view, message.channel, end, None, over))?;
     Ok(())
 }
 
@@ -152,14 +148,14 @@ fn push_word(
 fn push_message(
     changes: &mut Vec<Change>,
     message: Place,
-    seen: &Seen<'_>,
+    view: &View<'_>,
 ) -> Result<(), AllocError>
     ensures { OnOk result (changes.new.items
-        ≡ changes.old.items ++ spec.changes_of message.number message.channel (message_of seen.now)) }
+        ≡ changes.old.items ++ spec.changes_of message.number message.channel view.now) }
 {
-    let layout = Layout::of(seen);
+    let layout = view.layout();
     'words: for place in 0..layout.words {
-        push_word(changes, message, seen, &layout, place)?;
+        push_word(changes, message, view, place)?;
     }
     Ok(())
 }
@@ -170,15 +166,15 @@ fn push_selected(
     changes: &mut Vec<Change>,
     selection: &Selection,
     message: Place,
-    seen: &Seen<'_>,
+    view: &View<'_>,
 ) -> Result<(), AllocError>
     ensures { OnOk result (changes.new.items
-        ≡ changes.old.items ++ spec.changes_if selection.now message.number message.channel (message_of seen.now)) }
+        ≡ changes.old.items ++ spec.changes_if selection.now message.number message.channel view.now) }
 {
-    if !selection.selects(message.number, message.channel, seen) {
+    if !selection.selects(message.number, message.channel, view) {
         return Ok(());
     }
-    push_message(changes, message, seen)
+    push_message(changes, message, view)
 }
 
 /// Adds the changes of a packet's selected messages.
@@ -197,7 +193,12 @@ pub(crate) fn push_messages(
     let mut rest = messages;
     'messages: while let Some(seen) = rest.next() {
         number += 1;
-        push_selected(changes, selection, Place { number, channel }, &seen)?;
+        push_selected(
+            changes,
+            selection,
+            Place { number, channel },
+            &View::of(&seen),
+        )?;
     }
     Ok(())
 }

@@ -4,6 +4,7 @@ ghost use Rattle.std.specs.Prelude.{◌≡◌, ◌+◌, ◌<◌, ◌^◌, length
 
 use bench_select::Selection;
 use ch11_f1::Messages;
+use ch11_layout::View;
 use ch11_reader::{Index, Packet};
 
 /// Whether a packet's messages have a selected one.
@@ -17,7 +18,7 @@ pub(crate) fn selects_among(selection: &Selection, packet: &Packet, messages: Me
     let mut rest = messages;
     'messages: while let Some(seen) = rest.next() {
         number += 1;
-        if selection.selects(number, channel, &seen) {
+        if selection.selects(number, channel, &View::of(&seen)) {
             return true;
         }
     }

@@ -1,7 +1,5 @@
 //! The columns of a message for data frames.
 ghost use Rattle.bench_export.specs.Frames as spec;
-ghost use Rattle.ch11_f1.specs.Views.{message_of};
-ghost use Rattle.ch11_layout.specs.Layouts.{layout_of};
 ghost use Rattle.std.specs.Prelude.{◌≡◌, ◌++◌, OnOk};
 
 use crate::fields::{form_name, line_name, push_called};
@@ -9,9 +7,7 @@ use crate::flags::{push_error_flags, push_status_flags};
 use crate::row::Row;
 use crate::texts::{push_gap, push_number};
 use crate::values::push_word;
-use ch11_f1::Seen;
-use ch11_layout::block::TERMINAL_TO_TERMINAL;
-use ch11_layout::{Layout, first_gap, is_set, second_gap};
+use ch11_layout::View;
 use mil_word::Command;
 use mil_word::fields::MOST_WORDS;
 use std::alloc::AllocError;
@@ -33,14 +29,14 @@ pub(crate) fn push_columns(
     row: &mut Row,
     text: &mut Vec<u8>,
     prefixed: bool,
-    seen: &Seen<'_>,
+    view: &View<'_>,
 ) -> Result<(), AllocError>
-    ensures { OnOk result (row.new ≡ row.old ++ spec.frame_row prefixed (message_of seen.now)) }
+    ensures { OnOk result (row.new ≡ row.old ++ spec.frame_row prefixed view.now) }
 {
-    push_sent_columns(row, seen)?;
-    push_called(row, seen)?;
-    push_answered_columns(row, text, prefixed, seen)?;
-    push_carried_columns(row, text, prefixed, seen)?;
+    push_sent_columns(row, view)?;
+    push_called(row, view)?;
+    push_answered_columns(row, text, prefixed, view)?;
+    push_carried_columns(row, text, prefixed, view)?;
     Ok(())
 }
 
@@ -49,39 +45,38 @@ fn push_carried_columns(
     row: &mut Row,
     text: &mut Vec<u8>,
     prefixed: bool,
-    seen: &Seen<'_>,
+    view: &View<'_>,
 ) -> Result<(), AllocError>
-    ensures { OnOk result (row.new ≡ row.old ++ spec.carried_columns prefixed (message_of seen.now)) }
+    ensures { OnOk result (row.new ≡ row.old ++ spec.carried_columns prefixed view.now) }
 {
-    let layout = Layout::of(seen);
-    push_status_flags(
+    let layout = view.layout();
+    push_status_flags(row, first_status(view), second_status(view))?;
+    push_error_flags(row, view.block())?;
+    push_number(
         row,
-        first_status(seen, &layout),
-        second_status(seen, &layout),
+        layout.data_end.saturating_sub(layout.data_start) as u64,
     )?;
-    push_error_flags(row, seen.block)?;
-    push_number(row, (layout.data_end - layout.data_start) as u64)?;
-    push_data_columns(row, text, prefixed, seen, &layout)?;
+    push_data_columns(row, text, prefixed, view)?;
     Ok(())
 }
 
 /// How a message was sent.
-fn push_sent_columns(row: &mut Row, seen: &Seen<'_>) -> Result<(), AllocError>
-    ensures { OnOk result (row.new ≡ row.old ++ spec.sent_columns (message_of seen.now)) }
+fn push_sent_columns(row: &mut Row, view: &View<'_>) -> Result<(), AllocError>
+    ensures { OnOk result (row.new ≡ row.old ++ spec.sent_columns view.now) }
 {
-    row.push(line_name(seen))?;
-    row.push(form_name(seen))?;
-    row.push(direction_name(seen))
+    row.push(line_name(view))?;
+    row.push(form_name(view))?;
+    row.push(direction_name(view))
 }
 
 /// The T/R bit of the first command.
-fn direction_name(seen: &Seen<'_>) -> &'static [u8]
-    ensures { result.now ≡ spec.direction_text (message_of seen.now) }
+fn direction_name(view: &View<'_>) -> &'static [u8]
+    ensures { result.now ≡ spec.direction_text view.now }
 {
-    let layout = Layout::of(seen);
+    let layout = view.layout();
     if layout.commands == 0 {
         b""
-    } else if Command::of(seen.word(0)).is_transmit() {
+    } else if Command::of(view.word(0)).is_transmit() {
         b"T"
     } else {
         b"R"
@@ -89,26 +84,26 @@ fn direction_name(seen: &Seen<'_>) -> &'static [u8]
 }
 
 /// The status word of the first reply.
-fn first_status(seen: &Seen<'_>, layout: &Layout) -> Option<u16>
-    requires { layout.now ≡ layout_of (message_of seen.now) }
-    ensures { result ≡ spec.first_status (message_of seen.now) }
+fn first_status(view: &View<'_>) -> Option<u16>
+    ensures { result ≡ spec.first_status view.now }
 {
+    let layout = view.layout();
     if layout.commands < layout.data_start {
-        Some(seen.word(layout.commands))
-    } else if !is_set(seen.block, TERMINAL_TO_TERMINAL) && layout.data_end < layout.words {
-        Some(seen.word(layout.data_end))
+        Some(view.word(layout.commands))
+    } else if !view.is_transfer() && layout.data_end < layout.words {
+        Some(view.word(layout.data_end))
     } else {
         None
     }
 }
 
 /// The status word of the second reply.
-fn second_status(seen: &Seen<'_>, layout: &Layout) -> Option<u16>
-    requires { layout.now ≡ layout_of (message_of seen.now) }
-    ensures { result ≡ spec.second_status (message_of seen.now) }
+fn second_status(view: &View<'_>) -> Option<u16>
+    ensures { result ≡ spec.second_status view.now }
 {
-    if is_set(seen.block, TERMINAL_TO_TERMINAL) && layout.data_end < layout.words {
-        Some(seen.word(layout.data_end))
+    let layout = view.layout();
+    if view.is_transfer() && layout.data_end < layout.words {
+        Some(view.word(layout.data_end))
     } else {
         None
     }
@@ -119,24 +114,23 @@ fn push_answered_columns(
     row: &mut Row,
     text: &mut Vec<u8>,
     prefixed: bool,
-    seen: &Seen<'_>,
+    view: &View<'_>,
 ) -> Result<(), AllocError>
-    ensures { OnOk result (row.new ≡ row.old ++ spec.answered_columns prefixed (message_of seen.now)) }
+    ensures { OnOk result (row.new ≡ row.old ++ spec.answered_columns prefixed view.now) }
 {
-    let layout = Layout::of(seen);
-    push_gap(row, text, first_gap(seen))?;
-    push_gap(row, text, second_gap(seen))?;
-    push_word(row, text, prefixed, first_status(seen, &layout))?;
-    push_word(row, text, prefixed, second_status(seen, &layout))
+    push_gap(row, text, view.first_gap())?;
+    push_gap(row, text, view.second_gap())?;
+    push_word(row, text, prefixed, first_status(view))?;
+    push_word(row, text, prefixed, second_status(view))
 }
 
 /// The data word at a place of the data words.
-fn data_word(seen: &Seen<'_>, layout: &Layout, place: usize) -> Option<u16>
-    requires { layout.now ≡ layout_of (message_of seen.now) }
-    ensures { result ≡ spec.data_word (message_of seen.now) place }
+fn data_word(view: &View<'_>, place: usize) -> Option<u16>
+    ensures { result ≡ spec.data_word view.now place }
 {
+    let layout = view.layout();
     if place < layout.data_end - layout.data_start {
-        Some(seen.word(layout.data_start + place))
+        Some(view.word(layout.data_start + place))
     } else {
         None
     }
@@ -147,14 +141,12 @@ fn push_data_columns(
     row: &mut Row,
     text: &mut Vec<u8>,
     prefixed: bool,
-    seen: &Seen<'_>,
-    layout: &Layout,
+    view: &View<'_>,
 ) -> Result<(), AllocError>
-    requires { layout.now ≡ layout_of (message_of seen.now) }
-    ensures { OnOk result (row.new ≡ row.old ++ spec.data_fields DATA_COLUMNS prefixed (message_of seen.now)) }
+    ensures { OnOk result (row.new ≡ row.old ++ spec.data_fields DATA_COLUMNS prefixed view.now) }
 {
     'words: for place in 0..DATA_COLUMNS {
-        push_word(row, text, prefixed, data_word(seen, layout, place))?;
+        push_word(row, text, prefixed, data_word(view, place))?;
     }
     Ok(())
 }

@@ -1,14 +1,10 @@
 //! The fields of a message.
 ghost use Rattle.bench_export.specs.Rows as spec;
-ghost use Rattle.ch11_f1.specs.Views.{message_of};
-ghost use Rattle.ch11_layout.specs.Layouts.{layout_of};
 ghost use Rattle.std.specs.Prelude.{◌≡◌, ◌++◌, ◌∷◌, ◌-◌, ◌*◌, ◌≤◌, [], length, OnOk};
 
 use crate::row::Row;
 use crate::texts::{push_block, push_gap, push_number, push_words};
-use ch11_f1::Seen;
-use ch11_layout::block::LINE_B;
-use ch11_layout::{Layout, first_gap, is_set, second_gap};
+use ch11_layout::View;
 use mil_word::Command;
 use std::alloc::AllocError;
 
@@ -16,44 +12,40 @@ use std::alloc::AllocError;
 pub(crate) fn push_fields(
     row: &mut Row,
     text: &mut Vec<u8>,
-    seen: &Seen<'_>,
+    view: &View<'_>,
 ) -> Result<(), AllocError>
-    ensures { OnOk result (row.new ≡ row.old ++ spec.row_of (message_of seen.now)) }
+    ensures { OnOk result (row.new ≡ row.old ++ spec.row_of view.now) }
 {
-    push_sent(row, seen)?;
-    push_called(row, seen)?;
-    push_answered(row, text, seen)?;
+    push_sent(row, view)?;
+    push_called(row, view)?;
+    push_answered(row, text, view)?;
     Ok(())
 }
 
 /// How a message was sent.
-fn push_sent(row: &mut Row, seen: &Seen<'_>) -> Result<(), AllocError>
-    ensures { OnOk result (row.new ≡ row.old ++ spec.sent_fields (message_of seen.now)) }
+fn push_sent(row: &mut Row, view: &View<'_>) -> Result<(), AllocError>
+    ensures { OnOk result (row.new ≡ row.old ++ spec.sent_fields view.now) }
 {
-    row.push(line_name(seen))?;
-    row.push(form_name(seen))
+    row.push(line_name(view))?;
+    row.push(form_name(view))
 }
 
 /// The line of a message.
-pub(crate) fn line_name(seen: &Seen<'_>) -> &'static [u8]
-    ensures { result.now ≡ spec.message_line_text (message_of seen.now) }
+pub(crate) fn line_name(view: &View<'_>) -> &'static [u8]
+    ensures { result.now ≡ spec.message_line_text view.now }
 {
-    if is_set(seen.block, LINE_B) {
-        b"B"
-    } else {
-        b"A"
-    }
+    if view.is_on_line_b() { b"B" } else { b"A" }
 }
 
 /// The form of a message by its commands (MIL-STD-1553B 4.3.3.6).
-pub(crate) fn form_name(seen: &Seen<'_>) -> &'static [u8]
-    ensures { result.now ≡ spec.form_text (message_of seen.now) }
+pub(crate) fn form_name(view: &View<'_>) -> &'static [u8]
+    ensures { result.now ≡ spec.form_text view.now }
 {
-    let layout = Layout::of(seen);
+    let layout = view.layout();
     if layout.commands == 0 {
         return b"";
     }
-    let first = Command::of(seen.word(0));
+    let first = Command::of(view.word(0));
     let to_all = first.is_broadcast();
     if first.is_mode() {
         if to_all { b"mode broadcast" } else { b"mode" }
@@ -69,20 +61,19 @@ pub(crate) fn form_name(seen: &Seen<'_>) -> &'static [u8]
 }
 
 /// Whom a message calls.
-pub(crate) fn push_called(row: &mut Row, seen: &Seen<'_>) -> Result<(), AllocError>
-    ensures { OnOk result (row.new ≡ row.old ++ spec.called_fields (message_of seen.now)) }
+pub(crate) fn push_called(row: &mut Row, view: &View<'_>) -> Result<(), AllocError>
+    ensures { OnOk result (row.new ≡ row.old ++ spec.called_fields view.now) }
 {
-    let layout = Layout::of(seen);
-    push_receiver(row, seen, &layout)?;
-    push_sender(row, seen, &layout)
+    push_receiver(row, view)?;
+    push_sender(row, view)
 }
 
 /// The fields of the first command.
-fn push_receiver(row: &mut Row, seen: &Seen<'_>, layout: &Layout) -> Result<(), AllocError>
-    requires { layout.now ≡ layout_of (message_of seen.now) }
-    ensures { OnOk result (row.new ≡ row.old ++ spec.first_fields (message_of seen.now)) }
+fn push_receiver(row: &mut Row, view: &View<'_>) -> Result<(), AllocError>
+    ensures { OnOk result (row.new ≡ row.old ++ spec.first_fields view.now) }
 {
-    let first = Command::of(seen.word(0));
+    let layout = view.layout();
+    let first = Command::of(view.word(0));
     let called = layout.commands > 0;
     push_if(row, called, first.address())?;
     push_if(row, called, first.subaddress())?;
@@ -91,11 +82,11 @@ fn push_receiver(row: &mut Row, seen: &Seen<'_>, layout: &Layout) -> Result<(), 
 }
 
 /// The fields of the second command, which calls the sender.
-fn push_sender(row: &mut Row, seen: &Seen<'_>, layout: &Layout) -> Result<(), AllocError>
-    requires { layout.now ≡ layout_of (message_of seen.now) }
-    ensures { OnOk result (row.new ≡ row.old ++ spec.second_fields (message_of seen.now)) }
+fn push_sender(row: &mut Row, view: &View<'_>) -> Result<(), AllocError>
+    ensures { OnOk result (row.new ≡ row.old ++ spec.second_fields view.now) }
 {
-    let second = Command::of(seen.word(1));
+    let layout = view.layout();
+    let second = Command::of(view.word(1));
     let called = layout.commands == 2;
     push_if(row, called, second.address())?;
     push_if(row, called, second.subaddress())
@@ -113,17 +104,17 @@ fn push_if(row: &mut Row, there: bool, number: u8) -> Result<(), AllocError>
 }
 
 /// What was answered. The text is room for a field.
-fn push_answered(row: &mut Row, text: &mut Vec<u8>, seen: &Seen<'_>) -> Result<(), AllocError>
-    ensures { OnOk result (row.new ≡ row.old ++ spec.answered_fields (message_of seen.now)) }
+fn push_answered(row: &mut Row, text: &mut Vec<u8>, view: &View<'_>) -> Result<(), AllocError>
+    ensures { OnOk result (row.new ≡ row.old ++ spec.answered_fields view.now) }
 {
-    let layout = Layout::of(seen);
-    let front = words_between(seen.words, layout.commands, layout.data_start);
-    let back = words_between(seen.words, layout.data_end, layout.words);
-    let carried = words_between(seen.words, layout.data_start, layout.data_end);
+    let layout = view.layout();
+    let front = words_between(view.bytes(), layout.commands, layout.data_start);
+    let back = words_between(view.bytes(), layout.data_end, layout.words);
+    let carried = words_between(view.bytes(), layout.data_start, layout.data_end);
     push_words(row, text, front, back)?;
-    push_block(row, text, seen.block)?;
-    push_gap(row, text, first_gap(seen))?;
-    push_gap(row, text, second_gap(seen))?;
+    push_block(row, text, view.block())?;
+    push_gap(row, text, view.first_gap())?;
+    push_gap(row, text, view.second_gap())?;
     push_words(row, text, carried, b"")
 }
 

@@ -1,7 +1,6 @@
 //! Messages as rows.
 ghost use Rattle.bench_export.specs.Between.{IsBetween, Writes};
 ghost use Rattle.bench_export.specs.Tables.{columns_of, other_columns_of, row_if, rows_text};
-ghost use Rattle.ch11_f1.specs.Views.{message_of};
 ghost use Rattle.csv.specs.Writing as writing;
 ghost use Rattle.std.specs.Prelude.{◌≡◌, ◌+◌, ◌<◌, ◌^◌, ◌++◌, length, OnOk};
 
@@ -13,7 +12,8 @@ use crate::row::Row;
 use crate::stamped::push_stamped;
 use crate::whole::Table;
 use bench_clock::Clock;
-use ch11_f1::{Messages, Seen};
+use ch11_f1::Messages;
+use ch11_layout::View;
 use ch11_reader::Packet;
 use csv::Writer;
 use std::alloc::{AllocError, Global};
@@ -37,13 +37,13 @@ impl Room {
     }
 
     /// Adds the columns of a message behind its time.
-    fn fill_behind(&mut self, columns: Columns, seen: &Seen<'_>) -> Result<(), AllocError>
-        ensures { OnOk result (self.new.row ≡ self.old.row ++ other_columns_of columns (message_of seen.now)) }
+    fn fill_behind(&mut self, columns: Columns, view: &View<'_>) -> Result<(), AllocError>
+        ensures { OnOk result (self.new.row ≡ self.old.row ++ other_columns_of columns view.now) }
     {
         match columns {
-            Columns::Messages => push_fields(&mut self.row, &mut self.text, seen),
+            Columns::Messages => push_fields(&mut self.row, &mut self.text, view),
             Columns::Frames { prefixed } => {
-                push_columns(&mut self.row, &mut self.text, prefixed, seen)
+                push_columns(&mut self.row, &mut self.text, prefixed, view)
             }
         }
     }
@@ -54,15 +54,15 @@ impl Room {
         table: &Table,
         clock: &Clock,
         place: Place,
-        seen: &Seen<'_>,
+        view: &View<'_>,
     ) -> Result<(), AllocError>
         ensures { OnOk result (self.new.row
-            ≡ columns_of table.now clock.now place.number place.channel (message_of seen.now)) }
+            ≡ columns_of table.now clock.now place.number place.channel view.now) }
     {
         let (row, text) = (&mut self.row, &mut self.text);
         row.clear();
-        push_stamped(row, text, table, clock, place, seen)?;
-        self.fill_behind(table.columns, seen)
+        push_stamped(row, text, table, clock, place, view)?;
+        self.fill_behind(table.columns, view)
     }
 }
 
@@ -90,17 +90,17 @@ fn write_selected<W: Write + Drop>(
     table: &Table,
     clock: &Clock,
     place: Place,
-    seen: &Seen<'_>,
+    view: &View<'_>,
 ) -> Result<(), WriteFault>
     requires { IsBetween writer.old }
     ensures between { OnOk result (IsBetween writer.new) }
     ensures written { OnOk result (Writes W.contents writer.old writer.new
-        (row_if table.now clock.now place.number place.channel (message_of seen.now))) }
+        (row_if table.now clock.now place.number place.channel view.now)) }
 {
-    if !table.selection.selects(place.number, place.channel, seen) {
+    if !table.selection.selects(place.number, place.channel, view) {
         return Ok(());
     }
-    room.fill(table, clock, place, seen)?;
+    room.fill(table, clock, place, view)?;
     write_row(writer, &room.row)
 }
 
@@ -124,7 +124,14 @@ pub(crate) fn write_messages<W: Write + Drop>(
     let mut rest = messages;
     'rows: while let Some(seen) = rest.next() {
         number += 1;
-        write_selected(writer, room, table, clock, Place { number, channel }, &seen)?;
+        write_selected(
+            writer,
+            room,
+            table,
+            clock,
+            Place { number, channel },
+            &View::of(&seen),
+        )?;
     }
     Ok(())
 }

@@ -1,7 +1,6 @@
 //! The columns that say which message it is and when it was.
 ghost use Rattle.bench_clock.specs.Time.{time_of};
 ghost use Rattle.bench_export.specs.Stamped as spec;
-ghost use Rattle.ch11_f1.specs.Views.{message_of};
 ghost use Rattle.std.specs.Prelude.{◌≡◌, ◌++◌, ◌∷◌, [], OnOk, option_map};
 
 use crate::columns::Columns;
@@ -11,7 +10,7 @@ use crate::texts::{push_micros, push_number};
 use crate::values::push_seconds;
 use crate::whole::Table;
 use bench_clock::{Clock, TimeOfDay};
-use ch11_f1::Seen;
+use ch11_layout::View;
 use std::alloc::AllocError;
 
 /// A stamp as a field in µs, or in seconds for data frames. The text is room for it.
@@ -35,14 +34,14 @@ fn push_number_columns(
     text: &mut Vec<u8>,
     columns: Columns,
     place: Place,
-    seen: &Seen<'_>,
+    view: &View<'_>,
 ) -> Result<(), AllocError>
     ensures { OnOk result (row.new
-        ≡ row.old ++ spec.number_columns columns place.number place.channel (message_of seen.now)) }
+        ≡ row.old ++ spec.number_columns columns place.number place.channel view.now) }
 {
     push_number(row, place.number)?;
     push_number(row, u64::from(place.channel))?;
-    push_stamp(row, text, columns, seen.stamp)
+    push_stamp(row, text, columns, view.stamp())
 }
 
 /// A time of day as a field, empty where there is none.
@@ -69,12 +68,12 @@ pub(crate) fn push_stamped(
     table: &Table,
     clock: &Clock,
     place: Place,
-    seen: &Seen<'_>,
+    view: &View<'_>,
 ) -> Result<(), AllocError>
     ensures { OnOk result (row.new
         ≡ row.old ++ spec.stamped_columns table.now.columns table.now.timed clock.now place.number place.channel
-        (message_of seen.now)) }
+        view.now) }
 {
-    push_number_columns(row, text, table.columns, place, seen)?;
-    push_time_columns(row, table.timed, clock.at(seen.stamp))
+    push_number_columns(row, text, table.columns, place, view)?;
+    push_time_columns(row, table.timed, clock.at(view.stamp()))
 }

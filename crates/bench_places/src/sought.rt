@@ -5,6 +5,7 @@ ghost use Rattle.std.specs.Prelude.{◌≡◌};
 
 use bench_select::selects_commands;
 use ch11_f1::Seen;
+use ch11_layout::View;
 use judge_rules::Selector;
 
 /// What is asked of a message.
@@ -26,7 +27,7 @@ impl Sought {
         match self {
             Sought::Channel(one) => channel == *one,
             Sought::Later(ticks) => *ticks < seen.stamp,
-            Sought::Commands(selector) => selects_commands(*selector, seen),
+            Sought::Commands(selector) => selects_commands(*selector, &View::of(seen)),
         }
     }
 }

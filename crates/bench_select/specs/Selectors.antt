@@ -5,8 +5,8 @@ use Rattle.mil_word.specs.Fields.{address_of, sub_of, code_of, is_broadcast, is_
 use Rattle.ch11_f1.specs.BodyReading.{Message}
 use Rattle.ch11_layout.specs.BlockStatus.{is_on_line_b}
 use Rattle.ch11_layout.specs.Layouts.{word_of, first_word, commands_in}
-use Rattle.judge_rules.specs.declared.rules.Bus.{Bus}
-use Rattle.judge_rules.specs.declared.rules.Bus.TheVariants as bus
+use Rattle.mil_word.specs.declared.Line.{Line}
+use Rattle.mil_word.specs.declared.Line.TheVariants as line
 use Rattle.judge_rules.specs.declared.rules.Selector.{Selector}
 use Rattle.judge_rules.specs.declared.rules.Selector.TheVariants.{Any, Receive, Transmit, Between, Mode, ReceiveAll}
 use Rattle.judge_rules.specs.declared.rules.Selector.TheVariants.{BetweenAll, ModeAll}
@@ -67,7 +67,7 @@ selects_commands selector m =
     else selects_two selector (first_word m) (second_word m)
 
 -- of the line of the bus, by the block status word
-abbrev pub is_on : Option Bus → ℕ → Bool
+abbrev pub is_on : Option Line → ℕ → Bool
 is_on None block = true
-is_on (Some bus.A) block = not (is_on_line_b block)
-is_on (Some bus.B) block = is_on_line_b block
+is_on (Some line.A) block = not (is_on_line_b block)
+is_on (Some line.B) block = is_on_line_b block

@@ -1,14 +1,12 @@
 //! A selection of messages.
 ghost use Rattle.bench_select.specs.Selecting as spec;
-ghost use Rattle.ch11_f1.specs.Views.{message_of};
 ghost use Rattle.std.specs.Prelude.{◌≡◌};
 
 use crate::bounds::Bound;
 use crate::selectors::{is_of, is_on, selects_commands};
-use ch11_f1::Seen;
-use ch11_layout::block::MESSAGE_ERROR;
-use ch11_layout::is_set;
-use judge_rules::{Bus, Selector};
+use ch11_layout::View;
+use judge_rules::Selector;
+use mil_word::Line;
 
 /// Which messages of a recording are chosen: those that meet all that is said here.
 #[derive(Clone, Copy, Debug, PartialEq, Eq)]
@@ -16,7 +14,7 @@ pub struct Selection {
     /// Of this channel, 1 to 65,535; `None` for all.
     pub channel: Option<u16>,
     /// On this line of the bus; `None` for both.
-    pub line: Option<Bus>,
+    pub line: Option<Line>,
     /// Of these commands; `None` for all.
     pub selector: Option<Selector>,
     /// Only those with an error: block status bit 12.
@@ -43,15 +41,15 @@ impl Selection {
     }
 
     /// Whether the message of this number of the file, counted from 1, on this channel, is chosen.
-    pub fn selects(&self, number: u64, channel: u16, seen: &Seen<'_>) -> bool
-        ensures { result ≡ spec.selects self.now number channel (message_of seen.now) }
+    pub fn selects(&self, number: u64, channel: u16, view: &View<'_>) -> bool
+        ensures { result ≡ spec.selects self.now number channel view.now }
     {
         is_of(self.channel, channel)
-            && is_on(self.line, seen.block)
-            && (!self.errors || is_set(seen.block, MESSAGE_ERROR))
-            && is_from(self.from, number, seen.stamp)
-            && is_up_to(self.to, number, seen.stamp)
-            && is_about(self.selector, seen)
+            && is_on(self.line, view)
+            && (!self.errors || view.has_error())
+            && is_from(self.from, number, view.stamp())
+            && is_up_to(self.to, number, view.stamp())
+            && is_about(self.selector, view)
     }
 }
 
@@ -78,11 +76,11 @@ fn is_up_to(bound: Option<Bound>, number: u64, stamp: u64) -> bool
 }
 
 /// Whether a selector, where there is one, is about a message.
-fn is_about(selector: Option<Selector>, seen: &Seen<'_>) -> bool
-    ensures { result ≡ spec.is_about selector (message_of seen.now) }
+fn is_about(selector: Option<Selector>, view: &View<'_>) -> bool
+    ensures { result ≡ spec.is_about selector view.now }
 {
     match selector {
         None => true,
-        Some(selector) => selects_commands(selector, seen),
+        Some(selector) => selects_commands(selector, view),
     }
 }

@@ -1,14 +1,10 @@
 //! Which messages a selector is about, and which are of a channel and on a line.
 ghost use Rattle.bench_select.specs.Selectors as spec;
-ghost use Rattle.ch11_f1.specs.Views.{message_of};
-ghost use Rattle.ch11_layout.specs.Layouts.{commands_in};
 ghost use Rattle.std.specs.Prelude.{◌≡◌};
 
-use ch11_f1::Seen;
-use ch11_layout::block::{LINE_B, TERMINAL_TO_TERMINAL};
-use ch11_layout::is_set;
-use judge_rules::{Bus, Selector};
-use mil_word::Command;
+use ch11_layout::View;
+use judge_rules::Selector;
+use mil_word::{Command, Line};
 
 /// Whether a number is the one that was chosen; each is where none was.
 fn is_chosen(choice: Option<u8>, number: u8) -> bool
@@ -102,40 +98,26 @@ fn selects_two(selector: Selector, first: Command, second: Command) -> bool
     }
 }
 
-/// How many of a message's words are commands.
-fn commands(seen: &Seen<'_>) -> usize
-    ensures { result ≡ commands_in (message_of seen.now) }
-{
-    let words = seen.word_count();
-    if words == 0 {
-        0
-    } else if is_set(seen.block, TERMINAL_TO_TERMINAL) && words > 1 {
-        2
-    } else {
-        1
-    }
-}
-
 /// Whether a selector is about a message, by its commands: a message without words has none, and is of `any` alone.
-pub fn selects_commands(selector: Selector, seen: &Seen<'_>) -> bool
-    ensures { result ≡ spec.selects_commands selector (message_of seen.now) }
+pub fn selects_commands(selector: Selector, view: &View<'_>) -> bool
+    ensures { result ≡ spec.selects_commands selector view.now }
 {
-    let first = Command::of(seen.word(0));
-    match commands(seen) {
+    let first = Command::of(view.word(0));
+    match view.layout().commands {
         0 => matches!(selector, Selector::Any),
         1 => selects_one(selector, first),
-        _ => selects_two(selector, first, Command::of(seen.word(1))),
+        _ => selects_two(selector, first, Command::of(view.word(1))),
     }
 }
 
-/// Whether a message of this block status word was on the line of the bus that was chosen; each was where none was.
-pub fn is_on(bus: Option<Bus>, block: u16) -> bool
-    ensures { result ≡ spec.is_on bus block }
+/// Whether a message was on the line of the bus that was chosen; each was where none was.
+pub fn is_on(choice: Option<Line>, view: &View<'_>) -> bool
+    ensures { result ≡ spec.is_on choice view.now.block }
 {
-    match bus {
+    match choice {
         None => true,
-        Some(Bus::A) => !is_set(block, LINE_B),
-        Some(Bus::B) => is_set(block, LINE_B),
+        Some(Line::A) => view.line() == Line::A,
+        Some(Line::B) => view.line() == Line::B,
     }
 }
 

@@ -38,8 +38,8 @@ pub(crate) fn channel_figures(
 {
     let mut tally = Tally::begin(channel);
     let mut rest = Chosen::of(index, selection, channel);
-    'messages: while let Some(seen) = rest.next() {
-        tally.note(&seen);
+    'messages: while let Some(view) = rest.next() {
+        tally.note(&view);
     }
     tally.figures
 }

@@ -1,13 +1,13 @@
 //! The selected messages of a channel.
 ghost use Rattle.bench_select.specs.declared.selection.Selection.{Selection as SelectionValue};
 ghost use Rattle.bench_stat.specs.Chosen.{picked, chosen, IsNextChosen};
-ghost use Rattle.ch11_f1.specs.Views.{message_of};
 ghost use Rattle.ch11_reader.specs.Contents.{total_in};
 ghost use Rattle.std.specs.Iterator.{YieldsFirstBy, item_count};
 ghost use Rattle.std.specs.Prelude.{◌≡◌, ◌+◌, ◌<◌, ◌^◌, ◌∷◌, [], length, take, drop, MatchOption};
 
 use bench_select::Selection;
-use ch11_f1::{Messages, Seen};
+use ch11_f1::Messages;
+use ch11_layout::View;
 use ch11_reader::Index;
 use std::marker::Model;
 
@@ -60,18 +60,19 @@ pub(crate) fn next_selected<'a>(
     before: &mut u64,
     selection: &Selection,
     channel: u16,
-) -> Option<Seen<'a>>
+) -> Option<View<'a>>
     requires { before.old + length messages.old < 2 ^ 64 }
     ensures picked { MatchOption result
         ((picked selection.now channel before.old messages.old ≡ []) × (messages.new ≡ []))
-        (λ seen. picked selection.now channel before.old messages.old
-        ≡ message_of seen ∷ picked selection.now channel before.new messages.new) }
+        (λ view. picked selection.now channel before.old messages.old
+        ≡ view ∷ picked selection.now channel before.new messages.new) }
     ensures counted { before.new + length messages.new ≡ before.old + length messages.old }
 {
     'messages: while let Some(seen) = messages.next() {
+        let view = View::of(&seen);
         *before += 1;
-        if selection.selects(*before, channel, &seen) {
-            return Some(seen);
+        if selection.selects(*before, channel, &view) {
+            return Some(view);
         }
     }
     None
@@ -101,21 +102,21 @@ fn messages_at<'a>(
 }
 
 impl<'a, 'i> Iterator for Chosen<'a, 'i> {
-    type Item = Seen<'a>;
+    type Item = View<'a>;
 
-    ghost next_gives = { YieldsFirstBy message_of (λ s. s) };
+    ghost next_gives = { YieldsFirstBy (λ v. v) (λ s. s) };
 
     ghost remaining = { item_count (λ s. s) };
 
-    fn next(&mut self) -> Option<Seen<'a>> {
+    fn next(&mut self) -> Option<View<'a>> {
         'packets: loop {
-            if let Some(seen) = next_selected(
+            if let Some(view) = next_selected(
                 &mut self.current,
                 &mut self.before,
                 self.selection,
                 self.channel,
             ) {
-                return Some(seen);
+                return Some(view);
             }
             let Some((place, (before, messages))) = messages_at(
                 self.index,

@@ -4,7 +4,6 @@ ghost use Rattle.bench_stat.specs.Details.{details_of};
 ghost use Rattle.bench_stat.specs.Entries.{AreEntries};
 ghost use Rattle.bench_stat.specs.Slices.{AreBusy};
 ghost use Rattle.ch11_f1.specs.BodyReading.{Message};
-ghost use Rattle.ch11_f1.specs.Views.{message_of};
 ghost use Rattle.std.specs.Prelude.{◌≡◌, ◌∷◌, [], List, IfOk};
 
 use crate::chosen::Chosen;
@@ -13,7 +12,7 @@ use crate::flows::Flow;
 use crate::replies::Replies;
 use crate::slices::{Slice, idle_slices, note_slices};
 use bench_select::Selection;
-use ch11_f1::Seen;
+use ch11_layout::View;
 use ch11_reader::Index;
 use std::alloc::{AllocError, Global};
 
@@ -43,19 +42,19 @@ impl Details {
     {
         let mut details = Details::none();
         let mut rest = Chosen::of(index, selection, channel);
-        'messages: while let Some(seen) = rest.next() {
-            details.note(&seen);
+        'messages: while let Some(view) = rest.next() {
+            details.note(&view);
         }
         details
     }
 
     /// One more message.
-    pub(crate) fn note(&mut self, seen: &Seen<'_>)
+    pub(crate) fn note(&mut self, view: &View<'_>)
         ensures { (history : List Message) → self.old ≡ details_of history
-            → self.new ≡ details_of (message_of seen.now ∷ history) }
+            → self.new ≡ details_of (view.now ∷ history) }
     {
-        self.flow.note(seen);
-        self.replies.note(seen);
+        self.flow.note(view);
+        self.replies.note(view);
     }
 }
 
@@ -71,8 +70,8 @@ pub fn flows_by_subaddress(
 {
     let mut entries = no_entries(alloc)?;
     let mut rest = Chosen::of(index, selection, channel);
-    'messages: while let Some(seen) = rest.next() {
-        note_entries(entries.as_mut_slice(), &seen);
+    'messages: while let Some(view) = rest.next() {
+        note_entries(entries.as_mut_slice(), &view);
     }
     Ok(entries)
 }
@@ -90,8 +89,8 @@ pub fn load_over_time(
 {
     let mut slices = idle_slices(alloc, begin, end)?;
     let mut rest = Chosen::of(index, selection, channel);
-    'messages: while let Some(seen) = rest.next() {
-        note_slices(slices.as_mut_slice(), &seen);
+    'messages: while let Some(view) = rest.next() {
+        note_slices(slices.as_mut_slice(), &view);
     }
     Ok(slices)
 }

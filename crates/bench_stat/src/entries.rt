@@ -2,12 +2,11 @@
 ghost use Rattle.bench_stat.specs.Entries as spec;
 ghost use Rattle.bench_stat.specs.Entries.{AreEntries, is_same as are_same, with_choice};
 ghost use Rattle.ch11_f1.specs.BodyReading.{Message};
-ghost use Rattle.ch11_f1.specs.Views.{message_of};
 ghost use Rattle.std.specs.Prelude.{◌≡◌, ◌∷◌, [], List, length, IfOk};
 
 use crate::flows::Flow;
 use crate::sendings::Sending;
-use ch11_f1::Seen;
+use ch11_layout::View;
 use mil_word::fields::FIELD_VALUES;
 use std::alloc::{AllocError, Global};
 
@@ -37,14 +36,14 @@ pub(crate) fn parts_of(entry: usize) -> (usize, &'static str, usize) {
 }
 
 /// One more message for the entry of a command, where there is one, which had this error.
-fn note_choice(entries: &mut [Flow], command: Option<u16>, failed: bool, seen: &Seen<'_>)
+fn note_choice(entries: &mut [Flow], command: Option<u16>, failed: bool, view: &View<'_>)
     requires { length entries.old ≡ ENTRIES }
-    ensures { entries.new ≡ with_choice command failed (message_of seen.now) entries.old }
+    ensures { entries.new ≡ with_choice command failed view.now entries.old }
 {
     if let Some(command) = command {
         let place = entry_of(command);
         let mut flow = entries[place];
-        flow.note_by(seen, failed);
+        flow.note_by(view, failed);
         entries[place] = flow;
     }
 }
@@ -67,16 +66,16 @@ fn is_first_failed(sending: &Sending) -> bool
 }
 
 /// One more message, for the entries of its commands; its error is for that of one of them.
-pub(crate) fn note_entries(entries: &mut [Flow], seen: &Seen<'_>)
+pub(crate) fn note_entries(entries: &mut [Flow], view: &View<'_>)
     requires { length entries.old ≡ ENTRIES }
     ensures { (history : List Message) → AreEntries history entries.old
-        → AreEntries (message_of seen.now ∷ history) entries.new }
+        → AreEntries (view.now ∷ history) entries.new }
 {
-    let sending = Sending::of(seen);
+    let sending = Sending::of(view);
     let failed = is_first_failed(&sending);
-    note_choice(entries, sending.first, failed, seen);
+    note_choice(entries, sending.first, failed, view);
     if is_same(sending.first, sending.second) {
         return;
     }
-    note_choice(entries, sending.second, sending.sender_failed, seen);
+    note_choice(entries, sending.second, sending.sender_failed, view);
 }

@@ -1,15 +1,10 @@
 //! The errors of a channel, by their kind.
 ghost use Rattle.bench_stat.specs.Figures.{errors_of};
 ghost use Rattle.bench_stat.specs.Steps.{with_errors};
-ghost use Rattle.ch11_f1.specs.Views.{message_of};
 ghost use Rattle.std.specs.Prelude.{◌≡◌, []};
 
 use crate::counts::counted;
-use ch11_f1::Seen;
-use ch11_layout::block::{
-    INVALID_WORD_ERROR, MESSAGE_ERROR, RESPONSE_TIMEOUT, SYNC_TYPE_ERROR, WORD_COUNT_ERROR,
-};
-use ch11_layout::is_set;
+use ch11_layout::View;
 
 /// How many messages had which error, by the block status word (IRIG 106-17 Chapter 11). A message counts under each
 /// kind that it has. Counts go as far as 64 bits count.
@@ -38,14 +33,14 @@ impl Errors {
     }
 
     /// One more message.
-    pub(crate) fn note(&mut self, seen: &Seen<'_>)
-        ensures { self.new ≡ with_errors (message_of seen.now) self.old }
+    pub(crate) fn note(&mut self, view: &View<'_>)
+        ensures { self.new ≡ with_errors view.now self.old }
     {
-        let failed = is_set(seen.block, MESSAGE_ERROR);
-        let silent = is_set(seen.block, RESPONSE_TIMEOUT);
-        let miscounted = is_set(seen.block, WORD_COUNT_ERROR);
-        let of_other_sync = is_set(seen.block, SYNC_TYPE_ERROR);
-        let unsound = is_set(seen.block, INVALID_WORD_ERROR);
+        let failed = view.has_error();
+        let silent = view.has_response_timeout();
+        let miscounted = view.has_word_count_error();
+        let of_other_sync = view.has_sync_type_error();
+        let unsound = view.has_invalid_word_error();
         let named = silent || miscounted || of_other_sync || unsound;
         self.messages = counted(self.messages, failed);
         self.response = counted(self.response, silent);

@@ -1,14 +1,11 @@
 //! How messages follow one another.
 ghost use Rattle.bench_stat.specs.Flows as spec;
 ghost use Rattle.ch11_f1.specs.BodyReading.{Message};
-ghost use Rattle.ch11_f1.specs.Views.{message_of};
 ghost use Rattle.std.specs.Prelude.{◌≡◌, ◌∷◌, [], List};
 
 use crate::counts::{counted, more};
 use crate::traffic::time_of;
-use ch11_f1::Seen;
-use ch11_layout::block::MESSAGE_ERROR;
-use ch11_layout::is_set;
+use ch11_layout::View;
 use mil_word::timing::CONTIGUOUS_GAP;
 
 /// Messages that follow one another, such as those of a channel, or those with a terminal and a subaddress. Counts and
@@ -46,48 +43,51 @@ impl Flow {
         }
     }
 
-    fn note_gap(&mut self, seen: &Seen<'_>)
-        ensures { self.new ≡ spec.with_gap self.old.ended (message_of seen.now) self.old }
+    fn note_gap(&mut self, view: &View<'_>)
+        ensures { self.new ≡ spec.with_gap self.old.ended view.now self.old }
     {
         if let Some(ended) = self.ended
-            && seen.stamp >= self.begun
+            && view.stamp() >= self.begun
         {
-            let gap = more(seen.stamp.saturating_sub(ended), u64::from(CONTIGUOUS_GAP));
+            let gap = more(
+                view.stamp().saturating_sub(ended),
+                u64::from(CONTIGUOUS_GAP),
+            );
             self.least_gap = gap.min(self.least_gap);
             self.greatest_gap = gap.max(self.greatest_gap);
         }
     }
 
     /// One more message, behind the others, which had this error.
-    pub(crate) fn note_by(&mut self, seen: &Seen<'_>, failed: bool)
-        ensures { self.new ≡ spec.with_message_by failed (message_of seen.now) self.old }
+    pub(crate) fn note_by(&mut self, view: &View<'_>, failed: bool)
+        ensures { self.new ≡ spec.with_message_by failed view.now self.old }
     {
-        self.note_gap(seen);
+        self.note_gap(view);
         self.messages = more(self.messages, 1);
         self.errors = counted(self.errors, failed);
-        self.begun = seen.stamp;
-        self.ended = Some(end_of(seen));
+        self.begun = view.stamp();
+        self.ended = Some(end_of(view));
     }
 
-    fn note_message(&mut self, seen: &Seen<'_>)
-        ensures { self.new ≡ spec.with_message (message_of seen.now) self.old }
+    fn note_message(&mut self, view: &View<'_>)
+        ensures { self.new ≡ spec.with_message view.now self.old }
     {
-        self.note_by(seen, is_set(seen.block, MESSAGE_ERROR));
+        self.note_by(view, view.has_error());
     }
 
     /// One more message, behind the others.
-    pub fn note(&mut self, seen: &Seen<'_>)
-        ensures new { self.new ≡ spec.with_message (message_of seen.now) self.old }
+    pub fn note(&mut self, view: &View<'_>)
+        ensures new { self.new ≡ spec.with_message view.now self.old }
         ensures flow { (history : List Message) → self.old ≡ spec.flow_of history
-            → self.new ≡ spec.flow_of (message_of seen.now ∷ history) }
+            → self.new ≡ spec.flow_of (view.now ∷ history) }
     {
-        self.note_message(seen);
+        self.note_message(view);
     }
 }
 
 /// The end of a message, in ticks, as far as 64 bits count.
-pub(crate) fn end_of(seen: &Seen<'_>) -> u64
-    ensures { result ≡ spec.end_of (message_of seen.now) }
+pub(crate) fn end_of(view: &View<'_>) -> u64
+    ensures { result ≡ spec.end_of view.now }
 {
-    more(seen.stamp, time_of(seen))
+    more(view.stamp(), time_of(view))
 }

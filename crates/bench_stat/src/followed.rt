@@ -6,7 +6,6 @@ ghost use Rattle.bench_stat.specs.Slices.{AreBusy};
 ghost use Rattle.bench_stat.specs.Told.{IsFollowed};
 ghost use Rattle.bench_stat.specs.declared.shown.Shown.{Shown as ShownValue};
 ghost use Rattle.ch11_f1.specs.BodyReading.{Message};
-ghost use Rattle.ch11_f1.specs.Views.{message_of};
 ghost use Rattle.std.specs.Prelude.{◌≡◌, ◌+◌, ◌<◌, ◌^◌, ◌++◌, ◌∷◌, [], List, Some, IfOk, length, reverse, true};
 
 use crate::chosen::next_selected;
@@ -17,7 +16,8 @@ use crate::shown::Shown;
 use crate::slices::{Slice, idle_slices, note_slices};
 use crate::traffic::Traffic;
 use bench_select::Selection;
-use ch11_f1::{Messages, Seen};
+use ch11_f1::Messages;
+use ch11_layout::View;
 use std::alloc::{AllocError, Global};
 
 /// What is told of messages, as far as it is shown.
@@ -51,13 +51,13 @@ impl Followed {
     }
 
     /// One more message.
-    fn count(&mut self, seen: &Seen<'_>)
+    fn count(&mut self, view: &View<'_>)
         ensures { (shown : ShownValue) (history : List Message) → IsFollowed shown history self.old
-            → IsFollowed shown (message_of seen.now ∷ history) self.new }
+            → IsFollowed shown (view.now ∷ history) self.new }
     {
-        count_details(&mut self.details, seen);
-        count_flows(&mut self.flows, seen);
-        count_load(&mut self.slices, seen);
+        count_details(&mut self.details, view);
+        count_flows(&mut self.flows, view);
+        count_load(&mut self.slices, view);
     }
 
     /// The selected ones of a packet's messages, which stand behind so many of the file.
@@ -74,13 +74,13 @@ impl Followed {
     {
         let mut number = before;
         let mut rest = messages;
-        'messages: while let Some(seen) = next_selected(
+        'messages: while let Some(view) = next_selected(
             &mut rest,
             &mut number,
             selection,
             channel,
         ) {
-            self.count(&seen);
+            self.count(&view);
         }
     }
 }
@@ -115,29 +115,29 @@ fn first_slices(alloc: Global, shown: bool, traffic: &Traffic) -> Result<Vec<Sli
 }
 
 /// One more message in details, where there are any.
-fn count_details(details: &mut Option<Details>, seen: &Seen<'_>)
+fn count_details(details: &mut Option<Details>, view: &View<'_>)
     ensures { (history : List Message) → details.old ≡ Some (details_of history)
-        → details.new ≡ Some (details_of (message_of seen.now ∷ history)) }
+        → details.new ≡ Some (details_of (view.now ∷ history)) }
 {
     if let Some(details) = details {
-        details.note(seen);
+        details.note(view);
     }
 }
 
 /// One more message in flows, where there are any.
-fn count_flows(flows: &mut Vec<Flow>, seen: &Seen<'_>)
+fn count_flows(flows: &mut Vec<Flow>, view: &View<'_>)
     ensures { (history : List Message) → AreEntries history flows.old.items
-        → AreEntries (message_of seen.now ∷ history) flows.new.items }
+        → AreEntries (view.now ∷ history) flows.new.items }
 {
     if flows.len() == ENTRIES {
-        note_entries(flows.as_mut_slice(), seen);
+        note_entries(flows.as_mut_slice(), view);
     }
 }
 
 /// One more message in slices.
-fn count_load(slices: &mut Vec<Slice>, seen: &Seen<'_>)
+fn count_load(slices: &mut Vec<Slice>, view: &View<'_>)
     ensures { (history : List Message) → AreBusy history slices.old.items
-        → AreBusy (message_of seen.now ∷ history) slices.new.items }
+        → AreBusy (view.now ∷ history) slices.new.items }
 {
-    note_slices(slices.as_mut_slice(), seen);
+    note_slices(slices.as_mut_slice(), view);
 }

@@ -1,12 +1,10 @@
 //! Status words by their bits.
 ghost use Rattle.bench_stat.specs.Replies as spec;
 ghost use Rattle.ch11_f1.specs.BodyReading.{Message};
-ghost use Rattle.ch11_f1.specs.Views.{message_of};
 ghost use Rattle.std.specs.Prelude.{◌≡◌, ◌∷◌, [], List};
 
 use crate::counts::{counted, more};
-use ch11_f1::Seen;
-use ch11_layout::{Layout, is_set};
+use ch11_layout::{View, is_set};
 use mil_word::Status;
 
 /// How many status words came, and in how many of them each bit was set (MIL-STD-1553B 4.3.3.5.3). Counts go as far as
@@ -76,22 +74,22 @@ impl Replies {
     }
 
     /// A status word, where there is one at a place before another.
-    fn note_at(&mut self, seen: &Seen<'_>, place: usize, end: usize)
-        ensures { self.new ≡ spec.with_statuses (spec.word_before (message_of seen.now) place end) self.old }
+    fn note_at(&mut self, view: &View<'_>, place: usize, end: usize)
+        ensures { self.new ≡ spec.with_statuses (spec.word_before view.now place end) self.old }
     {
         if place < end {
-            self.note_status(seen.word(place));
+            self.note_status(view.word(place));
         }
     }
 
     /// One more message.
-    pub fn note(&mut self, seen: &Seen<'_>)
+    pub fn note(&mut self, view: &View<'_>)
         ensures { (history : List Message) → self.old ≡ spec.replies_of history
-            → self.new ≡ spec.replies_of (message_of seen.now ∷ history) }
+            → self.new ≡ spec.replies_of (view.now ∷ history) }
     {
-        let layout = Layout::of(seen);
-        self.note_at(seen, layout.commands, layout.data_start);
-        self.note_at(seen, layout.data_end, layout.words);
+        let layout = view.layout();
+        self.note_at(view, layout.commands, layout.data_start);
+        self.note_at(view, layout.data_end, layout.words);
     }
 }
 

@@ -1,12 +1,9 @@
 //! How a recorded message was sent.
 ghost use Rattle.bench_stat.specs.Sendings as spec;
-ghost use Rattle.ch11_f1.specs.Views.{message_of};
 ghost use Rattle.std.specs.Prelude.{◌≡◌};
 
 use crate::senders::is_senders;
-use ch11_f1::Seen;
-use ch11_layout::block::{LINE_B, MESSAGE_ERROR, TERMINAL_TO_TERMINAL};
-use ch11_layout::is_set;
+use ch11_layout::View;
 
 /// Line, error and command words of a recorded message.
 #[derive(Clone, Copy, Debug, PartialEq, Eq)]
@@ -26,20 +23,20 @@ pub struct Sending {
 
 impl Sending {
     /// How the message was sent.
-    pub fn of(seen: &Seen<'_>) -> Sending
-        ensures { result ≡ spec.sending_of (message_of seen.now) }
+    pub fn of(view: &View<'_>) -> Sending
+        ensures { result ≡ spec.sending_of view.now }
     {
-        let second = if is_set(seen.block, TERMINAL_TO_TERMINAL) {
-            command_at(seen, 1)
+        let second = if view.is_transfer() {
+            command_at(view, 1)
         } else {
             None
         };
-        let failed = is_set(seen.block, MESSAGE_ERROR);
+        let failed = view.has_error();
         Sending {
-            line_b: is_set(seen.block, LINE_B),
+            line_b: view.is_on_line_b(),
             failed,
-            sender_failed: failed && is_senders(seen),
-            first: command_at(seen, 0),
+            sender_failed: failed && is_senders(view),
+            first: command_at(view, 0),
             second,
         }
     }
@@ -56,11 +53,11 @@ impl Sending {
 }
 
 /// The bus word at a place, if there is one.
-fn command_at(seen: &Seen<'_>, place: usize) -> Option<u16>
-    ensures { result ≡ spec.word_at place (message_of seen.now) }
+fn command_at(view: &View<'_>, place: usize) -> Option<u16>
+    ensures { result ≡ spec.word_at place view.now }
 {
-    if place < seen.word_count() {
-        Some(seen.word(place))
+    if place < view.word_count() {
+        Some(view.word(place))
     } else {
         None
     }

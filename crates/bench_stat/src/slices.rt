@@ -1,13 +1,12 @@
 //! The load of a channel over time.
 ghost use Rattle.bench_stat.specs.Slices as spec;
 ghost use Rattle.ch11_f1.specs.BodyReading.{Message};
-ghost use Rattle.ch11_f1.specs.Views.{message_of};
 ghost use Rattle.std.specs.Prelude.{◌≡◌, ◌∷◌, [], List, length, map, IfOk};
 
 use crate::counts::more;
 use crate::flows::end_of;
 use crate::traffic::share_of;
-use ch11_f1::Seen;
+use ch11_layout::View;
 use std::alloc::{AllocError, Global};
 
 /// How many slices a span is shown in.
@@ -31,11 +30,11 @@ impl Slice {
     }
 
     /// One more message.
-    fn note(&mut self, seen: &Seen<'_>)
-        ensures { self.new ≡ spec.with_part (message_of seen.now) self.old }
+    fn note(&mut self, view: &View<'_>)
+        ensures { self.new ≡ spec.with_part view.now self.old }
     {
-        let begin = seen.stamp.max(self.begin);
-        let end = end_of(seen).min(self.end);
+        let begin = view.stamp().max(self.begin);
+        let end = end_of(view).min(self.end);
         self.busy = more(self.busy, end.saturating_sub(begin));
     }
 }
@@ -61,11 +60,11 @@ pub(crate) fn idle_slices(alloc: Global, begin: u64, end: u64) -> Result<Vec<Sli
 }
 
 /// One more message.
-pub(crate) fn note_slices(slices: &mut [Slice], seen: &Seen<'_>)
+pub(crate) fn note_slices(slices: &mut [Slice], view: &View<'_>)
     ensures { (history : List Message) → spec.AreBusy history slices.old
-        → spec.AreBusy (message_of seen.now ∷ history) slices.new }
+        → spec.AreBusy (view.now ∷ history) slices.new }
 {
     'slices: for slice in slices.iter_mut() {
-        slice.note(seen);
+        slice.note(view);
     }
 }

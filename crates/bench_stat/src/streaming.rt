@@ -114,8 +114,8 @@ fn note_selected(
 {
     let mut number = before;
     let mut rest = messages;
-    'messages: while let Some(seen) = next_selected(&mut rest, &mut number, selection, channel) {
-        tally.note(&seen);
+    'messages: while let Some(view) = next_selected(&mut rest, &mut number, selection, channel) {
+        tally.note(&view);
     }
 }
 

@@ -1,12 +1,11 @@
 //! Stretches of a channel's messages, in which no stamp falls.
 ghost use Rattle.bench_stat.specs.Stretches as spec;
 ghost use Rattle.ch11_f1.specs.BodyReading.{Message};
-ghost use Rattle.ch11_f1.specs.Views.{message_of};
 ghost use Rattle.std.specs.Prelude.{◌≡◌, [], List};
 
 use crate::counts::more;
 use crate::flows::end_of;
-use ch11_f1::Seen;
+use ch11_layout::View;
 
 /// How often stamps fell in a channel, and the stretches between: the latest one, and how long those before it were.
 /// Times are ticks of 0.1 µs, as far as 64 bits count.
@@ -63,21 +62,21 @@ impl Stretches {
     }
 
     /// One more message of the latest stretch.
-    fn go_on(&mut self, seen: &Seen<'_>)
-        ensures { self.new ≡ spec.with_stamp (message_of seen.now) self.old }
+    fn go_on(&mut self, view: &View<'_>)
+        ensures { self.new ≡ spec.with_stamp view.now self.old }
     {
-        self.latest = seen.stamp;
-        self.begin = seen.stamp.min(self.begin);
-        self.end = end_of(seen).max(self.end);
+        self.latest = view.stamp();
+        self.begin = view.stamp().min(self.begin);
+        self.end = end_of(view).max(self.end);
     }
 
     /// One more message.
-    pub(crate) fn note(&mut self, seen: &Seen<'_>)
-        ensures { self.new ≡ spec.with_stretch (message_of seen.now) self.old }
+    pub(crate) fn note(&mut self, view: &View<'_>)
+        ensures { self.new ≡ spec.with_stretch view.now self.old }
     {
-        if seen.stamp < self.latest {
+        if view.stamp() < self.latest {
             self.fall();
         }
-        self.go_on(seen);
+        self.go_on(view);
     }
 }

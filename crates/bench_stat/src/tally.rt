@@ -4,7 +4,6 @@ ghost use Rattle.bench_stat.specs.Sendings.{calls_sent, is_retry_behind};
 ghost use Rattle.bench_stat.specs.Steps.{tally_of};
 ghost use Rattle.bench_stat.specs.declared.calls.Call.{Call as CallValue};
 ghost use Rattle.ch11_f1.specs.BodyReading.{Message};
-ghost use Rattle.ch11_f1.specs.Views.{message_of};
 ghost use Rattle.mil_word.specs.Fields.{field_values};
 ghost use Rattle.std.specs.Prelude.{◌≡◌, ℕ, ◌∷◌, ◌++◌, [], List, length};
 
@@ -15,8 +14,7 @@ use crate::errors::Errors;
 use crate::sendings::Sending;
 use crate::terminals::{TerminalFigures, no_calls, note_call};
 use crate::traffic::Traffic;
-use ch11_f1::Seen;
-use ch11_layout::{first_gap, second_gap};
+use ch11_layout::View;
 
 /// The figures of a channel so far, and how its latest message was sent.
 #[derive(Clone, Copy, Debug, PartialEq, Eq)]
@@ -46,19 +44,19 @@ impl Tally {
     }
 
     /// One more message.
-    pub fn note(&mut self, seen: &Seen<'_>)
+    pub fn note(&mut self, view: &View<'_>)
         ensures { (channel : ℕ) (history : List Message) → self.old ≡ tally_of channel history
-            → self.new ≡ tally_of channel (message_of seen.now ∷ history) }
+            → self.new ≡ tally_of channel (view.now ∷ history) }
     {
-        let sending = Sending::of(seen);
-        self.figures.traffic.note(seen);
-        self.figures.errors.note(seen);
+        let sending = Sending::of(view);
+        self.figures.traffic.note(view);
+        self.figures.errors.note(view);
         self.figures.retries = counted(self.figures.retries, is_retry(&self.latest, &sending));
         note_calls(
             &mut self.figures.terminals,
             &sending,
-            first_gap(seen),
-            second_gap(seen),
+            view.first_gap(),
+            view.second_gap(),
         );
         self.latest = Some(sending);
     }

@@ -5,13 +5,11 @@ ghost use Rattle.bench_stat.specs.Figures.{traffic_of, duration, load};
 ghost use Rattle.bench_stat.specs.Steps.{with_traffic};
 ghost use Rattle.bench_stat.specs.Stretches.{span};
 ghost use Rattle.ch11_f1.specs.BodyReading.{Message};
-ghost use Rattle.ch11_f1.specs.Views.{message_of};
 ghost use Rattle.std.specs.Prelude.{◌≡◌, ◌∷◌, [], List};
 
 use crate::counts::more;
 use crate::stretches::Stretches;
-use ch11_f1::Seen;
-use ch11_layout::{first_gap, second_gap};
+use ch11_layout::View;
 use mil_word::timing::{CONTIGUOUS_GAP, WORD_TIME};
 
 /// How much a channel carried, and when. Counts and times go as far as 64 bits count; times are ticks of 0.1 µs.
@@ -70,25 +68,25 @@ impl Traffic {
     }
 
     /// One more message.
-    pub(crate) fn note(&mut self, seen: &Seen<'_>)
+    pub(crate) fn note(&mut self, view: &View<'_>)
         ensures { (history : List Message) → self.old ≡ traffic_of history
-            → self.new ≡ traffic_of (message_of seen.now ∷ history) }
+            → self.new ≡ traffic_of (view.now ∷ history) }
     {
-        self.count(seen);
+        self.count(view);
     }
 
-    fn count(&mut self, seen: &Seen<'_>)
-        ensures { self.new ≡ with_traffic (message_of seen.now) self.old }
+    fn count(&mut self, view: &View<'_>)
+        ensures { self.new ≡ with_traffic view.now self.old }
     {
-        let words = seen.word_count() as u64;
-        let time = time_of(seen);
+        let words = view.word_count() as u64;
+        let time = time_of(view);
         self.messages = more(self.messages, 1);
         self.words = more(self.words, words);
         self.busy = more(self.busy, time);
-        self.begin = seen.stamp.min(self.begin);
-        self.last = seen.stamp.max(self.last);
-        self.end = more(seen.stamp, time).max(self.end);
-        self.stretches.note(seen);
+        self.begin = view.stamp().min(self.begin);
+        self.last = view.stamp().max(self.last);
+        self.end = more(view.stamp(), time).max(self.end);
+        self.stretches.note(view);
     }
 }
 
@@ -107,12 +105,12 @@ pub(crate) fn share_of(busy: u64, time: u64) -> Option<u64>
 }
 
 /// How long a message takes, in ticks, as far as 64 bits count.
-pub(crate) fn time_of(seen: &Seen<'_>) -> u64
-    ensures { result ≡ capped (duration (message_of seen.now)) }
+pub(crate) fn time_of(view: &View<'_>) -> u64
+    ensures { result ≡ capped (duration view.now) }
 {
-    let (first, second) = (first_gap(seen), second_gap(seen));
+    let (first, second) = (view.first_gap(), view.second_gap());
     let pauses = u64::from(u16::from(first).saturating_sub(CONTIGUOUS_GAP))
         + u64::from(u16::from(second).saturating_sub(CONTIGUOUS_GAP));
-    let words = seen.word_count() as u64;
+    let words = view.word_count() as u64;
     more(words.saturating_mul(u64::from(WORD_TIME)), pauses)
 }

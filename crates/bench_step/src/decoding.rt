@@ -4,8 +4,9 @@ ghost use Rattle.std.specs.Prelude.{◌≡◌, []};
 
 use crate::manners::Manner;
 use crate::replies::Reply;
-use bench_decode::{Line, Place, Shown, write_message};
+use bench_decode::{Place, Shown, TextLine, write_message};
 use bench_places::number_in_channel;
+use ch11_layout::View;
 use ch11_reader::Index;
 use std::alloc::{AllocError, Global};
 
@@ -15,7 +16,7 @@ const ROOM: usize = 4096;
 /// The text of the message that was shown last, with a line feed behind it.
 #[derive(Drop)]
 pub(crate) struct Decoder {
-    line: Line,
+    line: TextLine,
     pub(crate) text: Vec<u8>,
 }
 
@@ -23,7 +24,7 @@ impl Decoder {
     /// No text yet. All memory is taken here.
     pub(crate) fn make(alloc: Global) -> Result<Decoder, AllocError> {
         Ok(Decoder {
-            line: Line::new(alloc, Shown::Plain)?,
+            line: TextLine::new(alloc, Shown::Plain)?,
             text: Vec::with_capacity(alloc, ROOM)?,
         })
     }
@@ -46,7 +47,7 @@ impl Decoder {
             channel,
             in_channel: number_in_channel(index, channel, number),
         };
-        if write_message(&mut self.line, &mut self.text, &place, &seen).is_err() {
+        if write_message(&mut self.line, &mut self.text, &place, &View::of(&seen)).is_err() {
             return Err(AllocError);
         }
         if self.line.finish(&mut self.text).is_err() {

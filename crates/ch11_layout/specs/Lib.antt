@@ -1,2 +1,4 @@
 pub mod BlockStatus
+pub mod Forms
 pub mod Layouts
+pub mod Replies

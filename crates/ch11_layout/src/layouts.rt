@@ -36,7 +36,8 @@ pub struct Layout {
 
 impl Layout {
     /// The layout of a message, by its block status word, its gap times word and its first word.
-    pub fn of(seen: &Seen<'_>) -> Layout
+    #[inline]
+    pub(crate) fn of(seen: &Seen<'_>) -> Layout
         ensures value { result ≡ spec.layout_of (message_of seen.now) }
         ensures commands { result.commands ≤ result.data_start }
         ensures start { result.data_start ≤ result.data_end }
@@ -95,6 +96,7 @@ fn commands_of(words: usize, between: bool) -> usize
 }
 
 /// Whether a bit of a word is set, of which 0 is the last on the line. Condition: the place is at most 15.
+#[inline]
 pub fn is_set(word: u16, place: u32) -> bool
     requires { place ≤ 15 }
     ensures { result ≡ has_bit place word }
@@ -103,14 +105,16 @@ pub fn is_set(word: u16, place: u32) -> bool
 }
 
 /// The gap of the first reply in ticks of 0.1 µs: 0 where there was none, 255 where it was that or longer.
-pub fn first_gap(seen: &Seen<'_>) -> u8
+#[inline]
+pub(crate) fn first_gap(seen: &Seen<'_>) -> u8
     ensures { result ≡ spec.first_gap (message_of seen.now) }
 {
     (seen.gaps % 256) as u8
 }
 
 /// The gap of the second reply in ticks of 0.1 µs: 0 where there was none, 255 where it was that or longer.
-pub fn second_gap(seen: &Seen<'_>) -> u8
+#[inline]
+pub(crate) fn second_gap(seen: &Seen<'_>) -> u8
     ensures { result ≡ spec.second_gap (message_of seen.now) }
 {
     (seen.gaps / 256) as u8

@@ -1,10 +1,15 @@
-//! Which words of a recorded message are commands, status words and data words.
+//! A recorded message, decoded once for all that look at it: which of its words are commands, status words and data
+//! words, its form, its replies and its errors.
 //!
 //! It may know: words, bodies. It has no tests of its own: `command_tests` tries it by the figures, rows, pictures
 //! and verdicts that rest on it. Its wrong bodies: `edits/`.
 #![tactic(auto)]
 
 pub mod block;
+mod forms;
 mod layouts;
+mod view;
 
-pub use layouts::{Layout, Role, first_gap, is_set, second_gap};
+pub use forms::RecordedForm;
+pub use layouts::{Layout, Role, is_set};
+pub use view::{Reply, View};

@@ -74,7 +74,7 @@ channel,begin_us,end_us,load_percent
 ";
 
 /// The pair, where the flags of its last packet say that messages are missing; the header's checksum counts them.
-fn lossy() -> [u8; 192] {
+pub(crate) fn lossy() -> [u8; 192] {
     let mut file = pair();
     file[142] = 0x90;
     file[150] = 0x18;

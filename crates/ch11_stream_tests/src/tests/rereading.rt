@@ -1,10 +1,11 @@
 //! Verdicts on a recording that is read anew for each pass, worked out by hand.
 
 use crate::tests::equal::{are_bytes, same};
+use crate::tests::followed::lossy;
 use crate::tests::streamed::{damaged, pair, refusal};
 use crate::tests::streams::{Slow, reader_of};
 use bench_judge::{
-    Miss, PassFault, RuleVerdict, first_misses_from, judge_from, junit_text_from,
+    Lost, Miss, PassFault, RuleVerdict, first_misses_from, judge_from, junit_text_from, lost_from,
     write_colored_from, write_misses_from, write_verdicts_from,
 };
 use bench_watch::Reopen;
@@ -245,6 +246,7 @@ fn reported(
         APART_RULES,
         rules.as_slice(),
         verdicts.as_slice(),
+        Lost::default(),
     )
 }
 
@@ -256,4 +258,24 @@ fn a_report_tells_misses_of_packets(rt: HostRuntime) {
     let text = report.ok().expect(&rt, "a report");
     are_bytes(&rt, &text, APART_REPORT.as_bytes());
     is_refused(&rt, reported(&rt, rt.alloc(), &recording));
+}
+
+/// The second packet of the pair has the sequence number of the first; in the lossy one the overflow flag too.
+#[test]
+fn packets_tell_of_messages_that_are_missing(rt: HostRuntime) {
+    for (file, overflows) in [(pair(), 0), (lossy(), 1)] {
+        let found = lost_from(rt.alloc(), reader_of(&file, 7));
+        let lost = found.ok().expect(&rt, "a sound file");
+        same(
+            &rt,
+            &lost,
+            &Lost {
+                overflows,
+                jumps: 1,
+            },
+        );
+        same(&rt, &lost.is_any(), &true);
+    }
+    let found = lost_from(rt.alloc(), reader_of(&damaged(), 7));
+    same(&rt, &found.err(), &Some(StreamFault::Refused(refusal())));
 }

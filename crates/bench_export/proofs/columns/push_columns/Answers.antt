@@ -1,4 +1,3 @@
-use Rattle.ch11_f1.specs.Views.{message_of}
 use Rattle.bench_export.specs.Rows.{called_fields}
 use Rattle.bench_export.specs.Frames.{sent_columns, answered_columns, carried_columns}
 use Rattle.bench_export.proofs.Parts.{four_put}
@@ -6,6 +5,6 @@ use Rattle.bench_export.proofs.columns.push_columns.Goals as goal
 
 pub returns : goal.returns
 returns c =
-    let m = message_of c.args.seen.now in
+    let m = c.args.view.now in
     four_put c.args.row.now _ _ _ _ (sent_columns m) (called_fields m) (answered_columns c.args.prefixed m) (carried_columns c.args.prefixed m)
     c.in_ok-push_sent_columns.ensures c.in_ok-push_called.ensures c.in_ok-push_answered_columns.ensures c.in_ok-push_carried_columns.ensures

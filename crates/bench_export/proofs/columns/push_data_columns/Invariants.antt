@@ -1,7 +1,6 @@
 use Rattle.std.proofs.Common.{◌≡◌, ◌++◌}
-use Rattle.ch11_f1.specs.Views.{message_of}
 use Rattle.bench_export.specs.Frames.{data_fields}
 use Rattle.bench_export.proofs.columns.push_data_columns.Given as goal
 
 abbrev pub invariant-words : goal.invariant-words
-invariant-words l = l.row ≡ l.fn.row ++ data_fields l.place l.prefixed (message_of l.seen)
+invariant-words l = l.row ≡ l.fn.row ++ data_fields l.place l.prefixed l.view

@@ -1,6 +1,5 @@
 use Rattle.std.proofs.Common.{◌≡◌, List, reverse, ap, ◌∙◌}
 use Rattle.ch11_f1.specs.BodyReading.{Message}
-use Rattle.ch11_f1.specs.Views.{message_of}
 use Rattle.bench_stat.specs.declared.tally.Tally.{Tally}
 use Rattle.bench_stat.specs.Figures.{figures_of_channel}
 use Rattle.bench_stat.specs.Steps.{tally_of}
@@ -13,7 +12,7 @@ messages-init c = begins (λ history. c.begin-tally.result ≡ tally_of c.args.c
 pub messages-preserved : goal.messages-preserved
 messages-preserved c =
     goes_on (λ history. c.messages.tally ≡ tally_of c.args.channel history) (λ history. c.note.new.self ≡ tally_of c.args.channel history)
-    c.of-rest.result c.messages.rest c.next.new.self (message_of c.in-Some.seen) c.messages.invariant c.in-Some.ensures.steps (c.note.ensures c.args.channel)
+    c.of-rest.result c.messages.rest c.next.new.self c.in-Some.view c.messages.invariant c.in-Some.ensures.steps (c.note.ensures c.args.channel)
 
 pub returns : goal.returns
 returns c =

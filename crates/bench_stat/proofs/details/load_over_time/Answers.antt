@@ -1,7 +1,6 @@
 use Rattle.std.proofs.Common.{◌≡◌, List, length, reverse, ap, sym, subst, arith}
 use Rattle.std.proofs.lemmas.List.{with_items_is}
 use Rattle.ch11_f1.specs.BodyReading.{Message}
-use Rattle.ch11_f1.specs.Views.{message_of}
 use Rattle.bench_stat.specs.declared.slices.Slice.{Slice}
 use Rattle.bench_stat.specs.Slices.{AreBusy}
 use Rattle.bench_stat.proofs.Histories.{IsAlong, begins, goes_on, ends}
@@ -15,7 +14,7 @@ messages-preserved c =
     let kept : length c.note_slices.new.slices ≡ c.messages.slices.len = omega (arith, c.note_slices.auto.slices, ap length c.as_mut_slice.ensures.value, c.as_mut_slice.ensures.len) in
     subst (λ (xs : List Slice). IsAlong (λ history. AreBusy history xs) c.of-rest.result c.next.new.self) (sym (with_items_is c.messages.slices c.note_slices.new.slices kept))
     (goes_on (λ history. AreBusy history c.messages.slices.items) (λ history. AreBusy history c.note_slices.new.slices)
-    c.of-rest.result c.messages.rest c.next.new.self (message_of c.in-Some.seen) c.messages.invariant c.in-Some.ensures.steps
+    c.of-rest.result c.messages.rest c.next.new.self c.in-Some.view c.messages.invariant c.in-Some.ensures.steps
     (λ history are. c.note_slices.ensures history (subst (λ (xs : List Slice). AreBusy history xs) (sym c.as_mut_slice.ensures.value) are)))
 
 pub returns : goal.returns

@@ -1,5 +1,4 @@
 use Rattle.std.proofs.Common.{◌∷◌, List, Bool, ap, sym, subst, ◌∙◌}
-use Rattle.ch11_f1.specs.Views.{message_of}
 use Rattle.bench_stat.specs.declared.sendings.Sending.{Sending}
 use Rattle.bench_stat.specs.declared.flows.Flow.{Flow}
 use Rattle.bench_stat.specs.Sendings.{sending_of}
@@ -9,7 +8,7 @@ use Rattle.bench_stat.proofs.entries.note_entries.Goals as goal
 
 pub returns-then-is_same : goal.returns-then-is_same
 returns-then-is_same c = λ history are.
-    let m = message_of c.args.seen.now in
+    let m = c.args.view.now in
     let first = c.note_choice.ensures ∙ ap (λ (f : Bool). with_choice c.of-sending.result.first f m c.args.entries.now) c.is_first_failed-failed.ensures
     ∙ ap (λ (s : Sending). with_choice s.first (is_first_failed s) m c.args.entries.now) c.of-sending.ensures in
     subst (λ (fs : List Flow). AreEntries (m ∷ history) fs) (sym first)
@@ -17,7 +16,7 @@ returns-then-is_same c = λ history are.
 
 pub returns : goal.returns
 returns c = λ history are.
-    let m = message_of c.args.seen.now in
+    let m = c.args.view.now in
     let first = c.note_choice.ensures ∙ ap (λ (f : Bool). with_choice c.of-sending.result.first f m c.args.entries.now) c.is_first_failed-failed.ensures
     ∙ ap (λ (s : Sending). with_choice s.first (is_first_failed s) m c.args.entries.now) c.of-sending.ensures in
     let both = c.note_choice-2.ensures ∙ ap (λ (s : Sending). with_choice s.second s.sender_failed m c.note_choice.new.entries) c.of-sending.ensures in

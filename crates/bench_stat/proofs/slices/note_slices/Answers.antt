@@ -1,5 +1,4 @@
 use Rattle.std.proofs.Common.{◌∷◌, get_or, sym, subst, arith}
-use Rattle.ch11_f1.specs.Views.{message_of}
 use Rattle.bench_stat.specs.declared.slices.Slice.{Slice}
 use Rattle.bench_stat.specs.Slices.{IsBusy}
 use Rattle.bench_stat.proofs.Following.{part_more}
@@ -9,6 +8,6 @@ pub returns : goal.returns
 returns c = λ history are. record {
   many = omega (arith, are.many, c.slices.auto.slices);
   each = λ k d within.
-      subst (λ (s : Slice). IsBusy (message_of c.args.seen.now ∷ history) s) (sym (c.slices.invariant.done k d (omega (arith, within))))
-      (part_more (message_of c.args.seen.now) history (get_or c.args.slices.now k d) (are.each k d (omega (arith, within, c.slices.auto.slices))));
+      subst (λ (s : Slice). IsBusy (c.args.view.now ∷ history) s) (sym (c.slices.invariant.done k d (omega (arith, within))))
+      (part_more c.args.view.now history (get_or c.args.slices.now k d) (are.each k d (omega (arith, within, c.slices.auto.slices))));
 }

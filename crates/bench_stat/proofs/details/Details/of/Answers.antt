@@ -1,6 +1,5 @@
 use Rattle.std.proofs.Common.{◌≡◌, List, reverse, ap, ◌∙◌}
 use Rattle.ch11_f1.specs.BodyReading.{Message}
-use Rattle.ch11_f1.specs.Views.{message_of}
 use Rattle.bench_stat.specs.Details.{details_of}
 use Rattle.bench_stat.proofs.Histories.{begins, goes_on, ends}
 use Rattle.bench_stat.proofs.details.Details.of.Goals as goal
@@ -11,7 +10,7 @@ messages-init c = begins (λ history. c.none-details.result ≡ details_of histo
 pub messages-preserved : goal.messages-preserved
 messages-preserved c =
     goes_on (λ history. c.messages.details ≡ details_of history) (λ history. c.note.new.self ≡ details_of history)
-    c.of-rest.result c.messages.rest c.next.new.self (message_of c.in-Some.seen) c.messages.invariant c.in-Some.ensures.steps c.note.ensures
+    c.of-rest.result c.messages.rest c.next.new.self c.in-Some.view c.messages.invariant c.in-Some.ensures.steps c.note.ensures
 
 pub returns : goal.returns
 returns c =

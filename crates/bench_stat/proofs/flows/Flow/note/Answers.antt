@@ -1,6 +1,5 @@
-use Rattle.ch11_f1.specs.Views.{message_of}
 use Rattle.bench_stat.proofs.Following.{flow_more}
 use Rattle.bench_stat.proofs.flows.Flow.note.Goals as goal
 
 pub returns-clause-flow : goal.returns-clause-flow
-returns-clause-flow c = λ history same. rw (c.note_message.ensures, same) (flow_more (message_of c.args.seen.now) history)
+returns-clause-flow c = λ history same. rw (c.note_message.ensures, same) (flow_more c.args.view.now history)

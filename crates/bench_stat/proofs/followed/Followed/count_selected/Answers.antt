@@ -1,6 +1,5 @@
 use Rattle.std.proofs.Common.{◌++◌, List, refl, arith}
 use Rattle.ch11_f1.specs.BodyReading.{Message}
-use Rattle.ch11_f1.specs.Views.{message_of}
 use Rattle.bench_stat.specs.Chosen.{picked}
 use Rattle.bench_stat.specs.Told.{IsFollowed}
 use Rattle.bench_stat.proofs.Histories.{begins, goes_on, ends}
@@ -18,7 +17,7 @@ messages-preserved c = record {
   along = λ shown history is.
       goes_on (λ past. IsFollowed shown (past ++ history) c.messages.self) (λ past. IsFollowed shown (past ++ history) c.count.new.self)
       (picked c.args.selection.now c.args.channel c.args.before c.args.messages) (picked c.args.selection.now c.args.channel c.messages.number c.messages.rest)
-      (picked c.args.selection.now c.args.channel c.next_selected.new.before c.next_selected.new.messages) (message_of c.in-Some.seen) (c.messages.invariant.along shown history is) c.in-Some.ensures.picked
+      (picked c.args.selection.now c.args.channel c.next_selected.new.before c.next_selected.new.messages) c.in-Some.view (c.messages.invariant.along shown history is) c.in-Some.ensures.picked
       (λ past. c.count.ensures shown (past ++ history));
 }
 

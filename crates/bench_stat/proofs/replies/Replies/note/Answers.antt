@@ -1,5 +1,4 @@
 use Rattle.std.proofs.Common.{refl}
-use Rattle.ch11_f1.specs.Views.{message_of}
 use Rattle.ch11_layout.specs.Layouts.{commands_in, data_start, data_end, size_of}
 use Rattle.bench_stat.specs.Replies.{word_before}
 use Rattle.bench_stat.proofs.Following.{replies_more}
@@ -7,6 +6,6 @@ use Rattle.bench_stat.proofs.replies.Replies.note.Goals as goal
 
 pub returns : goal.returns
 returns c = λ history same.
-    let m = message_of c.args.seen.now in
-    rw (c.note_at-2.ensures, c.note_at.ensures, c.of-layout.ensures.value, same)
+    let m = c.args.view.now in
+    rw (c.note_at-2.ensures, c.note_at.ensures, c.layout-layout.ensures, same)
     (replies_more m history (word_before m (data_end m) (size_of m)) (word_before m (commands_in m) (data_start m)) refl)

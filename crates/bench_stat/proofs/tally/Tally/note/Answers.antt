@@ -1,6 +1,5 @@
 use Rattle.std.proofs.Common.{◌≡◌, ℕ, ◌+◌, ◌∷◌, ◌++◌, Bool, ap, sym, ◌∙◌}
 use Rattle.std.proofs.lemmas.List.Concat.{flat_map-cons}
-use Rattle.ch11_f1.specs.Views.{message_of}
 use Rattle.ch11_layout.specs.Layouts.{first_gap}
 use Rattle.ch11_reader.specs.Contents.{capped}
 use Rattle.bench_stat.specs.declared.sendings.Sending.{Sending}
@@ -14,7 +13,7 @@ use Rattle.bench_stat.proofs.tally.Tally.note.Goals as goal
 
 pub returns : goal.returns
 returns c = λ channel history same.
-    let m = message_of c.args.seen.now in
+    let m = c.args.view.now in
     let number : c.args.self.now.figures.channel ≡ channel = ap (λ (t : Tally). t.figures.channel) same in
     let traffic : c.note.new.self ≡ traffic_of (m ∷ history) = c.note.ensures history (ap (λ (t : Tally). t.figures.traffic) same) in
     let errors : c.note-2.new.self ≡ errors_of (m ∷ history) = c.note-2.ensures ∙ ap (λ (t : Tally). with_errors m t.figures.errors) same ∙ errors_more m history in

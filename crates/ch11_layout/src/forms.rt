@@ -1,17 +1,17 @@
-//! The form of a message.
-ghost use Rattle.bench_decode.specs.Forms as spec;
+//! The form of a recorded message.
 ghost use Rattle.ch11_f1.specs.Views.{message_of};
+ghost use Rattle.ch11_layout.specs.Forms as spec;
+ghost use Rattle.ch11_layout.specs.Layouts.{layout_of};
 ghost use Rattle.std.specs.Prelude.{◌≡◌};
 
+use crate::layouts::Layout;
 use ch11_f1::Seen;
-use ch11_layout::block::TERMINAL_TO_TERMINAL;
-use ch11_layout::is_set;
 use mil_word::Command;
 
 /// The form of a recorded message, by its command words (MIL-STD-1553B 4.3.3.6). Addresses are 0 to 30, counts 1 to 32,
 /// mode codes 0 to 31; subaddresses 1 to 30, of mode commands 0 or 31.
 #[derive(Clone, Copy, Debug, PartialEq, Eq)]
-pub enum Form {
+pub enum RecordedForm {
     /// Controller to terminal: `rx`.
     Receive {
         address: u8,
@@ -61,25 +61,52 @@ pub enum Form {
     Unknown,
 }
 
-impl Form {
-    /// The form of a message.
-    pub fn of(seen: &Seen<'_>) -> Form
+impl RecordedForm {
+    /// The form of a message with this layout.
+    #[inline]
+    pub(crate) fn in_layout(seen: &Seen<'_>, layout: &Layout) -> RecordedForm
+        requires { layout.now ≡ layout_of (message_of seen.now) }
         ensures { result ≡ spec.form_of (message_of seen.now) }
     {
-        let words = seen.word_count();
-        if words == 0 {
-            return Form::Unknown;
-        }
         let first = Command::of(seen.word(0));
-        if is_set(seen.block, TERMINAL_TO_TERMINAL) && words > 1 {
-            of_two(first, Command::of(seen.word(1)))
-        } else {
-            of_one(first)
+        match layout.commands {
+            0 => RecordedForm::Unknown,
+            1 => RecordedForm::of_command(first),
+            _ => of_two(first, Command::of(seen.word(1))),
+        }
+    }
+
+    /// The form of a message with this command alone.
+    #[inline]
+    pub fn of_command(command: Command) -> RecordedForm
+        ensures { result ≡ spec.form_of_one command }
+    {
+        if command.is_mode() {
+            return mode_of(command);
+        }
+        let (address, subaddress, count) = (
+            command.address(),
+            command.subaddress(),
+            command.count(),
+        );
+        match (command.is_receive(), command.is_broadcast()) {
+            (true, true) => RecordedForm::ReceiveAll { subaddress, count },
+            (true, false) => RecordedForm::Receive {
+                address,
+                subaddress,
+                count,
+            },
+            (false, true) => RecordedForm::Unknown,
+            (false, false) => RecordedForm::Transmit {
+                address,
+                subaddress,
+                count,
+            },
         }
     }
 }
 
-fn mode_of(command: Command) -> Form
+fn mode_of(command: Command) -> RecordedForm
     ensures { result ≡ spec.mode_form command }
 {
     let (subaddress, transmit, code) = (
@@ -88,42 +115,17 @@ fn mode_of(command: Command) -> Form
         command.code(),
     );
     if command.is_broadcast() {
-        return Form::ModeAll {
+        return RecordedForm::ModeAll {
             subaddress,
             transmit,
             code,
         };
     }
-    Form::Mode {
+    RecordedForm::Mode {
         address: command.address(),
         subaddress,
         transmit,
         code,
-    }
-}
-
-/// The form of a message with this command alone.
-#[inline]
-pub(crate) fn of_one(command: Command) -> Form
-    ensures { result ≡ spec.form_of_one command }
-{
-    if command.is_mode() {
-        return mode_of(command);
-    }
-    let (address, subaddress, count) = (command.address(), command.subaddress(), command.count());
-    match (command.is_receive(), command.is_broadcast()) {
-        (true, true) => Form::ReceiveAll { subaddress, count },
-        (true, false) => Form::Receive {
-            address,
-            subaddress,
-            count,
-        },
-        (false, true) => Form::Unknown,
-        (false, false) => Form::Transmit {
-            address,
-            subaddress,
-            count,
-        },
     }
 }
 
@@ -140,23 +142,23 @@ fn are_transfer(first: Command, second: Command) -> bool
 
 /// The form of a message with these two commands.
 #[inline]
-fn of_two(first: Command, second: Command) -> Form
+fn of_two(first: Command, second: Command) -> RecordedForm
     ensures { result ≡ spec.form_of_two first second }
 {
     if !are_transfer(first, second) {
-        return Form::Unknown;
+        return RecordedForm::Unknown;
     }
     let (sender, sender_subaddress) = (second.address(), second.subaddress());
     let (receiver_subaddress, count) = (first.subaddress(), first.count());
     if first.is_broadcast() {
-        return Form::BetweenAll {
+        return RecordedForm::BetweenAll {
             sender,
             sender_subaddress,
             receiver_subaddress,
             count,
         };
     }
-    Form::Between {
+    RecordedForm::Between {
         sender,
         sender_subaddress,
         receiver: first.address(),
