@@ -8,3 +8,8 @@ mod Finding
 mod Judged
 mod Streamed
 mod Rereading
+mod Showing
+mod Named
+mod Cases
+mod Known
+mod Putting

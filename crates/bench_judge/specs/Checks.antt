@@ -10,7 +10,7 @@ use Rattle.judge_rules.specs.declared.rules.Datum.{Datum}
 use Rattle.judge_rules.specs.declared.rules.Check.{Check}
 use Rattle.judge_rules.specs.declared.rules.Check.TheVariants.{Sound, Failed, Clean, Status, Data, Response, Period}
 use Rattle.judge_rules.specs.declared.rules.Check.TheVariants.{Count}
-use Rattle.bench_judge.specs.Words.{statuses, data_count}
+use Rattle.ch11_layout.specs.Replies.{statuses, data_count}
 use Rattle.bench_judge.specs.Clean.{clean}
 
 -- the word has the value in the bits of the mask

@@ -21,7 +21,7 @@ use Rattle.ch11_layout.specs.BlockStatus.{has_error, has_format_error, has_respo
 use Rattle.ch11_layout.specs.BlockStatus.{has_sync_type_error, has_invalid_word_error}
 use Rattle.ch11_layout.specs.Layouts.{first_word}
 use Rattle.bench_select.specs.Selectors.{second_word}
-use Rattle.bench_judge.specs.Words.{has_two, statuses, data_words, data_count, gaps}
+use Rattle.ch11_layout.specs.Replies.{has_two, statuses, data_words, data_count, gaps}
 
 -- the block status word tells of no error
 abbrev pub has_no_error : ℕ → Bool

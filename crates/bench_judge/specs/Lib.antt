@@ -1,4 +1,3 @@
-pub mod Words
 pub mod Selection
 pub mod Clean
 pub mod Checks
@@ -6,3 +5,8 @@ pub mod Verdicts
 pub mod Lines
 pub mod Tallies
 pub mod Streaming
+pub mod Names
+pub mod Losses
+pub mod Characters
+pub mod Junit
+pub mod Colored

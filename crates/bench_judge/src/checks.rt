@@ -1,15 +1,11 @@
 //! Which of the selected messages miss their rule.
 ghost use Rattle.bench_judge.specs.Checks as spec;
 ghost use Rattle.bench_judge.specs.Clean.{IsKnown};
-ghost use Rattle.ch11_f1.specs.Views.{message_of};
 ghost use Rattle.std.specs.List.{list_all};
 ghost use Rattle.std.specs.Prelude.{◌≡◌, ◌+◌, ◌<◌, ◌^◌, length};
 
 use crate::clean::clean_once;
-use crate::words::statuses;
-use ch11_f1::Seen;
-use ch11_layout::block::MESSAGE_ERROR;
-use ch11_layout::{Layout, first_gap, is_set, second_gap};
+use ch11_layout::View;
 use judge_rules::{Bounds, Check, Datum};
 
 /// How many ticks of 0.1 µs a microsecond has.
@@ -40,22 +36,21 @@ fn all_agree(datum: &Datum, words: &[u16]) -> bool
 }
 
 /// Whether a message has a status word, and all have this value.
-fn has_status(datum: &Datum, seen: &Seen<'_>) -> bool
-    ensures { result ≡ spec.has_status datum.now (message_of seen.now) }
+fn has_status(datum: &Datum, view: &View<'_>) -> bool
+    ensures { result ≡ spec.has_status datum.now view.now }
 {
-    let layout = Layout::of(seen);
-    let found = statuses(seen, &layout);
+    let found = view.statuses();
     is_some_list(found.as_slice()) && all_agree(datum, found.as_slice())
 }
 
 /// Whether a message's words from a place on have these values.
-fn words_agree(seen: &Seen<'_>, place: usize, wanted: &[Datum]) -> bool
+fn words_agree(view: &View<'_>, place: usize, wanted: &[Datum]) -> bool
     requires { place + length wanted.now < 2 ^ 64 }
-    ensures { result ≡ spec.words_agree seen.now.words.now place wanted.now }
+    ensures { result ≡ spec.words_agree view.now.bytes place wanted.now }
 {
     let (mut next, mut rest) = (place, wanted);
     'words: while let Some((datum, others)) = rest.split_first() {
-        if !agrees(datum, seen.word(next)) {
+        if !agrees(datum, view.word(next)) {
             return false;
         }
         next += 1;
@@ -65,12 +60,10 @@ fn words_agree(seen: &Seen<'_>, place: usize, wanted: &[Datum]) -> bool
 }
 
 /// Whether the data words of a message are these, as many of them.
-fn has_data(wanted: &[Datum], seen: &Seen<'_>) -> bool
-    ensures { result ≡ spec.has_data wanted.now (message_of seen.now) }
+fn has_data(wanted: &[Datum], view: &View<'_>) -> bool
+    ensures { result ≡ spec.has_data wanted.now view.now }
 {
-    let layout = Layout::of(seen);
-    let count = layout.data_end.saturating_sub(layout.data_start);
-    count == wanted.len() && words_agree(seen, layout.data_start, wanted)
+    view.data_count() == wanted.len() && words_agree(view, view.layout().data_start, wanted)
 }
 
 /// Whether a number lies in bounds.
@@ -81,10 +74,10 @@ fn is_in(bounds: &Bounds, number: u64) -> bool
 }
 
 /// Whether a message has a reply, and the gap of each lies in the bounds.
-fn responds_in(bounds: &Bounds, seen: &Seen<'_>) -> bool
-    ensures { result ≡ spec.responds_in bounds.now (message_of seen.now) }
+fn responds_in(bounds: &Bounds, view: &View<'_>) -> bool
+    ensures { result ≡ spec.responds_in bounds.now view.now }
 {
-    let (first, second) = (first_gap(seen), second_gap(seen));
+    let (first, second) = (view.first_gap(), view.second_gap());
     (first != 0 || second != 0)
         && (first == 0 || is_in(bounds, u64::from(first)))
         && (second == 0 || is_in(bounds, u64::from(second)))
@@ -139,21 +132,21 @@ pub(crate) fn is_count(check: &Check) -> bool
 pub(crate) fn meets(
     check: &Check,
     before: Option<u64>,
-    seen: &Seen<'_>,
+    view: &View<'_>,
     known: &mut Option<bool>,
 ) -> bool
-    requires { IsKnown known.old (message_of seen.now) }
-    ensures met { result ≡ spec.meets check.now before (message_of seen.now) }
-    ensures known { IsKnown known.new (message_of seen.now) }
+    requires { IsKnown known.old view.now }
+    ensures met { result ≡ spec.meets check.now before view.now }
+    ensures known { IsKnown known.new view.now }
 {
     match check {
-        Check::Sound => !is_set(seen.block, MESSAGE_ERROR),
-        Check::Failed => is_set(seen.block, MESSAGE_ERROR),
-        Check::Clean => clean_once(known, seen),
-        Check::Status(datum) => has_status(datum, seen),
-        Check::Data(wanted) => has_data(wanted.as_slice(), seen),
-        Check::Response(bounds) => responds_in(bounds, seen),
-        Check::Period(bounds) => follows_in(bounds, before, seen.stamp),
+        Check::Sound => !view.has_error(),
+        Check::Failed => view.has_error(),
+        Check::Clean => clean_once(known, view),
+        Check::Status(datum) => has_status(datum, view),
+        Check::Data(wanted) => has_data(wanted.as_slice(), view),
+        Check::Response(bounds) => responds_in(bounds, view),
+        Check::Period(bounds) => follows_in(bounds, before, view.stamp()),
         Check::Count(_) => true,
     }
 }

@@ -1,34 +1,26 @@
 //! Messages as the standard has them.
 ghost use Rattle.bench_judge.specs.Clean as spec;
-ghost use Rattle.bench_judge.specs.Words.{data_count};
-ghost use Rattle.ch11_f1.specs.Views.{message_of};
-ghost use Rattle.ch11_layout.specs.Layouts.{layout_of};
+ghost use Rattle.ch11_layout.specs.Replies.{data_count};
 ghost use Rattle.mil_word.specs.Fields.{most_words};
 ghost use Rattle.std.specs.Prelude.{◌≡◌, ◌-◌, ◌≤◌, Some, if◌then◌else◌};
 
 use crate::replies::{replies_fit, sends_no_data, words_due};
-use crate::words::{data_words, statuses};
-use ch11_f1::Seen;
-use ch11_layout::block::{
-    FORMAT_ERROR, INVALID_WORD_ERROR, MESSAGE_ERROR, RESPONSE_TIMEOUT, SYNC_TYPE_ERROR,
-    WORD_COUNT_ERROR,
-};
-use ch11_layout::{Layout, first_gap, is_set, second_gap};
+use ch11_layout::View;
 use mil_message::Message;
 use mil_mode::{ModeRow, broadcast_allowed, mode_of};
 use mil_word::Command;
 use mil_word::fields::MOST_WORDS;
 
-/// Whether a block status word has none of the bits of errors.
-fn has_no_error(block: u16) -> bool
-    ensures { result ≡ spec.has_no_error block }
+/// Whether the block status word of a message has none of the bits of errors.
+fn has_no_error(view: &View<'_>) -> bool
+    ensures { result ≡ spec.has_no_error view.now.block }
 {
-    !is_set(block, MESSAGE_ERROR)
-        && !is_set(block, FORMAT_ERROR)
-        && !is_set(block, RESPONSE_TIMEOUT)
-        && !is_set(block, WORD_COUNT_ERROR)
-        && !is_set(block, SYNC_TYPE_ERROR)
-        && !is_set(block, INVALID_WORD_ERROR)
+    !view.has_error()
+        && !view.has_format_error()
+        && !view.has_response_timeout()
+        && !view.has_word_count_error()
+        && !view.has_sync_type_error()
+        && !view.has_invalid_word_error()
 }
 
 /// Whether the standard assigns a mode command's code, and lets it be sent to all terminals where it is.
@@ -88,17 +80,16 @@ fn message_with(number: u8, first: u16, second: u16, words: &[u16]) -> Option<Me
 
 /// The message of one of the ten forms whose words a recorded message may have. Condition: at most 32 of its words are
 /// data words.
-fn message_in(seen: &Seen<'_>, layout: &Layout) -> Option<Message>
-    requires same { layout.now ≡ layout_of (message_of seen.now) }
-    requires few { layout.now.data_end - layout.now.data_start ≤ most_words }
-    ensures { result ≡ spec.form_with (spec.parts_in (message_of seen.now)) }
+fn message_in(view: &View<'_>) -> Option<Message>
+    requires { data_count view.now ≤ most_words }
+    ensures { result ≡ spec.form_with (spec.parts_in view.now) }
 {
-    let two = layout.commands == 2;
-    let first = seen.word(0);
-    let second = if two { seen.word(1) } else { 0 };
+    let two = view.layout().commands == 2;
+    let first = view.word(0);
+    let second = if two { view.word(1) } else { 0 };
     let number = form_number(two, Command::of(first));
     if matches!(number, 0 | 5 | 6 | 9) {
-        let words = data_words(seen, layout);
+        let words = view.data_words();
         message_with(number, first, second, words.as_slice())
     } else {
         message_with(number, first, second, &[])
@@ -116,39 +107,38 @@ fn data_fit(message: &Message, count: usize, statuses: &[u16]) -> bool
 /// Whether a message is as the standard has it: of one of the ten forms, with a mode code that the standard assigns,
 /// all replies in time and no word too many or too few (MIL-STD-1553B 4.3.3.6, with Notice 2).
 #[tactic(auto, unfolding(crate::specs::Clean::clean))]
-pub(crate) fn is_clean(seen: &Seen<'_>) -> bool
-    ensures { result ≡ spec.clean (message_of seen.now) }
+pub(crate) fn is_clean(view: &View<'_>) -> bool
+    ensures { result ≡ spec.clean view.now }
 {
-    if !has_no_error(seen.block) || !may_be_sent(Command::of(seen.word(0))) {
+    if !has_no_error(view) || !may_be_sent(Command::of(view.word(0))) {
         return false;
     }
-    let layout = Layout::of(seen);
-    let count = layout.data_end.saturating_sub(layout.data_start);
+    let count = view.data_count();
     if count > usize::from(MOST_WORDS) {
         return false;
     }
-    let Some(message) = message_in(seen, &layout) else {
+    let Some(message) = message_in(view) else {
         return false;
     };
-    let statuses = statuses(seen, &layout);
+    let statuses = view.statuses();
     data_fit(&message, count, statuses.as_slice())
         && replies_fit(
             message.replies_due().as_slice(),
             statuses.as_slice(),
-            &[first_gap(seen), second_gap(seen)],
+            &[view.first_gap(), view.second_gap()],
         )
 }
 
 /// Whether a message is clean, which is worked out where it is not known yet, and known from then on.
-pub(crate) fn clean_once(known: &mut Option<bool>, seen: &Seen<'_>) -> bool
-    requires { spec.IsKnown known.old (message_of seen.now) }
-    ensures value { result ≡ spec.clean (message_of seen.now) }
-    ensures known { spec.IsKnown known.new (message_of seen.now) }
+pub(crate) fn clean_once(known: &mut Option<bool>, view: &View<'_>) -> bool
+    requires { spec.IsKnown known.old view.now }
+    ensures value { result ≡ spec.clean view.now }
+    ensures known { spec.IsKnown known.new view.now }
 {
     if let Some(clean) = *known {
         return clean;
     }
-    let clean = is_clean(seen);
+    let clean = is_clean(view);
     *known = Some(clean);
     clean
 }

@@ -1,14 +1,19 @@
 //! Verdicts for people at a terminal: each rule by its own text, green or red, and the first messages that miss it.
+ghost use Rattle.bench_judge.specs.Colored as spec;
+ghost use Rattle.std.specs.Io.KnownBytes.{Appends};
+ghost use Rattle.std.specs.Prelude.{◌≡◌, ◌++◌, [], OnOk, IfOk, length, map};
+
 use crate::names::Names;
 use crate::numbers::put_number;
 use crate::pass_fault::PassFault;
 use crate::sought::{Anew, Sought, Wanted};
 use crate::verdicts::{Judged, RuleVerdict, not_held};
-use bench_decode::{Line, Shown};
+use bench_decode::{Shown, TextLine};
 use bench_watch::Reopen;
 use ch11_reader::Index;
 use judge_rules::Rule;
 use std::alloc::{AllocError, Global};
+use std::io;
 use std::io::Write;
 
 /// How many messages that miss a rule are shown.
@@ -20,70 +25,175 @@ const RED: &[u8] = b"\x1b[31m";
 
 const PLAIN: &[u8] = b"\x1b[0m";
 
+/// A byte, or a question mark for one that would steer the terminal.
+fn steady(byte: u8) -> u8
+    ensures { result ≡ spec.steady byte }
+{
+    if byte < 0x20 || byte == 0x7F {
+        b'?'
+    } else {
+        byte
+    }
+}
+
 /// Appends the text of a rule; a byte that would steer the terminal is a question mark.
-fn put_name(text: &mut Vec<u8>, name: &[u8]) -> Result<(), AllocError> {
-    for byte in name {
-        text.push(if *byte < 0x20 || *byte == 0x7F {
-            b'?'
-        } else {
-            *byte
-        })?;
+fn put_name(text: &mut Vec<u8>, name: &[u8]) -> Result<(), AllocError>
+    ensures { OnOk result (text.new.items ≡ text.old.items ++ map spec.steady name.now) }
+{
+    let mut rest = name;
+    'bytes: while let Some((byte, others)) = rest.split_first() {
+        text.push(steady(*byte))?;
+        rest = others;
     }
     Ok(())
 }
 
-/// Appends a rule with its numbers.
-fn put_rule(text: &mut Vec<u8>, name: &[u8], verdict: &RuleVerdict) -> Result<(), AllocError> {
-    let held = verdict.held;
-    text.extend_from_slice(if held { GREEN } else { RED })?;
+/// Appends what begins green where all is held, and else red.
+fn put_color(text: &mut Vec<u8>, held: bool) -> Result<(), AllocError>
+    ensures { OnOk result (text.new.items ≡ text.old.items ++ spec.color_of held) }
+{
+    text.extend_from_slice(if held { GREEN } else { RED })
+}
+
+/// Appends that a rule is held, in green, or missed, in red.
+#[tactic(auto, unfolding(crate::specs::Colored::mark))]
+fn put_mark(text: &mut Vec<u8>, held: bool) -> Result<(), AllocError>
+    ensures { OnOk result (text.new.items ≡ text.old.items ++ spec.mark held) }
+{
+    put_color(text, held)?;
     text.extend_from_slice(if held { b"held   " } else { b"missed " })?;
-    text.extend_from_slice(PLAIN)?;
-    put_name(text, name)?;
+    text.extend_from_slice(PLAIN)
+}
+
+/// Appends why a rule is missed, if it is, but for one that selects no message.
+#[tactic(auto, unfolding(crate::specs::Colored::why))]
+fn put_why(text: &mut Vec<u8>, verdict: &RuleVerdict) -> Result<(), AllocError>
+    ensures { OnOk result (text.new.items ≡ text.old.items ++ spec.why verdict.now) }
+{
+    if verdict.miscounted {
+        return text.extend_from_slice(b", another count");
+    }
+    if verdict.missed > 0 {
+        put_number(text, b", ", verdict.missed)?;
+        return text.extend_from_slice(b" missed");
+    }
+    Ok(())
+}
+
+/// Appends the numbers of a rule.
+#[tactic(auto, unfolding(crate::specs::Colored::numbers))]
+fn put_numbers(text: &mut Vec<u8>, verdict: &RuleVerdict) -> Result<(), AllocError>
+    ensures { OnOk result (text.new.items ≡ text.old.items ++ spec.numbers verdict.now) }
+{
     put_number(text, b"  (", verdict.selected)?;
     text.extend_from_slice(b" selected")?;
-    if verdict.miscounted {
-        text.extend_from_slice(b", another count")?;
-    } else if verdict.missed > 0 {
-        put_number(text, b", ", verdict.missed)?;
-        text.extend_from_slice(b" missed")?;
-    }
+    put_why(text, verdict)?;
     text.extend_from_slice(b")\n")
 }
 
+/// Appends a rule with its numbers.
+#[tactic(auto, unfolding(crate::specs::Colored::rule_shown))]
+fn put_rule(text: &mut Vec<u8>, name: &[u8], verdict: &RuleVerdict) -> Result<(), AllocError>
+    ensures { OnOk result (text.new.items ≡ text.old.items ++ spec.rule_shown name.now verdict.now) }
+{
+    put_mark(text, verdict.held)?;
+    put_name(text, name)?;
+    put_numbers(text, verdict)
+}
+
 /// Appends how many rules there are and how many are not held.
-fn put_last(text: &mut Vec<u8>, verdicts: &[RuleVerdict]) -> Result<(), AllocError> {
+fn put_last(text: &mut Vec<u8>, verdicts: &[RuleVerdict]) -> Result<(), AllocError>
+    ensures { OnOk result (text.new.items ≡ text.old.items ++ spec.last_shown verdicts.now) }
+{
     let missed = not_held(verdicts);
-    text.extend_from_slice(if missed == 0 { GREEN } else { RED })?;
+    put_color(text, missed == 0)?;
     put_number(text, b"", verdicts.len() as u64)?;
-    text.extend_from_slice(b" rules, ")?;
-    put_number(text, b"", missed)?;
+    put_number(text, b" rules, ", missed)?;
     text.extend_from_slice(b" not held")?;
     text.extend_from_slice(PLAIN)?;
-    text.extend_from_slice(b"\n")
+    text.extend_from_slice(b"\n")?;
+    Ok(())
+}
+
+/// The first messages that miss a rule, as they are shown; none where none does.
+fn shown_misses<S: Sought>(
+    alloc: Global,
+    line: &mut TextLine,
+    recording: &S,
+    rule: &Rule,
+    missed: u64,
+) -> Result<Vec<u8>, PassFault>
+    ensures { missed ≡ 0 → IfOk result (λ shown. shown.items ≡ []) }
+{
+    let mut shown = Vec::new(alloc);
+    if missed > 0 {
+        let wanted = Wanted {
+            alloc,
+            rule,
+            most: SHOWN as usize,
+        };
+        recording.write_first(wanted, line, &mut shown)?;
+    }
+    Ok(shown)
+}
+
+/// Writes how many more messages miss a rule than are shown, if any do.
+#[tactic(auto, unfolding(crate::specs::Colored::more_shown))]
+fn write_more<W: Write>(missed: u64, out: &mut W) -> io::Result<()>
+    ensures { OnOk result (Appends (W.contents out.old) (W.contents out.new) (spec.more_shown missed)) }
+{
+    if missed > SHOWN {
+        let more = missed - SHOWN;
+        write!(out, "      and {more} more\n")?;
+    }
+    Ok(())
 }
 
 /// Writes a rule, and the first messages that miss it.
 fn write_rule<S: Sought, W: Write>(
-    text: &mut Vec<u8>,
-    line: &mut Line,
+    alloc: Global,
+    line: &mut TextLine,
     recording: &S,
+    name: &[u8],
     rule: &Rule,
     verdict: &RuleVerdict,
     out: &mut W,
-) -> Result<(), PassFault> {
+) -> Result<(), PassFault>
+    ensures { OnOk result (spec.AppendsSome (spec.IsRuleShown name.now verdict.now) (W.contents out.old)
+        (W.contents out.new)) }
+{
+    let mut text = Vec::new(alloc);
+    put_rule(&mut text, name, verdict)?;
+    let shown = shown_misses(alloc, line, recording, rule, verdict.missed)?;
     out.write_all(text.as_slice())?;
-    if verdict.missed == 0 {
-        return Ok(());
-    }
-    let wanted = Wanted {
-        alloc: *text.allocator(),
-        rule,
-        most: SHOWN as usize,
-    };
-    recording.write_first(wanted, line, out)?;
-    if verdict.missed > SHOWN {
-        let more = verdict.missed - SHOWN;
-        write!(out, "      and {more} more\n")?;
+    out.write_all(shown.as_slice())?;
+    write_more(verdict.missed, out)?;
+    Ok(())
+}
+
+/// Writes each rule.
+fn write_rules<S: Sought, W: Write>(
+    alloc: Global,
+    recording: &S,
+    judged: Judged<'_>,
+    out: &mut W,
+) -> Result<(), PassFault>
+    ensures { length judged.entry.rules.now ≡ length judged.entry.verdicts.now
+        → OnOk result (spec.AppendsSome (spec.AreShown judged.entry.text.now judged.entry.verdicts.now)
+        (W.contents out.old) (W.contents out.new)) }
+{
+    let mut line = TextLine::new(alloc, Shown::Colored)?;
+    let mut names = Names::of(judged.text);
+    let mut rules = judged.rules;
+    let mut verdicts = judged.verdicts;
+    'rules: while let Some((verdict, others)) = verdicts.split_first() {
+        let Some((rule, more)) = rules.split_first() else {
+            return Ok(());
+        };
+        let name = names.at(verdict.line);
+        write_rule(alloc, &mut line, recording, name, rule, verdict, out)?;
+        rules = more;
+        verdicts = others;
     }
     Ok(())
 }
@@ -94,16 +204,13 @@ fn write_for_people<S: Sought, W: Write>(
     recording: &S,
     judged: Judged<'_>,
     out: &mut W,
-) -> Result<(), PassFault> {
-    let mut line = Line::new(alloc, Shown::Colored)?;
+) -> Result<(), PassFault>
+    ensures { length judged.entry.rules.now ≡ length judged.entry.verdicts.now
+        → OnOk result (spec.AppendsSome (spec.IsColored judged.entry.text.now judged.entry.verdicts.now)
+        (W.contents out.old) (W.contents out.new)) }
+{
+    write_rules(alloc, recording, judged, out)?;
     let mut text = Vec::new(alloc);
-    let mut names = Names::of(judged.text);
-    for (rule, verdict) in judged.rules.iter().zip(judged.verdicts) {
-        text.clear();
-        put_rule(&mut text, names.at(verdict.line), verdict)?;
-        write_rule(&mut text, &mut line, recording, rule, verdict, out)?;
-    }
-    text.clear();
     put_last(&mut text, judged.verdicts)?;
     out.write_all(text.as_slice())?;
     out.flush()?;
@@ -120,7 +227,11 @@ pub fn write_colored<W: Write>(
     rules: &[Rule],
     verdicts: &[RuleVerdict],
     out: &mut W,
-) -> Result<(), PassFault> {
+) -> Result<(), PassFault>
+    ensures { length rules.now ≡ length verdicts.now
+        → OnOk result (spec.AppendsSome (spec.IsColored rules_text.now verdicts.now) (W.contents out.old)
+        (W.contents out.new)) }
+{
     write_for_people(alloc, index, Judged::of(rules_text, rules, verdicts), out)
 }
 
@@ -133,7 +244,11 @@ pub fn write_colored_from<S: Reopen, W: Write>(
     rules: &[Rule],
     verdicts: &[RuleVerdict],
     out: &mut W,
-) -> Result<(), PassFault> {
+) -> Result<(), PassFault>
+    ensures { length rules.now ≡ length verdicts.now
+        → OnOk result (spec.AppendsSome (spec.IsColored rules_text.now verdicts.now) (W.contents out.old)
+        (W.contents out.new)) }
+{
     let anew = Anew { recording };
     write_for_people(alloc, &anew, Judged::of(rules_text, rules, verdicts), out)
 }

@@ -1,15 +1,15 @@
 //! The first messages that miss a rule.
 ghost use Rattle.bench_judge.specs.Tallies.{IsFinding, heard_on};
 ghost use Rattle.bench_judge.specs.Verdicts.{misses};
-ghost use Rattle.ch11_f1.specs.Views.{message_of};
 ghost use Rattle.ch11_reader.specs.Contents.{heard_in, Heard};
 ghost use Rattle.ch11_stream.specs.Folding.{FoldsPackets};
-ghost use Rattle.std.specs.Prelude.{OnOk};
+ghost use Rattle.std.specs.Prelude.{IfOk, OnOk};
 ghost use Rattle.std.specs.Prelude.{◌≡◌, ◌+◌, ◌<◌, ◌≤◌, ◌^◌, ◌∷◌, ◌++◌, [], ℕ, List, Some, length, take, reverse};
 
 use crate::tallies::Tally;
 use crate::verdicts::Miss;
-use ch11_f1::{Messages, Seen};
+use ch11_f1::Messages;
+use ch11_layout::View;
 use ch11_reader::{Index, Packet};
 use ch11_stream::{Advance, Packets, StreamFault};
 use judge_rules::Rule;
@@ -33,16 +33,16 @@ fn note_first(
     rule: &Rule,
     number: u64,
     channel: u16,
-    seen: &Seen<'_>,
+    view: &View<'_>,
     most: usize,
     found: &mut Vec<Miss>,
 ) -> Result<(), AllocError>
     ensures { (history : List Heard) → IsFinding rule.now most history found.old.items tally.old
         → number ≡ length history + 1
-        → OnOk result (IsFinding rule.now most ((channel, message_of seen.now) ∷ history)
+        → OnOk result (IsFinding rule.now most ((channel, view.now) ∷ history)
         found.new.items tally.new) }
 {
-    if let Some(miss) = tally.note_miss(rule, number, channel, seen)? {
+    if let Some(miss) = tally.note_miss(rule, number, channel, view)? {
         put_first(found, most, miss)?;
     }
     Ok(())
@@ -68,7 +68,7 @@ fn first_in(
     let mut rest = messages;
     'messages: while let Some(seen) = rest.next() {
         number += 1;
-        note_first(tally, rule, number, channel, &seen, most, found)?;
+        note_first(tally, rule, number, channel, &View::of(&seen), most, found)?;
     }
     Ok(())
 }
@@ -79,22 +79,26 @@ pub(crate) fn first_misses(
     index: &Index<'_>,
     rule: &Rule,
     most: usize,
-) -> Result<Vec<Miss>, AllocError> {
+) -> Result<Vec<Miss>, AllocError>
+    ensures { IfOk result (λ found. found.items ≡ take most (misses rule.now (reverse (heard_in index.now)))) }
+{
     let mut found = Vec::new(alloc);
     let mut tally = Tally::new(alloc);
     let packets = index.packets();
     'packets: for place in 0..packets.len() {
-        if found.len() < most {
-            let messages = index.messages_in(place);
-            first_in(
-                &mut tally,
-                rule,
-                &packets[place],
-                messages,
-                most,
-                &mut found,
-            )?;
+        let enough = most <= found.len();
+        if enough {
+            return Ok(found);
         }
+        let messages = index.messages_in(place);
+        first_in(
+            &mut tally,
+            rule,
+            &packets[place],
+            messages,
+            most,
+            &mut found,
+        )?;
     }
     Ok(found)
 }

@@ -1,7 +1,6 @@
 //! Passes over the messages of a recording: one for all rules, but for many rules of many channels.
 ghost use Rattle.bench_judge.specs.Tallies.{AreTallies, heard_on};
 ghost use Rattle.bench_judge.specs.Verdicts.{AreVerdicts};
-ghost use Rattle.ch11_f1.specs.Views.{message_of};
 ghost use Rattle.ch11_reader.specs.Contents.{heard_in, Heard};
 ghost use Rattle.judge_rules.specs.declared.rules.Rule.{Rule};
 ghost use Rattle.std.specs.Prelude.{◌≡◌, ◌+◌, ◌<◌, ◌≤◌, ◌^◌, ◌∷◌, ◌++◌, [], List, length, reverse, IfOk, OnOk};
@@ -9,7 +8,8 @@ ghost use Rattle.std.specs.Prelude.{◌≡◌, ◌+◌, ◌<◌, ◌≤◌, ◌^
 use crate::tallies::Tally;
 use crate::verdicts::{RuleVerdict, verdict_of};
 use bench_select::no_channels;
-use ch11_f1::{Messages, Seen};
+use ch11_f1::Messages;
+use ch11_layout::View;
 use ch11_reader::Index;
 use judge_rules::Rule;
 use std::alloc::{AllocError, Global};
@@ -128,15 +128,15 @@ fn note_message(
     rules: &[Rule],
     tallies: &mut [Tally],
     channel: u16,
-    seen: &Seen<'_>,
+    view: &View<'_>,
 ) -> Result<(), AllocError>
     requires { length tallies.old ≡ length rules.now }
     ensures { (history : List Heard) → AreTallies rules.now history tallies.old → length history + 1 < 2 ^ 64
-        → OnOk result (AreTallies rules.now ((channel, message_of seen.now) ∷ history) tallies.new) }
+        → OnOk result (AreTallies rules.now ((channel, view.now) ∷ history) tallies.new) }
 {
     let mut known = None;
     'rules: for place in 0..rules.len() {
-        tallies[place].note(&rules[place], channel, seen, &mut known)?;
+        tallies[place].note(&rules[place], channel, view, &mut known)?;
     }
     Ok(())
 }
@@ -155,7 +155,7 @@ pub(crate) fn note_messages(
 {
     let mut rest = messages;
     'messages: while let Some(seen) = rest.next() {
-        note_message(rules, tallies, channel, &seen)?;
+        note_message(rules, tallies, channel, &View::of(&seen))?;
     }
     Ok(())
 }

@@ -1,4 +1,13 @@
 //! Verdicts as a JUnit XML file: a test case a rule.
+ghost use Rattle.bench_judge.specs.Junit as spec;
+ghost use Rattle.bench_judge.specs.Losses.{lost_text};
+ghost use Rattle.bench_judge.specs.Streaming.{history_of};
+ghost use Rattle.ch11_reader.specs.Contents.{heard_in, Heard};
+ghost use Rattle.std.specs.List.{flat_map};
+ghost use Rattle.std.specs.Prelude.{◌≡◌, ◌++◌, ℕ, List, Some, IfOk, OnOk, reverse};
+
+use crate::escaping::put_escaped;
+use crate::losses::Lost;
 use crate::names::Names;
 use crate::numbers::put_number;
 use crate::pass_fault::PassFault;
@@ -12,55 +21,15 @@ use std::alloc::{AllocError, Global};
 /// How many messages that miss a rule are told of it.
 const TOLD: usize = 100;
 
-/// The length of the UTF-8 character with which bytes begin, 0 where it is none that an XML text may have.
-fn character_len(bytes: &[u8]) -> usize {
-    let Some(&first) = bytes.first() else {
-        return 0;
-    };
-    let (len, least) = match first {
-        b'\t' | 0x20..=0x7F => return 1,
-        0xC2..=0xDF => (2, 0x80),
-        0xE0 => (3, 0xA0),
-        0xE1..=0xEE => (3, 0x80),
-        0xF0 => (4, 0x90),
-        0xF1..=0xF3 => (4, 0x80),
-        _ => return 0,
-    };
-    if bytes.len() < len {
-        return 0;
-    }
-    let sound = bytes[1] >= least && bytes[1..len].iter().all(|byte| *byte & 0xC0 == 0x80);
-    if sound && !(first == 0xED && bytes[1] >= 0xA0) {
-        len
-    } else {
-        0
-    }
-}
-
-/// Appends a text as the value of an attribute; a byte that is no part of a character is a question mark.
-fn put_escaped(text: &mut Vec<u8>, value: &[u8]) -> Result<(), AllocError> {
-    let mut rest = value;
-    while let Some((first, others)) = rest.split_first() {
-        let len = character_len(rest);
-        match *first {
-            b'&' => text.extend_from_slice(b"&amp;")?,
-            b'<' => text.extend_from_slice(b"&lt;")?,
-            b'>' => text.extend_from_slice(b"&gt;")?,
-            b'"' => text.extend_from_slice(b"&quot;")?,
-            _ if len == 0 || rest.len() < len => text.extend_from_slice(b"?")?,
-            _ => text.extend_from_slice(&rest[..len])?,
-        }
-        rest = if 1 < len && len <= rest.len() {
-            &rest[len..]
-        } else {
-            others
-        };
-    }
-    Ok(())
-}
+/// What the file begins with, up to how many test cases it has.
+const HEAD: &[u8] =
+    b"<?xml version=\"1.0\" encoding=\"UTF-8\"?>\n<testsuite name=\"bench judge\" tests=\"";
 
 /// Appends why a rule is not held.
-fn put_reason(text: &mut Vec<u8>, verdict: &RuleVerdict) -> Result<(), AllocError> {
+#[tactic(auto, unfolding(crate::specs::Junit::reason))]
+fn put_reason(text: &mut Vec<u8>, verdict: &RuleVerdict) -> Result<(), AllocError>
+    ensures { OnOk result (text.new.items ≡ text.old.items ++ spec.reason verdict.now) }
+{
     if verdict.miscounted {
         return put_number(text, b"count ", verdict.selected);
     }
@@ -71,43 +40,167 @@ fn put_reason(text: &mut Vec<u8>, verdict: &RuleVerdict) -> Result<(), AllocErro
     put_number(text, b" missed ", verdict.missed)
 }
 
+/// Appends where a message is that misses a rule.
+#[tactic(auto, unfolding(crate::specs::Junit::told_miss))]
+fn put_miss(text: &mut Vec<u8>, miss: &Miss) -> Result<(), AllocError>
+    ensures { OnOk result (text.new.items ≡ text.old.items ++ spec.told_miss miss.now) }
+{
+    put_number(text, b"\nmessage ", miss.number)?;
+    put_number(text, b" channel ", u64::from(miss.channel))?;
+    put_number(text, b" stamp ", miss.stamp)
+}
+
 /// Appends where the messages are that miss a rule.
-fn put_misses(text: &mut Vec<u8>, misses: &[Miss]) -> Result<(), AllocError> {
-    for miss in misses {
-        put_number(text, b"\nmessage ", miss.number)?;
-        put_number(text, b" channel ", u64::from(miss.channel))?;
-        put_number(text, b" stamp ", miss.stamp)?;
+fn put_misses(text: &mut Vec<u8>, misses: &[Miss]) -> Result<(), AllocError>
+    ensures { OnOk result (text.new.items ≡ text.old.items ++ flat_map spec.told_miss misses.now) }
+{
+    let mut rest = misses;
+    'misses: while let Some((miss, others)) = rest.split_first() {
+        put_miss(text, miss)?;
+        rest = others;
     }
     Ok(())
 }
 
-/// Appends the test case of a rule, named by its text, with the first messages that miss it.
+/// Appends the line and the name with which the test case of a rule begins.
+#[tactic(auto, unfolding(crate::specs::Junit::case_head))]
+fn put_case_head(text: &mut Vec<u8>, name: &[u8], verdict: &RuleVerdict) -> Result<(), AllocError>
+    ensures { OnOk result (text.new.items ≡ text.old.items ++ spec.case_head verdict.now name.now) }
+{
+    put_number(text, b"  <testcase classname=\"line ", verdict.line)?;
+    text.extend_from_slice(b"\" name=\"")?;
+    put_escaped(text, name)
+}
+
+/// Appends that a test case fails, and why.
+fn put_failure(text: &mut Vec<u8>, verdict: &RuleVerdict, told: &[Miss]) -> Result<(), AllocError>
+    ensures { OnOk result (text.new.items ≡ text.old.items ++ spec.failure verdict.now told.now) }
+{
+    text.extend_from_slice(b"\">\n    <failure message=\"")?;
+    put_reason(text, verdict)?;
+    text.extend_from_slice(b"\">")?;
+    put_misses(text, told)?;
+    text.extend_from_slice(b"</failure>\n  </testcase>\n")?;
+    Ok(())
+}
+
+/// The messages that are told of a rule: the first that miss it, if any do.
+fn told_of<S: Sought>(
+    alloc: Global,
+    recording: &S,
+    rule: &Rule,
+    verdict: &RuleVerdict,
+) -> Result<Vec<Miss>, PassFault>
+    ensures { (history : List Heard) → S.history recording.now ≡ Some history
+        → IfOk result (λ told. told.items ≡ spec.misses_told rule.now verdict.now history) }
+{
+    if verdict.missed == 0 {
+        return Ok(Vec::new(alloc));
+    }
+    recording.first_misses(Wanted {
+        alloc,
+        rule,
+        most: TOLD,
+    })
+}
+
+/// Appends the end of a test case: that it passes where its rule is held, and else that it fails, with the first
+/// messages that miss the rule.
+fn put_case_end<S: Sought>(
+    text: &mut Vec<u8>,
+    recording: &S,
+    rule: &Rule,
+    verdict: &RuleVerdict,
+) -> Result<(), PassFault>
+    ensures { (history : List Heard) → S.history recording.now ≡ Some history
+        → OnOk result (text.new.items
+        ≡ text.old.items ++ spec.case_end verdict.now (spec.misses_told rule.now verdict.now history)) }
+{
+    if verdict.held {
+        return Ok(text.extend_from_slice(b"\"/>\n")?);
+    }
+    let told = told_of(*text.allocator(), recording, rule, verdict)?;
+    Ok(put_failure(text, verdict, told.as_slice())?)
+}
+
+/// Appends the test case of a rule, named by its text.
 fn put_case<S: Sought>(
     text: &mut Vec<u8>,
     recording: &S,
     name: &[u8],
     rule: &Rule,
     verdict: &RuleVerdict,
-) -> Result<(), PassFault> {
-    put_number(text, b"  <testcase classname=\"line ", verdict.line)?;
-    text.extend_from_slice(b"\" name=\"")?;
-    put_escaped(text, name)?;
-    if verdict.held {
-        text.extend_from_slice(b"\"/>\n")?;
-        return Ok(());
+) -> Result<(), PassFault>
+    ensures { (history : List Heard) → S.history recording.now ≡ Some history
+        → OnOk result (text.new.items ≡ text.old.items ++ (spec.case_head verdict.now name.now
+        ++ spec.case_end verdict.now (spec.misses_told rule.now verdict.now history))) }
+{
+    put_case_head(text, name, verdict)?;
+    put_case_end(text, recording, rule, verdict)
+}
+
+/// Appends the test case of each rule.
+fn put_cases<S: Sought>(
+    text: &mut Vec<u8>,
+    recording: &S,
+    judged: Judged<'_>,
+) -> Result<(), PassFault>
+    ensures { (history : List Heard) → S.history recording.now ≡ Some history
+        → OnOk result (text.new.items ≡ text.old.items
+        ++ spec.cases judged.entry.text.now judged.entry.rules.now judged.entry.verdicts.now history) }
+{
+    let mut names = Names::of(judged.text);
+    let mut rules = judged.rules;
+    let mut verdicts = judged.verdicts;
+    'rules: while let Some((rule, more)) = rules.split_first() {
+        let Some((verdict, others)) = verdicts.split_first() else {
+            return Ok(());
+        };
+        put_case(text, recording, names.at(verdict.line), rule, verdict)?;
+        rules = more;
+        verdicts = others;
     }
-    text.extend_from_slice(b"\">\n    <failure message=\"")?;
-    put_reason(text, verdict)?;
-    text.extend_from_slice(b"\">")?;
-    if verdict.missed > 0 {
-        let misses = recording.first_misses(Wanted {
-            alloc: *text.allocator(),
-            rule,
-            most: TOLD,
-        })?;
-        put_misses(text, misses.as_slice())?;
+    Ok(())
+}
+
+/// Appends how many packets say that messages are missing.
+#[tactic(auto, unfolding(crate::specs::Losses::lost_text))]
+fn put_counts(text: &mut Vec<u8>, lost: Lost) -> Result<(), AllocError>
+    ensures { OnOk result (text.new.items ≡ text.old.items ++ lost_text lost) }
+{
+    let (overflows, jumps) = (lost.overflows as u64, lost.jumps as u64);
+    put_number(text, b"packets with the overflow flag ", overflows)?;
+    put_number(text, b", jumps of the sequence number ", jumps)
+}
+
+/// Appends that messages are missing.
+fn put_missing(text: &mut Vec<u8>, lost: Lost) -> Result<(), AllocError>
+    ensures { OnOk result (text.new.items ≡ text.old.items ++ spec.missing lost) }
+{
+    text.extend_from_slice(b"  <properties>\n    <property name=\"messages missing\" value=\"")?;
+    put_counts(text, lost)?;
+    text.extend_from_slice(b"\"/>\n  </properties>\n")?;
+    Ok(())
+}
+
+/// Appends that messages are missing, where they are.
+fn put_lost(text: &mut Vec<u8>, lost: Lost) -> Result<(), AllocError>
+    ensures { OnOk result (text.new.items ≡ text.old.items ++ spec.properties lost) }
+{
+    if lost.is_any() {
+        return put_missing(text, lost);
     }
-    text.extend_from_slice(b"</failure>\n  </testcase>\n")?;
+    Ok(())
+}
+
+/// Appends the beginning of the file.
+fn put_suite_head(text: &mut Vec<u8>, verdicts: &[RuleVerdict]) -> Result<(), AllocError>
+    ensures { OnOk result (text.new.items ≡ text.old.items ++ spec.suite_head verdicts.now) }
+{
+    text.extend_from_slice(HEAD)?;
+    put_number(text, b"", verdicts.len() as u64)?;
+    put_number(text, b"\" failures=\"", not_held(verdicts))?;
+    text.extend_from_slice(b"\">\n")?;
     Ok(())
 }
 
@@ -116,37 +209,37 @@ fn report_of<S: Sought>(
     alloc: Global,
     recording: &S,
     judged: Judged<'_>,
-) -> Result<Vec<u8>, PassFault> {
+    lost: Lost,
+) -> Result<Vec<u8>, PassFault>
+    ensures { (history : List Heard) → S.history recording.now ≡ Some history
+        → IfOk result (λ made. made.items
+        ≡ spec.junit judged.entry.text.now judged.entry.rules.now judged.entry.verdicts.now lost history) }
+{
     let mut text = Vec::new(alloc);
-    text.extend_from_slice(b"<?xml version=\"1.0\" encoding=\"UTF-8\"?>\n")?;
-    put_number(
-        &mut text,
-        b"<testsuite name=\"bench judge\" tests=\"",
-        judged.verdicts.len() as u64,
-    )?;
-    put_number(&mut text, b"\" failures=\"", not_held(judged.verdicts))?;
-    text.extend_from_slice(b"\">\n")?;
-    let mut names = Names::of(judged.text);
-    for (rule, verdict) in judged.rules.iter().zip(judged.verdicts) {
-        let name = names.at(verdict.line);
-        put_case(&mut text, recording, name, rule, verdict)?;
-    }
+    put_suite_head(&mut text, judged.verdicts)?;
+    put_lost(&mut text, lost)?;
+    put_cases(&mut text, recording, judged)?;
     text.extend_from_slice(b"</testsuite>\n")?;
     Ok(text)
 }
 
 /// A JUnit file of the verdicts on these rules, which a text spells: a test case a rule, in their order, named by the
-/// line of the rule. Of a rule that is not held it has up to 100 of the messages that miss it, which are looked for in
-/// the recording. A fault is want of memory.
+/// line of the rule, which passes where the rule is held. Of a rule that is not held it has up to 100 of the messages
+/// that miss it, which are looked for in the recording; where messages are missing from this it has a property that
+/// says so. A fault is want of memory.
 pub fn junit_text(
     alloc: Global,
     index: &Index<'_>,
     rules_text: &[u8],
     rules: &[Rule],
     verdicts: &[RuleVerdict],
-) -> Result<Vec<u8>, PassFault> {
+    lost: Lost,
+) -> Result<Vec<u8>, PassFault>
+    ensures { IfOk result (λ made. made.items
+        ≡ spec.junit rules_text.now rules.now verdicts.now lost (reverse (heard_in index.now))) }
+{
     let judged = Judged::of(rules_text, rules, verdicts);
-    report_of(alloc, index, judged)
+    report_of(alloc, index, judged, lost)
 }
 
 /// The same file, of a recording that is read anew for each rule that messages miss. A fault may also be the
@@ -157,7 +250,11 @@ pub fn junit_text_from<S: Reopen>(
     rules_text: &[u8],
     rules: &[Rule],
     verdicts: &[RuleVerdict],
-) -> Result<Vec<u8>, PassFault> {
+    lost: Lost,
+) -> Result<Vec<u8>, PassFault>
+    ensures { (file : List ℕ) → S.bytes recording.now ≡ Some file → IfOk result (λ made. made.items
+        ≡ spec.junit rules_text.now rules.now verdicts.now lost (history_of file)) }
+{
     let judged = Judged::of(rules_text, rules, verdicts);
-    report_of(alloc, &Anew { recording }, judged)
+    report_of(alloc, &Anew { recording }, judged, lost)
 }

@@ -4,7 +4,6 @@ ghost use Rattle.bench_judge.specs.Lines.{verdict_lines, verdict_text};
 ghost use Rattle.bench_judge.specs.Tallies.{IsWriting, heard_on, miss_lines};
 ghost use Rattle.bench_judge.specs.Verdicts as spec;
 ghost use Rattle.bench_judge.specs.Verdicts.{AreVerdicts, IsVerdict};
-ghost use Rattle.ch11_f1.specs.Views.{message_of};
 ghost use Rattle.ch11_reader.specs.Contents.{heard_in, Heard};
 ghost use Rattle.std.specs.Io.KnownBytes.{Appends};
 ghost use Rattle.std.specs.Prelude.{◌≡◌, ◌+◌, ◌<◌, ◌^◌, ◌∷◌, List, ℕ, Option, length, reverse, IfOk, OnOk};
@@ -13,7 +12,8 @@ use crate::fault::PrintFault;
 use crate::judging::judge;
 use crate::tallies::Tally;
 use crate::verdicts::{Miss, RuleVerdict, not_held};
-use ch11_f1::{Messages, Seen};
+use ch11_f1::Messages;
+use ch11_layout::View;
 use ch11_reader::{Index, Packet};
 use judge_rules::Rule;
 use std::alloc::Global;
@@ -37,15 +37,15 @@ fn write_message<W: Write>(
     rule: &Rule,
     number: u64,
     channel: u16,
-    seen: &Seen<'_>,
+    view: &View<'_>,
     out: &mut W,
 ) -> Result<(), PrintFault>
     ensures { (history : List Heard) → (got : Option (List ℕ))
         → IsWriting rule.now got history (W.contents out.old) tally.old → number ≡ length history + 1
-        → OnOk result (IsWriting rule.now got ((channel, message_of seen.now) ∷ history)
+        → OnOk result (IsWriting rule.now got ((channel, view.now) ∷ history)
         (W.contents out.new) tally.new) }
 {
-    if let Some(miss) = tally.note_miss(rule, number, channel, seen)? {
+    if let Some(miss) = tally.note_miss(rule, number, channel, view)? {
         write_miss(out, rule.line, &miss)?;
     }
     Ok(())
@@ -70,7 +70,7 @@ pub(crate) fn write_messages<W: Write>(
     let mut rest = messages;
     'messages: while let Some(seen) = rest.next() {
         number += 1;
-        write_message(tally, rule, number, channel, &seen, out)?;
+        write_message(tally, rule, number, channel, &View::of(&seen), out)?;
     }
     Ok(())
 }

@@ -4,9 +4,10 @@ use crate::pass_fault::PassFault;
 use crate::sought::Wanted;
 use crate::tallies::Tally;
 use crate::verdicts::Miss;
-use bench_decode::{Line, Numbers, Place, write_message};
+use bench_decode::{Numbers, Place, TextLine, write_message};
 use bench_places::number_in_channel;
-use ch11_f1::{Messages, Seen};
+use ch11_f1::Messages;
+use ch11_layout::View;
 use ch11_reader::{Index, Packet};
 use ch11_stream::{Advance, Packets};
 use judge_rules::Rule;
@@ -15,7 +16,7 @@ use std::io::Write;
 
 /// Writes messages that miss a rule, each on a line as `bench dump --decode` shows it.
 pub(crate) fn write_shown<W: Write>(
-    line: &mut Line,
+    line: &mut TextLine,
     index: &Index<'_>,
     misses: &[Miss],
     out: &mut W,
@@ -27,7 +28,7 @@ pub(crate) fn write_shown<W: Write>(
                 channel: miss.channel,
                 in_channel: number_in_channel(index, miss.channel, miss.number),
             };
-            write_message(line, out, &place, &seen)?;
+            write_message(line, out, &place, &View::of(&seen))?;
         }
     }
     line.finish(out)
@@ -44,17 +45,17 @@ struct Showing {
 /// Writes a message if it is one of those.
 fn show_message<W: Write>(
     showing: &mut Showing,
-    line: &mut Line,
+    line: &mut TextLine,
     rule: &Rule,
     place: &Place,
-    seen: &Seen<'_>,
+    view: &View<'_>,
     out: &mut W,
 ) -> Result<(), PassFault> {
     let mut known = None;
-    let missed = showing.tally.note(rule, place.channel, seen, &mut known)?;
+    let missed = showing.tally.note(rule, place.channel, view, &mut known)?;
     if missed && showing.left > 0 {
         showing.left -= 1;
-        write_message(line, out, place, seen)?;
+        write_message(line, out, place, view)?;
     }
     Ok(())
 }
@@ -62,7 +63,7 @@ fn show_message<W: Write>(
 /// Writes those of a packet's messages.
 fn show_messages<W: Write>(
     showing: &mut Showing,
-    line: &mut Line,
+    line: &mut TextLine,
     rule: &Rule,
     packet: &Packet,
     messages: Messages<'_>,
@@ -73,7 +74,7 @@ fn show_messages<W: Write>(
     for seen in messages {
         number = number.saturating_add(1);
         let place = showing.numbers.place(number, channel);
-        show_message(showing, line, rule, &place, &seen, out)?;
+        show_message(showing, line, rule, &place, &View::of(&seen), out)?;
     }
     Ok(())
 }
@@ -81,7 +82,7 @@ fn show_messages<W: Write>(
 /// Writes the messages that are wanted, of the bytes that a reader has left, as their packets come, and reads no
 /// further than these.
 pub(crate) fn write_shown_from<R: Advance + Drop, W: Write>(
-    line: &mut Line,
+    line: &mut TextLine,
     input: R,
     wanted: Wanted<'_>,
     out: &mut W,

@@ -5,13 +5,12 @@ ghost use Rattle.bench_judge.specs.Selection.{selects as selects_message};
 ghost use Rattle.bench_judge.specs.Tallies.{IsLatest, IsMissIf, IsTally, miss_at, misses_next};
 ghost use Rattle.ch11_reader.specs.Contents.{Heard};
 ghost use Rattle.bench_judge.specs.Verdicts.{latest_stamp};
-ghost use Rattle.ch11_f1.specs.Views.{message_of};
 ghost use Rattle.std.specs.Prelude.{◌≡◌, ◌+◌, ◌∷◌, ◌<◌, ◌≤◌, ◌^◌, [], true, List, length, OnOk, IfOk};
 
 use crate::checks::{follows_in, meets, period_of};
 use crate::selection::selects;
 use crate::verdicts::Miss;
-use ch11_f1::Seen;
+use ch11_layout::View;
 use judge_rules::{Check, Rule};
 use std::alloc::{AllocError, Global};
 use std::collections::HashMap;
@@ -43,26 +42,26 @@ impl Tally {
         &mut self,
         check: &Check,
         channel: u16,
-        seen: &Seen<'_>,
+        view: &View<'_>,
         known: &mut Option<bool>,
     ) -> Result<bool, AllocError>
-        requires { IsKnown known.old (message_of seen.now) }
-        ensures known { IsKnown known.new (message_of seen.now) }
+        requires { IsKnown known.old view.now }
+        ensures known { IsKnown known.new view.now }
         ensures selected { self.new.selected ≡ self.old.selected }
         ensures missed { self.new.missed ≡ self.old.missed }
         ensures met { (rule : Rule) → (history : List Heard) → rule.check ≡ check.now → IsLatest rule history self.old
             → IfOk result (λ met. met
-            ≡ spec_meets check.now (latest_stamp rule channel history) (message_of seen.now)) }
+            ≡ spec_meets check.now (latest_stamp rule channel history) view.now) }
         ensures latest { (rule : Rule) → (history : List Heard) → rule.check ≡ check.now
-            → selects_message rule channel (message_of seen.now) ≡ true → IsLatest rule history self.old
-            → OnOk result (IsLatest rule ((channel, message_of seen.now) ∷ history) self.new) }
+            → selects_message rule channel view.now ≡ true → IsLatest rule history self.old
+            → OnOk result (IsLatest rule ((channel, view.now) ∷ history) self.new) }
     {
         match period_of(check) {
             Some(bounds) => {
-                let before = self.latest.insert(channel, seen.stamp)?;
-                Ok(follows_in(&bounds, before, seen.stamp))
+                let before = self.latest.insert(channel, view.stamp())?;
+                Ok(follows_in(&bounds, before, view.stamp()))
             }
-            None => Ok(meets(check, None, seen, known)),
+            None => Ok(meets(check, None, view, known)),
         }
     }
 
@@ -71,20 +70,20 @@ impl Tally {
         &mut self,
         rule: &Rule,
         channel: u16,
-        seen: &Seen<'_>,
+        view: &View<'_>,
         known: &mut Option<bool>,
     ) -> Result<bool, AllocError>
-        requires { IsKnown known.old (message_of seen.now) }
-        ensures known { IsKnown known.new (message_of seen.now) }
+        requires { IsKnown known.old view.now }
+        ensures known { IsKnown known.new view.now }
         ensures told { (history : List Heard) → IsTally rule.now history self.old
-            → IfOk result (λ told. told ≡ misses_next rule.now history (channel, message_of seen.now)) }
+            → IfOk result (λ told. told ≡ misses_next rule.now history (channel, view.now)) }
         ensures noted { (history : List Heard) → IsTally rule.now history self.old → length history + 1 < 2 ^ 64
-            → OnOk result (IsTally rule.now ((channel, message_of seen.now) ∷ history) self.new) }
+            → OnOk result (IsTally rule.now ((channel, view.now) ∷ history) self.new) }
     {
-        if !selects(rule, channel, seen) {
+        if !selects(rule, channel, view) {
             return Ok(false);
         }
-        let met = self.meets(&rule.check, channel, seen, known)?;
+        let met = self.meets(&rule.check, channel, view, known)?;
         self.selected = self.selected.saturating_add(1);
         if met {
             return Ok(false);
@@ -99,17 +98,17 @@ impl Tally {
         rule: &Rule,
         number: u64,
         channel: u16,
-        seen: &Seen<'_>,
+        view: &View<'_>,
     ) -> Result<Option<Miss>, AllocError>
         ensures told { (history : List Heard) → IsTally rule.now history self.old
-            → IfOk result (IsMissIf (misses_next rule.now history (channel, message_of seen.now))
-            (miss_at number (channel, message_of seen.now))) }
+            → IfOk result (IsMissIf (misses_next rule.now history (channel, view.now))
+            (miss_at number (channel, view.now))) }
         ensures noted { (history : List Heard) → IsTally rule.now history self.old → length history + 1 < 2 ^ 64
-            → OnOk result (IsTally rule.now ((channel, message_of seen.now) ∷ history) self.new) }
+            → OnOk result (IsTally rule.now ((channel, view.now) ∷ history) self.new) }
     {
         let mut known = None;
-        let stamp = seen.stamp;
-        if self.note(rule, channel, seen, &mut known)? {
+        let stamp = view.stamp();
+        if self.note(rule, channel, view, &mut known)? {
             return Ok(Some(Miss {
                 number,
                 channel,

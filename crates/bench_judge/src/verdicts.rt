@@ -42,7 +42,11 @@ pub(crate) struct Judged<'j> {
 
 impl<'j> Judged<'j> {
     /// These rules, which this text spells, with these verdicts.
-    pub(crate) fn of(text: &'j [u8], rules: &'j [Rule], verdicts: &'j [RuleVerdict]) -> Judged<'j> {
+    pub(crate) fn of(text: &'j [u8], rules: &'j [Rule], verdicts: &'j [RuleVerdict]) -> Judged<'j>
+        ensures text { result.text.now ≡ text.now }
+        ensures rules { result.rules.now ≡ rules.now }
+        ensures verdicts { result.verdicts.now ≡ verdicts.now }
+    {
         Judged {
             text,
             rules,

@@ -1,6 +1,6 @@
 -- What becomes of the files of a run that gave no recording (own choice).
-use Rattle.bench_core.specs.declared.error.WorldError.{WorldError}
-use Rattle.bench_core.specs.declared.error.WorldError.TheVariants as world
+use Rattle.bench_settings.specs.declared.error.WorldError.{WorldError}
+use Rattle.bench_settings.specs.declared.error.WorldError.TheVariants as world
 use Rattle.bench_run.specs.declared.error.RunError.{RunError}
 use Rattle.bench_run.specs.declared.error.RunError.TheVariants as run
 use Rattle.bench_requests.specs.declared.ending.Ending.{Ending}

@@ -4,3 +4,4 @@ pub mod Apart
 pub mod Endings
 pub mod Losses
 pub mod Listings
+pub mod Judging

@@ -5,8 +5,8 @@ use Rattle.ch11_reader.specs.declared.error.ReadError.TheVariants as reading
 use Rattle.bench_files.specs.declared.kind.Kind.{Kind}
 use Rattle.bench_files.specs.declared.error.OutError.{OutError}
 use Rattle.bench_files.specs.declared.error.OutError.TheVariants as out
-use Rattle.bench_core.specs.declared.error.WorldError.{WorldError}
-use Rattle.bench_core.specs.declared.error.WorldError.TheVariants as world
+use Rattle.bench_settings.specs.declared.error.WorldError.{WorldError}
+use Rattle.bench_settings.specs.declared.error.WorldError.TheVariants as world
 use Rattle.bench_run.specs.declared.error.RunError.{RunError}
 use Rattle.bench_run.specs.declared.error.RunError.TheVariants as run
 use Rattle.bench_step.specs.declared.fault.StepFault.{StepFault}

@@ -3,8 +3,8 @@ ghost use Rattle.bench_requests.specs.Endings.{ending_of, ending_of_settings};
 ghost use Rattle.std.specs.Prelude.{◌≡◌};
 
 use crate::ending::Ending;
-use bench_core::WorldError;
 use bench_run::RunError;
+use bench_settings::WorldError;
 
 /// What becomes of the files where jobs or settings are refused.
 pub fn ending_of_settings(error: &WorldError) -> Ending

@@ -6,11 +6,11 @@ ghost use Rattle.bench_requests.specs.declared.fault.Fault.TheVariants as faults
 ghost use Rattle.std.specs.Prelude.{◌≡◌};
 
 use bench_assemble::AssembleFault;
-use bench_core::WorldError;
 use bench_files::{Kind, OutError};
 use bench_one::OneFault;
 use bench_report::ReportError;
 use bench_run::RunError;
+use bench_settings::WorldError;
 use bench_step::StepFault;
 use ch11_reader::{ReadError, Refusal};
 use job_file::JobError;

@@ -1,9 +1,9 @@
 //! What the commands of `bench` make of a request: its files, its jobs, its settings, a listing that nobody reads to
 //! its end, and why it is refused with which exit status.
 //!
-//! It may know: jobs, headers, the reader, the packets of a stream, reports, the bench one step at a time, runs, rules,
-//! files, words of a text, and the faults of `bench_one`, `bench_assemble`, `bench_dump` and `bench_step`. It has
-//! no tests: what it says is tried by `.ci/commands` and `.ci/faults`. Its wrong bodies: `edits/`.
+//! It may know: jobs, headers, the reader, the packets of a stream, reports, what runs share, runs, rules, verdicts,
+//! files, words of a text, and the faults of `bench_one`, `bench_assemble`, `bench_dump` and `bench_step`. It has no
+//! tests: what it says is tried by `.ci/commands` and `.ci/faults`. Its wrong bodies: `edits/`.
 #![tactic(auto)]
 
 mod apart;
@@ -12,6 +12,7 @@ mod endings;
 mod fault;
 mod files;
 mod jobs;
+mod judging;
 mod listing;
 mod losses;
 mod rules;
@@ -27,6 +28,7 @@ pub use files::{
     texts_again, write_new, writer_of,
 };
 pub use jobs::jobs_of;
+pub use judging::{junit_of, recording_first, rules_asked, rules_text, verdict_on};
 pub use listing::{Listing, unless_gone};
 pub use losses::tells_of_loss;
 pub use rules::rules_of;

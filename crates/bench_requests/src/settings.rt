@@ -1,7 +1,7 @@
 //! What a run is asked to do, and the settings that are made of it.
 ghost use Rattle.std.specs.Prelude.{◌≡◌};
 
-use bench_core::Settings;
+use bench_settings::Settings;
 
 /// What is to be recorded, and where to.
 #[derive(Debug, Drop)]

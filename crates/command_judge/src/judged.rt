@@ -1,8 +1,8 @@
 //! Recordings that are judged: read whole, or packet by packet in one pass after another.
 
 use bench_judge::{
-    PassFault, RuleVerdict, judge, judge_from, junit_text, junit_text_from, write_colored,
-    write_colored_from, write_verdicts, write_verdicts_from,
+    Lost, PassFault, RuleVerdict, judge, judge_from, junit_text, junit_text_from, lost_from,
+    write_colored, write_colored_from, write_verdicts, write_verdicts_from,
 };
 use bench_watch::Reopen;
 use ch11_reader::Index;
@@ -70,17 +70,29 @@ impl<R: Files + AllocGlobal + Clock, E: Eprint + IsTerminal> Judged<'_, R, E> {
         }
     }
 
-    /// A JUnit report of verdicts, a test case a rule.
+    /// What its packets say of messages that are missing.
+    pub fn lost(&self, alloc: Global) -> Result<Lost, PassFault> {
+        match self {
+            Judged::Whole(index) => Ok(Lost::of(index.packets())),
+            Judged::Large(large) => match large.reopen() {
+                Ok(input) => Ok(lost_from(alloc, input)?),
+                Err(error) => Err(PassFault::Opening(error)),
+            },
+        }
+    }
+
+    /// A JUnit report of verdicts, a test case a rule, and of messages that are missing.
     pub fn junit_text(
         &self,
         alloc: Global,
         spelled: Spelled<'_>,
         verdicts: &[RuleVerdict],
+        lost: Lost,
     ) -> Result<Vec<u8>, PassFault> {
         let (text, rules) = (spelled.text, spelled.rules);
         match self {
-            Judged::Whole(index) => junit_text(alloc, index, text, rules, verdicts),
-            Judged::Large(large) => junit_text_from(alloc, *large, text, rules, verdicts),
+            Judged::Whole(index) => junit_text(alloc, index, text, rules, verdicts, lost),
+            Judged::Large(large) => junit_text_from(alloc, *large, text, rules, verdicts, lost),
         }
     }
 }

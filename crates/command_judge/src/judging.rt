@@ -2,8 +2,11 @@
 
 use crate::judged::{Judged, Spelled};
 use bench_files::{Hold, Kind};
-use bench_judge::{PassFault, PrintFault, RuleVerdict, not_held};
-use bench_requests::{Fault, is_large, open_to_read, read_whole, rules_of, write_new};
+use bench_judge::{Lost, PassFault, PrintFault, RuleVerdict};
+use bench_requests::{
+    Fault, is_large, junit_of, open_to_read, read_whole, recording_first, rules_asked, rules_text,
+    verdict_on, write_new,
+};
 use bench_watch::Watch;
 use clap::{ArgMatches, Command};
 use command_parts::hosts::System;
@@ -16,9 +19,6 @@ use command_parts::watching::is_for_people;
 use std::alloc::{AllocError, Global};
 use std::io::{BufWriter, IsTerminal};
 use std::rt::Files;
-
-/// The rule by which a recording is judged where there is no file of rules.
-const STANDARD: &[u8] = b"expect any clean";
 
 /// What the help of `bench judge` ends with.
 const NOTES: &str = "\
@@ -96,12 +96,10 @@ pub fn fault_of_printing<'a>(fault: PrintFault) -> Fault<'a> {
     }
 }
 
-/// The fault of a rule that is not held, where there is one.
-pub fn verdict_on<'a>(verdicts: &[RuleVerdict]) -> Result<(), Fault<'a>> {
-    if not_held(verdicts) == 0 {
-        Ok(())
-    } else {
-        Err(Fault::NotHeld)
+/// Says that messages are missing from a recording, and how many packets say so, where any do.
+fn tell_lost<E: Eprint>(errors: &E, lost: &Lost) {
+    if lost.is_any() {
+        let _ = eprintln!(errors; "messages are missing from this recording: {lost}");
     }
 }
 
@@ -127,29 +125,39 @@ pub fn run<'a, R: System, E: Eprint + IsTerminal>(
         return judge_large(rt, errors, request);
     }
     let bytes = read_whole(rt, request.recording)?;
-    let text = rules_text(rt, request)?;
-    let index = index_of(rt.alloc(), bytes.as_slice(), request.skip)?;
-    let rules = rules_of(rt.alloc(), text.as_slice())?;
+    let given = given_rules(rt, request)?;
+    let text = lent(&given);
+    let index = index_of(rt.alloc(), bytes.as_slice(), request.skip);
+    let (index, rules) = recording_first(index, rules_asked(rt.alloc(), text))?;
     let judged: Judged<'_, R, E> = Judged::Whole(&index);
     judge_by(
         rt,
+        errors,
         request,
         &judged,
         Spelled {
-            text: text.as_slice(),
+            text: rules_text(text),
             rules: rules.as_slice(),
         },
     )
 }
 
-/// The text of the rules.
-fn rules_text<'a, R: Files + AllocGlobal>(
+/// The text of the file of rules, if there is one.
+fn given_rules<'a, R: Files + AllocGlobal>(
     rt: &R,
     request: &Request<'a>,
-) -> Result<Vec<u8>, Fault<'a>> {
+) -> Result<Option<Vec<u8>>, Fault<'a>> {
     match request.rules {
-        Some(name) => read_whole(rt, name),
-        None => standard(rt.alloc()),
+        Some(name) => Ok(Some(read_whole(rt, name)?)),
+        None => Ok(None),
+    }
+}
+
+/// A text, if there is one.
+fn lent(given: &Option<Vec<u8>>) -> Option<&[u8]> {
+    match given {
+        Some(text) => Some(text.as_slice()),
+        None => None,
     }
 }
 
@@ -160,19 +168,21 @@ fn judge_large<'a, R: System, E: Eprint + IsTerminal>(
     request: &Request<'a>,
 ) -> Result<(), Fault<'a>> {
     drop(open_to_read(rt, request.recording)?);
-    let text = rules_text(rt, request)?;
+    let given = given_rules(rt, request)?;
     let watch = Watch::begin(rt, errors, request.recording);
-    let judged = judge_watched(rt, request, &watch, text.as_slice());
+    let judged = judge_watched(rt, errors, request, &watch, lent(&given));
     watch.end();
     judged
 }
 
-/// Judges a recording that is watched by the rules of this text. Its faults come before those of the rules.
+/// Judges a recording that is watched by the rules of this text, where one is given. Its faults come before those of
+/// the rules: where these are refused, it is read to its end first.
 fn judge_watched<'a, R: System, E: Eprint + IsTerminal>(
     rt: &R,
+    errors: &E,
     request: &Request<'a>,
     watch: &Watch<'_, R, E>,
-    text: &[u8],
+    text: Option<&[u8]>,
 ) -> Result<(), Fault<'a>> {
     let large = Large {
         rt,
@@ -181,29 +191,44 @@ fn judge_watched<'a, R: System, E: Eprint + IsTerminal>(
         skip: request.skip,
         prints: true,
     };
-    match rules_of(rt.alloc(), text) {
-        Ok(rules) => {
-            let rules = rules.as_slice();
-            judge_by(rt, request, &Judged::Large(&large), Spelled { text, rules })
-        }
-        Err(fault) if request.skip => Err(fault),
-        Err(fault) => {
-            check_large(rt, request.recording, watch)?;
-            Err(fault)
-        }
-    }
+    let rules = rules_asked(rt.alloc(), text);
+    let read = if rules.is_ok() || request.skip {
+        Ok(())
+    } else {
+        check_large(rt, request.recording, watch)
+    };
+    let (_, rules) = recording_first(read, rules)?;
+    let spelled = Spelled {
+        text: rules_text(text),
+        rules: rules.as_slice(),
+    };
+    judge_by(rt, errors, request, &Judged::Large(&large), spelled)
 }
 
-/// Judges by these rules, prints the verdicts and writes the JUnit file.
+/// Judges by these rules, prints the verdicts, tells of messages that are missing and writes the JUnit file.
 fn judge_by<'a, R: System, E: Eprint + IsTerminal>(
     rt: &R,
+    errors: &E,
     request: &Request<'a>,
     judged: &Judged<'_, R, E>,
     spelled: Spelled<'_>,
 ) -> Result<(), Fault<'a>> {
-    let verdicts = print_verdicts(rt, request.recording, judged, spelled)?;
-    if let Some(junit) = request.junit {
-        let made = judged.junit_text(rt.alloc(), spelled, verdicts.as_slice());
+    let printed = print_verdicts(rt, request.recording, judged, spelled);
+    let junit = junit_of(request.junit, &printed);
+    let verdicts = printed?;
+    let lost = if junit.is_some() || errors.is_terminal() {
+        match judged.lost(rt.alloc()) {
+            Ok(lost) => lost,
+            Err(fault) => return Err(fault_of_pass(request.recording, fault)),
+        }
+    } else {
+        Lost::default()
+    };
+    if errors.is_terminal() {
+        tell_lost(errors, &lost);
+    }
+    if let Some(junit) = junit {
+        let made = judged.junit_text(rt.alloc(), spelled, verdicts.as_slice(), lost);
         write_report(rt, request, junit, made)?;
     }
     verdict_on(verdicts.as_slice())
@@ -247,13 +272,5 @@ fn write_report<'a, R: Files<File: Hold> + AllocGlobal>(
     match made {
         Ok(report) => write_new(rt, junit, Kind::Verdicts, request.force, report.as_slice()),
         Err(fault) => Err(fault_of_pass(request.recording, fault)),
-    }
-}
-
-/// The text of the rule that holds where none is given.
-fn standard<'a>(alloc: Global) -> Result<Vec<u8>, Fault<'a>> {
-    match STANDARD.to_vec(alloc) {
-        Ok(text) => Ok(text),
-        Err(_) => Err(Fault::Memory),
     }
 }

@@ -1,8 +1,8 @@
 //! What the commands of `bench` share: the tables of their options, the choice of messages, recordings that are read
 //! whole or pass by pass, files that take their place once they are whole, and where they print.
 //!
-//! It may know: requests, files, the reader, the packets of a stream with `ch11_check`, times, watched files, rules,
-//! selections, words of a text. It has no tests: each command is tried by `.ci/commands`, and its faults by
+//! It may know: words, requests, files, the reader, the packets of a stream with `ch11_check`, times, watched files,
+//! rules, selections, words of a text. It has no tests: each command is tried by `.ci/commands`, and its faults by
 //! `.ci/faults`. It has no wrong bodies.
 #![tactic(auto)]
 

@@ -4,7 +4,8 @@ use crate::options::{Row, channel, choice, flag, signed};
 use bench_requests::Fault;
 use bench_select::{Bound, Selection, read_bound};
 use clap::ArgMatches;
-use judge_rules::{Bus, RuleFault, Selector, selector_of};
+use judge_rules::{RuleFault, Selector, selector_of};
+use mil_word::Line;
 
 /// What a command line says of a selection.
 #[derive(Clone, Copy, Debug)]
@@ -84,8 +85,8 @@ pub fn selection_in<'a>(given: &GivenSelection<'a>) -> Result<Selection, Fault<'
     Ok(Selection {
         channel: given.channel,
         line: match given.line {
-            Some("A") => Some(Bus::A),
-            Some(_) => Some(Bus::B),
+            Some("A") => Some(Line::A),
+            Some(_) => Some(Line::B),
             None => None,
         },
         selector: selector_in(given.only)?,

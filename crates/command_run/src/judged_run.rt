@@ -2,10 +2,10 @@
 
 use bench_files::leads_to_output;
 use bench_judge::{PrintFault, RuleVerdict, write_verdicts};
-use bench_requests::{Fault, RunRequest, read_whole, rules_of};
+use bench_requests::{Fault, RunRequest, read_whole, rules_of, verdict_on};
 use ch11_reader::Index;
 use command_judge::judged::{Judged, Spelled};
-use command_judge::judging::{fault_of_printing, print_verdicts, verdict_on};
+use command_judge::judging::{fault_of_printing, print_verdicts};
 use command_parts::hosts::System;
 use command_parts::looking::index_of;
 use command_parts::options::{Row, value};

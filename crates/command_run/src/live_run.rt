@@ -3,7 +3,6 @@
 ghost use Rattle.bench_run.specs.Live.{AreInboxesOf};
 ghost use Rattle.std.specs.Prelude.{◌-◌, ◌<◌, ◌^◌, IfOk};
 
-use bench_core::{MOST_POSTS, Settings};
 use bench_decode::Shown;
 use bench_files::leads_to_output;
 use bench_live::{Desk, Manner, Pace, Session, Show, Showing, open_desk, start_host};
@@ -12,6 +11,7 @@ use bench_report::Report;
 use bench_requests::{Fault, RunRequest};
 use bench_run::{LiveError, RunError};
 use bench_run_command::record_jobs_with_progress;
+use bench_settings::{MOST_POSTS, Settings};
 use ch11_writer::Sink;
 use clap::ArgMatches;
 use command_parts::hosts::{Errors, Host};

@@ -6,7 +6,6 @@ use crate::live_run::{Going, Run, begin_showing, end_showing, record, way_of, wi
 use crate::run_line::Request;
 use crate::strict_run::tell_mistakes;
 use bench_complete::Additions;
-use bench_core::judge;
 use bench_files::Hold;
 use bench_live::{Show, Showing};
 use bench_report::Report;
@@ -15,6 +14,7 @@ use bench_requests::{
     read_whole, settings_of, told_apart,
 };
 use bench_run_command::{Counts, print_counts, refusals};
+use bench_settings::judge;
 use ch11_writer::StdSink;
 use command_export::completing::setup_text;
 use command_judge::checking::strict_verdict;

@@ -18,7 +18,7 @@ use Rattle.mil_message.proofs.ReadBack.{read_back}
 use Rattle.mil_terminal.specs.Verdicts.{is_unknown}
 use Rattle.ch11_f1.specs.BodyReading.{Message}
 use Rattle.ch11_layout.specs.Layouts.{size_of, commands_in, is_between, first_gap, second_gap, last_gap, has_front, has_back, data_start, first_word, word_of}
-use Rattle.bench_judge.specs.Words.{has_two, statuses, data_count, data_words, gaps}
+use Rattle.ch11_layout.specs.Replies.{has_two, statuses, data_count, data_words, gaps}
 use Rattle.bench_judge.specs.Clean.{has_no_error, may_be_sent, form_number_of, controller_sends, parts_in, form_with, has_parts, data_fit, replies_fit, is_sent_as, clean}
 use Rattle.judge_laws.proofs.Bytes.{bytes-long}
 use Rattle.judge_laws.proofs.Places.{IsLaidOut, word, count, are-statuses, are-data}

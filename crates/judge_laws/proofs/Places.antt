@@ -10,7 +10,7 @@ use Rattle.byteorder.specs.Endian.{little_bytes}
 use Rattle.ch11_f1.specs.BodyReading.{Message}
 use Rattle.ch11_layout.specs.declared.layouts.Layout.{Layout}
 use Rattle.ch11_layout.specs.Layouts.{size_of, word_of, commands_in, has_front, has_back, data_start, data_end, layout_of}
-use Rattle.bench_judge.specs.Words.{statuses_by, statuses, data_count, data_words}
+use Rattle.ch11_layout.specs.Replies.{statuses_by, statuses, data_count, data_words}
 use Rattle.judge_laws.proofs.Words.{AreSmall}
 use Rattle.judge_laws.proofs.Bytes.{bytes-long, word-read}
 

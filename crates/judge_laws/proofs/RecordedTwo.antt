@@ -29,7 +29,7 @@ use Rattle.mil_monitor.specs.Observed.{gap_half, observed}
 use Rattle.ch11_f1.specs.Again.{as_message}
 use Rattle.ch11_f1.specs.BodyReading.{Message}
 use Rattle.ch11_layout.specs.Layouts.{first_gap, second_gap}
-use Rattle.bench_judge.specs.Words.{gaps}
+use Rattle.ch11_layout.specs.Replies.{gaps}
 use Rattle.bench_judge.specs.Clean.{has_no_error, form_number_of, controller_sends, words_due, sends_no_data, data_fit, status_fits, is_in_time, replies_fit, clean}
 use Rattle.judge_laws.specs.Messages.{IsDueReply}
 use Rattle.judge_laws.proofs.Counting.{nothing_wrong, came}

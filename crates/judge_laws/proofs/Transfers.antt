@@ -26,7 +26,7 @@ use Rattle.mil_bus.specs.Exchange.{words_of_run}
 use Rattle.mil_bus.proofs.Passes.{counts_of-push}
 use Rattle.ch11_f1.specs.BodyReading.{Message}
 use Rattle.ch11_layout.specs.Layouts.{size_of, commands_in, is_between, first_gap, second_gap, last_gap, first_word, has_front, has_back, data_start, word_of}
-use Rattle.bench_judge.specs.Words.{has_two, statuses, data_count, data_words, gaps}
+use Rattle.ch11_layout.specs.Replies.{has_two, statuses, data_count, data_words, gaps}
 use Rattle.bench_judge.specs.Clean.{has_no_error, may_be_sent, form_number_of, controller_sends, parts_in, form_with, data_fit, replies_fit, is_sent_as, clean}
 use Rattle.judge_laws.specs.Messages.{IsDueReply}
 use Rattle.judge_laws.proofs.Words.{AreSmall}

@@ -1,6 +1,6 @@
 -- Rules that were read, and what the rest of the text gives.
-use Rattle.std.proofs.Common.{◌≡◌, ℕ, ◌+◌, List, ◌∷◌, ◌++◌, refl, ap}
-use Rattle.std.specs.Prelude.{Some, None, Ok, Err}
+use Rattle.std.proofs.Common.{◌≡◌, ℕ, ◌+◌, List, [], ◌∷◌, ◌++◌, length, refl, ap, sym, ◌∙◌}
+use Rattle.std.specs.Prelude.{Some, None, Ok, Err, slice_get}
 use Rattle.std.proofs.lemmas.Bool.{eq-eqb, ne_eqb}
 use Rattle.text_lines.specs.Words.{Text}
 use Rattle.judge_rules.specs.declared.fault.RuleError.{RuleError}
@@ -20,9 +20,13 @@ pub fits-more : (line : ℕ) (e : RuleError) (rule : Rule) (rest : AllRules) →
 fits-more line e rule (Ok more) fits = fits
 fits-more line e rule (Err f) fits = fits
 
-pub fits-whole : (line : ℕ) (e : RuleError) (rules : List Rule) (rule : Rule) (rest : AllRules) → FitsAt line e rest → IsRuleError e (prefixed rules (in_front rule rest))
-fits-whole line e rules rule (Ok more) fits = ap (λ (x : RuleError). x.fault) fits
-fits-whole line e rules rule (Err f) fits = fits
+at-end : (rules : List Rule) (rule : Rule) (more : List Rule) → slice_get (rules ++ rule ∷ more) (length rules) ≡ Some rule
+at-end [] rule more = refl
+at-end (r ∷ rs) rule more = at-end rs rule more
+
+pub fits-whole : (line : ℕ) (e : RuleError) (rules : List Rule) (rule : Rule) (rest : AllRules) → rule.line ≡ line → FitsAt line e rest → IsRuleError e (prefixed rules (in_front rule rest))
+fits-whole line e rules rule (Ok more) here fits = (ap (λ (x : RuleError). x.fault) fits, (length rules, (rule, (at-end rules rule more, here ∙ sym (ap (λ (x : RuleError). x.line) fits)))))
+fits-whole line e rules rule (Err f) here fits = fits
 
 -- the first line that is left has a fault, is one rule too many, says nothing, or is a rule
 pub from-fault : (before line : ℕ) (first : Text) (rest : List Text) (f : RuleFault) → said line first ≡ Some (Err f) → rules_from before line (first ∷ rest) ≡ Err (record { fault = f; line = line })

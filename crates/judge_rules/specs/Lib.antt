@@ -5,3 +5,5 @@ pub mod Selectors
 pub mod Checks
 pub mod Lines
 pub mod Rules
+pub mod Standard
+pub mod Ranges

@@ -3,8 +3,8 @@ use Rattle.std.specs.Prelude.{ℕ, Bool, true, List, [], ◌∷◌, drop, Ok, Er
 use Rattle.std.specs.Prelude.{if◌then◌else◌}
 use Rattle.std.specs.Str.{bytes_eq}
 use Rattle.judge_rules.specs.declared.fault.RuleFault.TheVariants.{Word}
-use Rattle.judge_rules.specs.declared.rules.Bus.{Bus}
-use Rattle.judge_rules.specs.declared.rules.Bus.TheVariants as bus
+use Rattle.mil_word.specs.declared.Line.{Line}
+use Rattle.mil_word.specs.declared.Line.TheVariants as line
 use Rattle.judge_rules.specs.declared.rules.Selector.{Selector}
 use Rattle.judge_rules.specs.declared.rules.Check.{Check}
 use Rattle.judge_rules.specs.declared.rules.Rule.{Rule}
@@ -21,24 +21,24 @@ channel_in rest = if begins_with (codes "channel") rest then made Some (number_i
 abbrev pub behind_channel : List Text → List Text
 behind_channel rest = if begins_with (codes "channel") rest then drop 2 rest else rest
 
-abbrev pub bus_of : Text → Read (Option Bus)
+abbrev pub bus_of : Text → Read (Option Line)
 bus_of word =
-    if bytes_eq word (codes "A") then Ok (Some bus.A)
-    else if bytes_eq word (codes "B") then Ok (Some bus.B)
+    if bytes_eq word (codes "A") then Ok (Some line.A)
+    else if bytes_eq word (codes "B") then Ok (Some line.B)
     else Err Word
 
-abbrev pub first_bus : List Text → Read (Option Bus)
+abbrev pub first_bus : List Text → Read (Option Line)
 first_bus [] = Err Word
 first_bus (word ∷ rest) = bus_of word
 
 -- the line of the bus, where the words begin with one
-abbrev pub bus_in : List Text → Read (Option Bus)
+abbrev pub bus_in : List Text → Read (Option Line)
 bus_in rest = if begins_with (codes "line") rest then first_bus (drop 1 rest) else Ok None
 
 abbrev pub behind_bus : List Text → List Text
 behind_bus rest = if begins_with (codes "line") rest then drop 2 rest else rest
 
-abbrev pub with_parts : ℕ → Read ((Option ℕ × Option Bus) × (Selector × Check)) → Read Rule
+abbrev pub with_parts : ℕ → Read ((Option ℕ × Option Line) × (Selector × Check)) → Read Rule
 with_parts line read =
     made (λ (place, asked). record
     { line = line; channel = place.0; bus = place.1; selector = asked.0; check = asked.1 }) read

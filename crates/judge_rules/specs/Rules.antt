@@ -1,5 +1,6 @@
 -- The rules that a text spells, or its first fault (own choice).
 use Rattle.std.specs.Prelude.{◌≡◌, ℕ, ◌+◌, ◌==◌, if◌then◌else◌, List, [], ◌∷◌, Result, Ok, Err, Option, Some, None}
+use Rattle.std.specs.Prelude.{slice_get}
 use Rattle.text_lines.specs.Words.{Text}
 use Rattle.judge_rules.specs.declared.fault.RuleFault.{RuleFault}
 use Rattle.judge_rules.specs.declared.fault.RuleFault.TheVariants.{Word, Range, Memory}
@@ -36,9 +37,13 @@ rules_from before line (text ∷ rest) =
 unfoldable pub rules_in : Text → AllRules
 rules_in text = rules_from 0 1 (text_lines text)
 
--- an answer that gives no rules: the fault of the text, or want of memory where it has none
+-- one of these rules stands in this line
+abbrev pub HasLine : ℕ → List Rule → Type 0
+HasLine line rules = (place : ℕ) × ((rule : Rule) × ((slice_get rules place ≡ Some rule) × (rule.line ≡ line)))
+
+-- an answer that gives no rules: the fault of the text; or, where it has none, want of memory at the line of a rule
 abbrev pub IsRuleError : RuleError → AllRules → Type 0
-IsRuleError e (Ok rules) = e.fault ≡ Memory
+IsRuleError e (Ok rules) = (e.fault ≡ Memory) × HasLine e.line rules
 IsRuleError e (Err first) = e ≡ first
 
 -- the same, with the line at which memory was refused

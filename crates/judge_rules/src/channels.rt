@@ -3,8 +3,8 @@ ghost use Rattle.judge_rules.specs.Lines as spec;
 ghost use Rattle.std.specs.Prelude.{◌≡◌};
 
 use crate::fault::RuleFault;
-use crate::rules::Bus;
 use crate::values::read_number;
+use mil_word::Line;
 use text_lines::Words;
 
 /// The channel that a rule names, if it names one.
@@ -22,7 +22,7 @@ pub(crate) fn read_channel(words: &mut Words<'_>) -> Result<Option<u16>, RuleFau
 }
 
 /// The line of the bus that a rule names, if it names one.
-pub(crate) fn read_bus(words: &mut Words<'_>) -> Result<Option<Bus>, RuleFault>
+pub(crate) fn read_bus(words: &mut Words<'_>) -> Result<Option<Line>, RuleFault>
     ensures value { result ≡ spec.bus_in words.old }
     ensures rest { words.new ≡ spec.behind_bus words.old }
 {
@@ -33,9 +33,9 @@ pub(crate) fn read_bus(words: &mut Words<'_>) -> Result<Option<Bus>, RuleFault>
         return Err(RuleFault::Word);
     };
     if word == b"A".as_slice() {
-        Ok(Some(Bus::A))
+        Ok(Some(Line::A))
     } else if word == b"B".as_slice() {
-        Ok(Some(Bus::B))
+        Ok(Some(Line::B))
     } else {
         Err(RuleFault::Word)
     }

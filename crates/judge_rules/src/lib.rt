@@ -11,10 +11,12 @@ mod line_rules;
 mod reading;
 mod rules;
 mod selectors;
+mod standard;
 mod values;
 mod words;
 
 pub use fault::{RuleError, RuleFault};
 pub use reading::read_rules;
-pub use rules::{Bounds, Bus, Check, Datum, Rule, Selector};
+pub use rules::{Bounds, Check, Datum, Rule, Selector};
 pub use selectors::selector_of;
+pub use standard::clean_is_one_rule;

@@ -1,6 +1,6 @@
 //! The rule that a line spells.
 ghost use Rattle.judge_rules.specs.Lines as spec;
-ghost use Rattle.std.specs.Prelude.{◌≡◌};
+ghost use Rattle.std.specs.Prelude.{◌≡◌, IfOk, IfSome};
 
 use crate::channels::{read_bus, read_channel};
 use crate::checks::read_check;
@@ -22,7 +22,8 @@ fn is_passed_over(text: &[u8]) -> bool
 /// The rule of a line's words.
 #[tactic(auto, unfolding(crate::specs::Lines::rule_in))]
 fn read_words(line: u64, words: &mut Words<'_>) -> Result<Rule, RuleFault>
-    ensures { result ≡ spec.rule_in line words.old }
+    ensures value { result ≡ spec.rule_in line words.old }
+    ensures line { IfOk result (λ rule. rule.line ≡ line) }
 {
     if !words.takes(b"expect") {
         return Err(RuleFault::Word);
@@ -46,7 +47,8 @@ fn read_words(line: u64, words: &mut Words<'_>) -> Result<Rule, RuleFault>
 /// The rule that a line spells, with this number; `None` where the line is passed over.
 #[tactic(auto, unfolding(crate::specs::Lines::said))]
 pub(crate) fn read_line(line: u64, text: &[u8]) -> Option<Result<Rule, RuleFault>>
-    ensures { result ≡ spec.said line text.now }
+    ensures value { result ≡ spec.said line text.now }
+    ensures line { IfSome result (λ read. IfOk read (λ rule. rule.line ≡ line)) }
 {
     if is_passed_over(text) {
         return None;

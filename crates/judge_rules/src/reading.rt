@@ -1,5 +1,7 @@
 //! The rules that a text spells.
+ghost use Rattle.judge_rules.specs.Ranges.{IsInRange};
 ghost use Rattle.judge_rules.specs.Rules.{rules_in, rules_from, IsRuleError, FitsAt};
+ghost use Rattle.std.specs.List.{AllByRecursion};
 ghost use Rattle.std.specs.Prelude.{◌≡◌, ◌+◌, ◌≤◌, ◌<◌, ◌^◌, Ok, Err, IfOk, IfErr, length};
 ghost use Rattle.text_lines.specs.Lines.{text_lines};
 
@@ -15,9 +17,11 @@ pub(crate) const MOST_RULES: usize = 10_000;
 /// The rules that a text spells, in their order (own choice): a rule a line, words separated by spaces; a line without
 /// words, or whose first word begins with `#`, is passed over. Else the first fault: I1 to I3 of the first line that
 /// has one, in a line I1 before I2 before I3; more than 10,000 rules are I3 at the line of the next, and a text without
-/// a rule is I1 at the line behind its last. I4, want of memory, is answered only for a text without a fault.
+/// a rule is I1 at the line behind its last. I4, want of memory, is answered only for a text without a fault, at the
+/// line of the rule for which it was refused.
 pub fn read_rules(alloc: Global, text: &[u8]) -> Result<Vec<Rule>, RuleError>
     ensures rules { IfOk result (λ rules. rules_in text.now ≡ Ok rules.items) }
+    ensures ranges { IfOk result (λ rules. AllByRecursion IsInRange rules.items) }
     ensures fault { IfErr result (λ e. IsRuleError e (rules_in text.now)) }
 {
     let mut rules = Vec::new(alloc);

@@ -1,14 +1,6 @@
 //! What a rule asks of the messages of a recording (own choice).
 use arrayvec::ArrayVec;
-
-/// One of the two lines of a bus.
-#[derive(Clone, Copy, Debug, PartialEq, Eq)]
-pub enum Bus {
-    /// Line A: block status bit 13 is clear.
-    A,
-    /// Line B: block status bit 13 is set.
-    B,
-}
+use mil_word::Line;
 
 /// Which messages a rule is about, by their command words (MIL-STD-1553B 4.3.3.5.1). Addresses are 0 to 30,
 /// subaddresses 1 to 30, mode codes 0 to 31; `None` stands for each number of its range.
@@ -98,7 +90,7 @@ pub struct Rule {
     /// The channel that it is about, 1 to 65,535; `None` for all.
     pub channel: Option<u16>,
     /// The line of the bus that it is about; `None` for both.
-    pub bus: Option<Bus>,
+    pub bus: Option<Line>,
     pub selector: Selector,
     pub check: Check,
 }

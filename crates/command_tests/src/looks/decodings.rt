@@ -1,10 +1,11 @@
 //! What `bench dump --decode` shows of messages, worked out by hand.
 use crate::looks::equal::{reads, reads_all, same, same_in};
 use crate::looks::made::{TRANSFER, recorded};
-use bench_decode::{Line, Numbers, Output, Place, Shown, decode, write_message};
+use bench_decode::{Numbers, Output, Place, Shown, TextLine, decode, write_message};
 use bench_select::{Bound, Selection};
 use ch11_f1::Seen;
-use judge_rules::Bus;
+use ch11_layout::View;
+use mil_word::Line;
 use std::alloc::Global;
 use std::process::Abort;
 use test_values::FOREIGN;
@@ -205,9 +206,9 @@ pub(crate) fn line_of(rt: &impl Abort, alloc: Global, message: Message, shown: S
         channel: 1,
         in_channel: 1,
     };
-    let mut line = Line::new(alloc, shown).ok().expect(rt, "memory");
+    let mut line = TextLine::new(alloc, shown).ok().expect(rt, "memory");
     let mut out = Vec::new(alloc);
-    let written = write_message(&mut line, &mut out, &place, &seen);
+    let written = write_message(&mut line, &mut out, &place, &View::of(&seen));
     written.ok().expect(rt, "a line");
     line.finish(&mut out).ok().expect(rt, "a line");
     out
@@ -284,10 +285,10 @@ fn messages_are_chosen(rt: HostRuntime) {
     output.decoded = false;
     shows(&rt, rt.alloc(), &file, &output, &[CHOSEN_DUMP], 1);
     output.selection = Selection::all();
-    output.selection.line = Some(Bus::B);
+    output.selection.line = Some(Line::B);
     output.selection.to = Some(Bound::Number(1));
     shows(&rt, rt.alloc(), &file, &output, &[POLL_DUMP], 1);
-    output.selection.line = Some(Bus::A);
+    output.selection.line = Some(Line::A);
     shows(&rt, rt.alloc(), &file, &output, &[], 0);
     output.selection = Selection::all();
     output.selection.errors = true;

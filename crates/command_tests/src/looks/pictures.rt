@@ -7,7 +7,7 @@ use bench_clock::Clock;
 use bench_draw::{MOST_BYTES, draw, first_step};
 use bench_select::{Bound, Selection};
 use ch11_reader::Index;
-use judge_rules::Bus;
+use mil_word::Line;
 use std::alloc::Global;
 use std::process::Abort;
 use test_values::FOREIGN;
@@ -280,11 +280,11 @@ fn steps_are_told_from_tick_nought(rt: HostRuntime) {
 
 /// Of the messages of three retries those of a channel, on a line, with an error, and from a bound on: how many they
 /// are, and a piece of their picture.
-const CHOSEN: [(Option<u16>, Option<Bus>, bool, Option<Bound>, u64, Piece); 4] = [
+const CHOSEN: [(Option<u16>, Option<Line>, bool, Option<Bound>, u64, Piece); 4] = [
     (None, None, true, None, 3, ("class=\"n\">5</text>", 1)),
     (
         Some(1),
-        Some(Bus::B),
+        Some(Line::B),
         false,
         None,
         3,

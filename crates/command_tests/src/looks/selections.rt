@@ -4,7 +4,8 @@ use crate::looks::equal::{reads, same, same_in};
 use crate::looks::made::{TRANSFER, recorded};
 use bench_decode::{Output, decode};
 use bench_select::{Bound, Selection, read_bound};
-use judge_rules::{Bus, RuleFault, Selector, selector_of};
+use judge_rules::{RuleFault, Selector, selector_of};
+use mil_word::Line;
 use std::alloc::Global;
 use std::process::Abort;
 
@@ -129,12 +130,12 @@ const ROWS: [(&str, &str, &str, &str, &str); 19] = [
 ];
 
 /// The same by channel, line and errors.
-const OTHERS: [(Option<u16>, Option<Bus>, bool, &str, &str); 5] = [
+const OTHERS: [(Option<u16>, Option<Line>, bool, &str, &str); 5] = [
     (Some(2), None, false, "12", "12"),
-    (None, Some(Bus::A), false, "3456", "3564"),
-    (None, Some(Bus::B), false, "12", "12"),
+    (None, Some(Line::A), false, "3456", "3564"),
+    (None, Some(Line::B), false, "12", "12"),
     (None, None, true, "6", "6"),
-    (Some(9), Some(Bus::B), true, "", ""),
+    (Some(9), Some(Line::B), true, "", ""),
 ];
 
 /// The numbers of the messages that are shown of a file, each as one digit.
@@ -169,7 +170,7 @@ fn chooses(
 }
 
 /// Messages of a channel, on a line, or with an error; all of them where nothing is said.
-pub(crate) fn selected(channel: Option<u16>, line: Option<Bus>, errors: bool) -> Selection {
+pub(crate) fn selected(channel: Option<u16>, line: Option<Line>, errors: bool) -> Selection {
     let mut selection = Selection::all();
     selection.channel = channel;
     selection.line = line;

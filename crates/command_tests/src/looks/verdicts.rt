@@ -1,7 +1,7 @@
 //! What `bench judge` says of recordings, worked out by hand.
 use crate::looks::equal::{reads, same_in};
 use crate::looks::made::{FORMS, TRANSFER, recorded};
-use bench_judge::{judge, junit_text, write_colored, write_verdicts};
+use bench_judge::{Lost, RuleVerdict, judge, junit_text, write_colored, write_verdicts};
 use ch11_reader::Index;
 use judge_rules::read_rules;
 use std::alloc::Global;
@@ -111,6 +111,29 @@ const LOST_REPORT: &str =
 <testcase classname=\"line 4\" name=\"expect any clean\">\n    \
 <failure message=\"selected 3 missed 1\">\nmessage 1 channel 1 stamp 0</failure>\n  </testcase>\n</testsuite>\n";
 
+/// A line that has marks of XML, a character of two bytes and a byte that is part of none, and two lines with rules. The
+/// message is `rx 5 1` without an error, alone in a packet with the overflow flag.
+const MARKED_RULES: &[u8] = b"#<&\xC3\xA4\"\xFF>\nexpect any fail\nexpect any ok";
+
+/// As many rules, of which each is missed by that message.
+const FOUR_RULES: &[u8] = b"expect any fail\nexpect any fail\nexpect any fail\nexpect any fail";
+
+/// What its packets say.
+const FLAGGED: Lost = Lost {
+    overflows: 1,
+    jumps: 0,
+};
+
+const MARKED_REPORT: &str =
+    "<?xml version=\"1.0\" encoding=\"UTF-8\"?>\n<testsuite name=\"bench judge\" tests=\"4\" failures=\"1\">\n  \
+<properties>\n    <property name=\"messages missing\" value=\"packets with the overflow flag 1, \
+jumps of the sequence number 0\"/>\n  </properties>\n  \
+<testcase classname=\"line 3\" name=\"expect any ok\"/>\n  \
+<testcase classname=\"line 1\" name=\"#&lt;&amp;\u{e4}&quot;?&gt;\"/>\n  \
+<testcase classname=\"line 2\" name=\"expect any fail\">\n    \
+<failure message=\"selected 1 missed 1\">\nmessage 1 channel 1 stamp 0</failure>\n  </testcase>\n  \
+<testcase classname=\"line 4\" name=\"\"/>\n</testsuite>\n";
+
 /// What is printed of rules and a recording.
 fn judged(rt: &impl Abort, alloc: Global, file: &[u8], rules: &str) -> Vec<u8> {
     let index = Index::build(alloc, file).ok().expect(rt, "a recording");
@@ -201,7 +224,8 @@ fn shown(rt: &impl Abort, alloc: Global, file: &[u8], text: &str, colored: bool)
         written.ok().expect(rt, "verdicts");
         return shown;
     }
-    junit_text(alloc, &index, text, rules, verdicts).expect(rt, "memory")
+    let lost = Lost::of(index.packets());
+    junit_text(alloc, &index, text, rules, verdicts, lost).expect(rt, "memory")
 }
 
 #[test]
@@ -216,4 +240,44 @@ fn a_terminal_shows_the_first_misses(rt: HostRuntime) {
     let file = recorded(&rt, rt.alloc(), &[POLLS]);
     let colors = shown(&rt, rt.alloc(), &file, POLL_RULES, true);
     reads(&rt, colors.as_slice(), POLL_COLORS);
+}
+
+/// A verdict on the rule of a line.
+fn verdict_at(line: u64, held: bool) -> RuleVerdict {
+    RuleVerdict {
+        line,
+        selected: 1,
+        missed: if held { 0 } else { 1 },
+        miscounted: false,
+        held,
+    }
+}
+
+/// Names stand by their lines, in whatever order; the header's sum counts its flag.
+#[test]
+fn a_report_tells_of_messages_that_are_missing(rt: HostRuntime) {
+    let alloc = rt.alloc();
+    let mut file = FOREIGN;
+    file[46] = 0x90;
+    file[54] = 0x18;
+    let index = Index::build(alloc, &file).ok().expect(&rt, "a recording");
+    let lost = Lost::of(index.packets());
+    same_in(&rt, "the flag", &lost, &FLAGGED);
+    let rules = read_rules(alloc, FOUR_RULES).ok().expect(&rt, "rules");
+    let verdicts = [
+        verdict_at(3, true),
+        verdict_at(1, true),
+        verdict_at(2, false),
+        verdict_at(4, true),
+    ];
+    let report = junit_text(
+        alloc,
+        &index,
+        MARKED_RULES,
+        rules.as_slice(),
+        &verdicts,
+        lost,
+    );
+    let text = report.ok().expect(&rt, "memory");
+    reads(&rt, text.as_slice(), MARKED_REPORT);
 }

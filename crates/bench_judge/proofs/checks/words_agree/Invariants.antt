@@ -6,7 +6,7 @@ use Rattle.bench_judge.proofs.checks.words_agree.Given as goal
 abbrev pub invariant-words : goal.invariant-words
 invariant-words l = record {
   counted : l.next + length l.rest ≡ l.place + length l.wanted;
-  left : spec.words_agree l.seen.words.now l.next l.rest ≡ spec.words_agree l.seen.words.now l.place l.wanted;
+  left : spec.words_agree l.view.bytes l.next l.rest ≡ spec.words_agree l.view.bytes l.place l.wanted;
 }
 
 abbrev pub decreases-words : goal.decreases-words

@@ -16,7 +16,7 @@ messages-preserved c = record {
   passing = λ history from is.
       passing-more (λ hs. IsFinding c.args.rule.now c.args.most hs c.messages.found.items c.messages.tally) (λ hs. IsFinding c.args.rule.now c.args.most hs c.note_first.new.found.items c.note_first.new.tally) _ _ _ c.next.new.self
       (message_of c.in-Some.seen) history (c.messages.invariant.passing history from is) c.in-Some.ensures.steps
-      (λ hs now many. c.in_ok-note_first.ensures hs now (omega (arith, many, is, c.messages.invariant.counted)));
+      (λ hs now many. rw c.of.ensures at c.in_ok-note_first.ensures hs now (omega (arith, many, is, c.messages.invariant.counted)));
 }
 
 pub returns : goal.returns

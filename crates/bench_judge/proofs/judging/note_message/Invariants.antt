@@ -1,5 +1,4 @@
 use Rattle.std.proofs.Common.{◌≡◌, ◌+◌, ◌<◌, ◌^◌, List, length}
-use Rattle.ch11_f1.specs.Views.{message_of}
 use Rattle.bench_judge.specs.Clean.{IsKnown}
 use Rattle.ch11_reader.specs.Contents.{Heard}
 use Rattle.bench_judge.specs.Tallies.{AreTallies}
@@ -9,7 +8,7 @@ use Rattle.bench_judge.proofs.judging.note_message.Given as goal
 -- the tallies of the rules so far count the message
 abbrev pub invariant-rules : goal.invariant-rules
 invariant-rules l = record {
-  known : IsKnown l.known (message_of l.seen);
+  known : IsKnown l.known l.view;
   many : length l.tallies ≡ length l.rules;
-  noting : (history : List Heard) → AreTallies l.rules history l.fn.tallies → length history + 1 < 2 ^ 64 → IsNoting l.rules (l.channel, message_of l.seen) history l.tallies l.place;
+  noting : (history : List Heard) → AreTallies l.rules history l.fn.tallies → length history + 1 < 2 ^ 64 → IsNoting l.rules (l.channel, l.view) history l.tallies l.place;
 }

@@ -13,7 +13,7 @@ messages-preserved c = record {
   passing = λ history are few.
       passing-more (λ hs. AreTallies c.args.rules.now hs c.messages.tallies) (λ hs. AreTallies c.args.rules.now hs c.note_message.new.tallies) _ _ _ c.next.new.self (message_of c.in-Some.seen) history
       (c.messages.invariant.passing history are few) c.in-Some.ensures.steps
-      (λ hs now many. c.in_ok-note_message.ensures hs now (omega (arith, many, few, ap length c.in-Some.ensures.steps)));
+      (λ hs now many. rw c.of.ensures at c.in_ok-note_message.ensures hs now (omega (arith, many, few, ap length c.in-Some.ensures.steps)));
 }
 
 pub returns : goal.returns

@@ -16,7 +16,7 @@ messages-preserved g c = record {
   passing = λ history got is from.
       passing-more (λ hs. IsWriting c.args.rule.now got hs (g.W.Write.contents c.messages.out) c.messages.tally) (λ hs. IsWriting c.args.rule.now got hs (g.W.Write.contents c.write_message.new.out) c.write_message.new.tally) _ _ _ c.next.new.self
       (message_of c.in-Some.seen) history (c.messages.invariant.passing history got is from) c.in-Some.ensures.steps
-      (λ hs now many. c.in_ok-write_message.ensures hs got now (omega (arith, many, from, c.messages.invariant.counted)));
+      (λ hs now many. rw c.of.ensures at c.in_ok-write_message.ensures hs got now (omega (arith, many, from, c.messages.invariant.counted)));
 }
 
 pub returns : goal.returns

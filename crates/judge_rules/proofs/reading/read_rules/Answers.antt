@@ -1,11 +1,12 @@
 use Rattle.std.proofs.Common.{◌≡◌, ◌+◌, length, refl, append-nil, arith}
 use Rattle.std.proofs.lemmas.Bool.{ne_eqb}
 use Rattle.std.proofs.lemmas.Bool.Decides.{nat_tests}
-use Rattle.std.specs.Prelude.{Some, None, Ok, Err}
+use Rattle.std.specs.Prelude.{Some, Ok, Err}
 use Rattle.judge_rules.specs.Lines.{said}
 use Rattle.text_lines.specs.Lines.{text_lines}
 use Rattle.judge_rules.specs.Rules.{rules_from, rules_in}
-use Rattle.judge_rules.proofs.Prefixes.{from-fault, from-many, from-none, from-rule, fits-whole, prefixed}
+use Rattle.judge_rules.proofs.Prefixes.{from-fault, from-many, from-rule, fits-whole}
+use Rattle.judge_rules.proofs.Ranges.{in_range}
 use Rattle.judge_rules.proofs.reading.read_rules.Goals as goal
 
 pub returns-in-Some-Err-clause-fault : goal.returns-in-Some-Err-clause-fault
@@ -30,8 +31,9 @@ returns-then-is_err-clause-fault c =
     let says : said l.line c.in-Some.first.now ≡ Some (Ok c.in-Some-Ok.rule) = cc in
     let few : length l.rules.items ≡ 10000 → ⊥ = λ (e : length l.rules.items ≡ 10000). absurd (omega arith) in
     let same : c.len-count.result ≡ length l.rules.items = omega arith in
+    let here : c.in-Some-Ok.rule.line ≡ l.line = rw c.in-Some-Ok.field-0-is at c.in-Some-Ok.ensures.line in
     rw (l.invariant.read, c.in-Some.ensures.lines, from-rule (length l.rules.items) l.line c.in-Some.first.now (text_lines c.in-Some.behind.now) c.in-Some-Ok.rule says few)
-    (fits-whole l.line c.fault_or_memory.result l.rules.items c.in-Some-Ok.rule (rules_from (length l.rules.items + 1) (l.line + 1) (text_lines c.in-Some.behind.now)) (rw same at c.fault_or_memory.ensures))
+    (fits-whole l.line c.fault_or_memory.result l.rules.items c.in-Some-Ok.rule (rules_from (length l.rules.items + 1) (l.line + 1) (text_lines c.in-Some.behind.now)) here (rw same at c.fault_or_memory.ensures))
 
 pub returns-then-is_empty-clause-fault : goal.returns-then-is_empty-clause-fault
 unfolding rules_in
@@ -46,3 +48,6 @@ returns-clause-rules c =
     let l = c.loop-first in
     let some : length l.rules.items ≡ 0 → ⊥ = λ (e : length l.rules.items ≡ 0). absurd (grind (arith, nat_tests)) in
     rw (l.invariant.read, c.in_default.ensures.lines, ne_eqb (length l.rules.items) 0 some, append-nil l.rules.items) refl
+
+pub returns-clause-ranges : goal.returns-clause-ranges
+returns-clause-ranges c = in_range c.args.text.now c.loop-first.rules.items (returns-clause-rules c)

@@ -1,0 +1,16 @@
+use Rattle.std.proofs.Common.{◌≡◌, length}
+use Rattle.bench_judge.specs.Names.{AreLeft}
+use Rattle.bench_judge.proofs.Showing.{IsShowing}
+use Rattle.bench_judge.proofs.colored.write_rules.Given as goal
+
+-- the rules so far are shown
+abbrev pub invariant-rules : goal.invariant-rules
+invariant-rules g l = record {
+  text : l.names.text.now ≡ l.judged.text.now;
+  left : AreLeft l.names;
+  many : length l.judged.rules.now ≡ length l.judged.verdicts.now → length l.rules ≡ length l.verdicts;
+  shown : IsShowing l.judged.text.now l.judged.verdicts.now l.verdicts (g.W.Write.contents l.fn.out) (g.W.Write.contents l.out);
+}
+
+abbrev pub decreases-rules : goal.decreases-rules
+decreases-rules g l = length l.verdicts

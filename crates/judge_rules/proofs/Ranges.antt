@@ -1,0 +1,211 @@
+-- The numbers of the rules that a text spells are in their ranges.
+use Rattle.std.proofs.Common.{◌≡◌, ℕ, zero, suc, ◌+◌, ◌≤◌, Bool, true, false, List, [], ◌∷◌, length, drop, refl, subst, arith}
+use Rattle.std.specs.Prelude.{Option, Some, None, Result, Ok, Err, IfOk, IfSome, ◌==◌, ◌&&◌, nat_le, if◌then◌else◌, codes}
+use Rattle.std.specs.List.{AllByRecursion}
+use Rattle.std.specs.Str.{bytes_eq}
+use Rattle.std.proofs.lemmas.Bool.{and_parts}
+use Rattle.std.proofs.lemmas.Bool.Decides.{nat_tests}
+use Rattle.numerals.specs.Numerals as numerals
+use Rattle.text_lines.specs.Lines.{text_lines}
+use Rattle.text_lines.specs.Words.{Text, words, begins_with}
+use Rattle.mil_mode.specs.Codes.{last_code}
+use Rattle.mil_word.specs.Fields.{highest_address, highest_subaddress, most_words}
+use Rattle.judge_rules.specs.declared.fault.RuleFault.{RuleFault}
+use Rattle.judge_rules.specs.declared.fault.RuleFault.TheVariants.{Word, Range}
+use Rattle.judge_rules.specs.declared.rules.Bounds.{Bounds}
+use Rattle.mil_word.specs.declared.Line.{Line}
+use Rattle.judge_rules.specs.declared.rules.Check.{Check}
+use Rattle.judge_rules.specs.declared.rules.Check.TheVariants.{Sound, Failed, Clean, Status, Data, Response, Period, Count}
+use Rattle.judge_rules.specs.declared.rules.Datum.{Datum}
+use Rattle.judge_rules.specs.declared.rules.Rule.{Rule}
+use Rattle.judge_rules.specs.declared.rules.Selector.{Selector}
+use Rattle.judge_rules.specs.declared.rules.Selector.TheVariants.{Any, ReceiveAll, ModeAll}
+use Rattle.judge_rules.specs.Checks.{check_in, only_bounds, status_in}
+use Rattle.judge_rules.specs.Faults.{Read, both, ended, made}
+use Rattle.judge_rules.specs.Lines.{behind_bus, behind_channel, bus_in, channel_in, is_passed_over, rule_behind, rule_in, said}
+use Rattle.judge_rules.specs.Ranges.{AreBounds, IsCheck, IsChoice, IsFrom, IsInRange, IsSelector, IsAddress, IsSubaddress, IsCode}
+use Rattle.judge_rules.specs.Rules.{AllRules, fault_at, in_front, rules_from, rules_in, taken}
+use Rattle.judge_rules.specs.Selectors.{address_in, behind_selector, between_all_in, between_in, code_in, end_in, mode_all_in, mode_in, receive_all_in, receive_in, selector_in, subaddress_in, transmit_in}
+use Rattle.judge_rules.specs.Values.{all_data, and_then, bounds_in, bounds_of, choice_in, data_in, datum_of, number_in, number_of, within}
+
+-- ---- what is read in parts
+
+if_made : {X Y : Type 0} (P : X → Type 0) (Q : Y → Type 0) (make : X → Y) (read : Read X) → ((x : X) → P x → Q (make x)) → IfOk read P → IfOk (made make read) Q
+if_made P Q make (Ok x) on is = on x is
+if_made P Q make (Err f) on is = tt
+
+if_both : {X Y : Type 0} (P : X → Type 0) (Q : Y → Type 0) (a : Read X) (b : Read Y) → IfOk a P → IfOk b Q → IfOk (both a b) (λ (x : X × Y). P x.0 × Q x.1)
+if_both P Q (Ok a) (Ok b) p q = (p, q)
+if_both P Q (Ok a) (Err f) p q = tt
+if_both P Q (Err f) (Ok b) p q = tt
+if_both P Q (Err f) (Err g) p q = tt
+
+if_ended : {X : Type 0} (P : X → Type 0) (read : Read X) (rest : List Text) → IfOk read P → IfOk (ended read rest) P
+if_ended P read [] is = is
+if_ended P read (word ∷ rest) is = tt
+
+if_then : {X Y : Type 0} (P : X → Type 0) (Q : Y → Type 0) (read : Read X) (next : X → Read Y) → IfOk read P → ((x : X) → P x → IfOk (next x) Q) → IfOk (and_then read next) Q
+if_then P Q (Ok x) next is on = on x is
+if_then P Q (Err f) next is on = tt
+
+if_either : {X E : Type 0} (P : X → Type 0) (b : Bool) (first second : Result X E) → IfOk first P → IfOk second P → IfOk (if b then first else second) P
+if_either P true first second f s = f
+if_either P false first second f s = s
+
+-- one of eight, or none
+if_any : {X : Type 0} (P : X → Type 0) (a b c d e f g h : Bool) (ra rb rc rd re rf rg rh : Read X) → IfOk ra P → IfOk rb P → IfOk rc P → IfOk rd P → IfOk re P → IfOk rf P → IfOk rg P → IfOk rh P
+    → IfOk (if a then ra else if b then rb else if c then rc else if d then rd else if e then re else if f then rf else if g then rg else if h then rh else Err Word) P
+if_any P true b c d e f g h ra rb rc rd re rf rg rh pa pb pc pd pe pf pg ph = pa
+if_any P false true c d e f g h ra rb rc rd re rf rg rh pa pb pc pd pe pf pg ph = pb
+if_any P false false true d e f g h ra rb rc rd re rf rg rh pa pb pc pd pe pf pg ph = pc
+if_any P false false false true e f g h ra rb rc rd re rf rg rh pa pb pc pd pe pf pg ph = pd
+if_any P false false false false true f g h ra rb rc rd re rf rg rh pa pb pc pd pe pf pg ph = pe
+if_any P false false false false false true g h ra rb rc rd re rf rg rh pa pb pc pd pe pf pg ph = pf
+if_any P false false false false false false true h ra rb rc rd re rf rg rh pa pb pc pd pe pf pg ph = pg
+if_any P false false false false false false false true ra rb rc rd re rf rg rh pa pb pc pd pe pf pg ph = ph
+if_any P false false false false false false false false ra rb rc rd re rf rg rh pa pb pc pd pe pf pg ph = tt
+
+-- ---- values
+
+range_within : (low high : ℕ) (n : Option ℕ) → IfOk (within low high n) (IsFrom low high)
+range_within low high None = tt
+range_within low high (Some n) = go (nat_le low n && nat_le n high) refl
+  where
+    go : (b : Bool) → (nat_le low n && nat_le n high) ≡ b → IfOk {E = RuleFault} (if b then Ok n else Err Range) (IsFrom low high)
+    go true is =
+        let parts = and_parts (nat_le low n) (nat_le n high) is in
+        let least : nat_le low n ≡ true = parts.0 in
+        let most : nat_le n high ≡ true = parts.1 in
+        (grind (arith, nat_tests), grind (arith, nat_tests))
+    go false is = tt
+
+range_number : (low high : ℕ) (rest : List Text) → IfOk (number_in low high rest) (IsFrom low high)
+range_number low high [] = tt
+range_number low high (word ∷ rest) = range_within low high (numerals.number_of word)
+
+range_choice : (low high : ℕ) (rest : List Text) → IfOk (choice_in low high rest) (IsChoice low high)
+range_choice low high [] = tt
+range_choice low high (word ∷ rest) =
+    if_either (IsChoice low high) (bytes_eq word (codes "*")) (Ok None) (made Some (number_of low high word)) tt
+    (if_made (IsFrom low high) (IsChoice low high) Some (number_of low high word) (λ n is. is) (range_within low high (numerals.number_of word)))
+
+in_order : (most : ℕ) (read : Read (ℕ × ℕ)) → IfOk read (λ (x : ℕ × ℕ). IsFrom 0 most x.0 × IsFrom 0 most x.1) → IfOk (bounds_of read) (AreBounds most)
+in_order most (Err f) is = tt
+in_order most (Ok (low, high)) is = go (nat_le low high) refl
+  where
+    go : (b : Bool) → nat_le low high ≡ b → IfOk {E = RuleFault} (if b then Ok (record { low = low; high = high }) else Err Range) (AreBounds most)
+    go true least = (grind (arith, nat_tests), is.1.1)
+    go false least = tt
+
+range_bounds : (most : ℕ) (rest : List Text) → IfOk (bounds_in most rest) (AreBounds most)
+range_bounds most rest =
+    in_order most (both (number_in 0 most rest) (number_in 0 most (drop 1 rest)))
+    (if_both (IsFrom 0 most) (IsFrom 0 most) (number_in 0 most rest) (number_in 0 most (drop 1 rest)) (range_number 0 most rest) (range_number 0 most (drop 1 rest)))
+
+range_data : (room : ℕ) (rest : List Text) → IfOk (all_data room rest) (λ (ds : List Datum). length ds ≤ room)
+range_data room [] = omega arith
+range_data zero (word ∷ rest) = tt
+range_data (suc room) (word ∷ rest) =
+    if_then (λ (d : Datum). Unit {0}) (λ (ds : List Datum). length ds ≤ suc room) (datum_of word) (λ d. and_then (all_data room rest) (λ ds. Ok (d ∷ ds))) (always (datum_of word))
+    (λ d is. if_then (λ (ds : List Datum). length ds ≤ room) (λ (ds : List Datum). length ds ≤ suc room) (all_data room rest) (λ ds. Ok (d ∷ ds)) (range_data room rest) (λ ds few. omega (arith, few)))
+  where
+    always : (read : Read Datum) → IfOk read (λ (d : Datum). Unit {0})
+    always (Ok d) = tt
+    always (Err f) = tt
+
+-- ---- selectors and checks
+
+range_end : (rest : List Text) → IfOk (end_in rest) (λ (x : Option ℕ × Option ℕ). IsAddress x.0 × IsSubaddress x.1)
+range_end rest = if_both IsAddress IsSubaddress (address_in rest) (subaddress_in (drop 1 rest)) (range_choice 0 highest_address rest) (range_choice 1 highest_subaddress (drop 1 rest))
+
+abbrev IsEnd : Option ℕ × Option ℕ → Type 0
+IsEnd end = IsAddress end.0 × IsSubaddress end.1
+
+range_between : (rest : List Text) → IfOk (between_in rest) IsSelector
+unfolding between_in
+range_between rest =
+    if_made (λ (x : (Option ℕ × Option ℕ) × (Option ℕ × Option ℕ)). IsEnd x.0 × IsEnd x.1) IsSelector _ (both (end_in rest) (end_in (drop 2 rest))) (λ x is. is)
+    (if_both IsEnd IsEnd (end_in rest) (end_in (drop 2 rest)) (range_end rest) (range_end (drop 2 rest)))
+
+range_between_all : (rest : List Text) → IfOk (between_all_in rest) IsSelector
+range_between_all rest =
+    if_made (λ (x : (Option ℕ × Option ℕ) × Option ℕ). IsEnd x.0 × IsSubaddress x.1) IsSelector _ (both (end_in rest) (subaddress_in (drop 2 rest))) (λ x is. is)
+    (if_both IsEnd IsSubaddress (end_in rest) (subaddress_in (drop 2 rest)) (range_end rest) (range_choice 1 highest_subaddress (drop 2 rest)))
+
+range_mode : (rest : List Text) → IfOk (mode_in rest) IsSelector
+range_mode rest =
+    if_made (λ (x : Option ℕ × Option ℕ). IsAddress x.0 × IsCode x.1) IsSelector _ (both (address_in rest) (code_in (drop 1 rest))) (λ x is. is)
+    (if_both IsAddress IsCode (address_in rest) (code_in (drop 1 rest)) (range_choice 0 highest_address rest) (range_choice 0 last_code (drop 1 rest)))
+
+range_selector : (rest : List Text) → IfOk (selector_in rest) IsSelector
+range_selector [] = tt
+range_selector (name ∷ rest) =
+    if_any IsSelector (bytes_eq name (codes "any")) (bytes_eq name (codes "rx")) (bytes_eq name (codes "tx")) (bytes_eq name (codes "rt")) (bytes_eq name (codes "mode")) (bytes_eq name (codes "brx")) (bytes_eq name (codes "brt")) (bytes_eq name (codes "bmode")) (Ok Any) (receive_in rest) (transmit_in rest)
+    (between_in rest) (mode_in rest) (receive_all_in rest) (between_all_in rest) (mode_all_in rest) tt (if_made IsEnd IsSelector _ (end_in rest) (λ x is. is) (range_end rest)) (if_made IsEnd IsSelector _ (end_in rest) (λ x is. is) (range_end rest)) (range_between rest) (range_mode rest)
+    (if_made IsSubaddress IsSelector ReceiveAll (subaddress_in rest) (λ x is. is) (range_choice 1 highest_subaddress rest)) (range_between_all rest) (if_made IsCode IsSelector ModeAll (code_in rest) (λ x is. is) (range_choice 0 last_code rest))
+
+range_only : (most : ℕ) (make : Bounds → Check) (rest : List Text) → ((b : Bounds) → AreBounds most b → IsCheck (make b)) → IfOk (made make (only_bounds most rest)) IsCheck
+range_only most make rest on = if_made (AreBounds most) IsCheck make (only_bounds most rest) on (if_ended (AreBounds most) (bounds_in most rest) (drop 2 rest) (range_bounds most rest))
+
+any_status : (read : Read Datum) → IfOk (made Status read) IsCheck
+any_status (Ok d) = tt
+any_status (Err f) = tt
+
+range_check : (rest : List Text) → IfOk (check_in rest) IsCheck
+range_check [] = tt
+range_check (name ∷ rest) =
+    if_any IsCheck (bytes_eq name (codes "ok")) (bytes_eq name (codes "fail")) (bytes_eq name (codes "clean")) (bytes_eq name (codes "status")) (bytes_eq name (codes "data")) (bytes_eq name (codes "response")) (bytes_eq name (codes "period")) (bytes_eq name (codes "count")) (ended (Ok Sound) rest)
+    (ended (Ok Failed) rest) (ended (Ok Clean) rest) (made Status (status_in rest)) (made (λ (found : List Datum). Data (record { items = found })) (data_in rest)) (made Response (only_bounds 255 rest)) (made Period (only_bounds 9999999 rest)) (made Count (only_bounds 9999999 rest)) (if_ended IsCheck (Ok Sound) rest tt)
+    (if_ended IsCheck (Ok Failed) rest tt) (if_ended IsCheck (Ok Clean) rest tt) (any_status (status_in rest)) (if_made (λ (ds : List Datum). length ds ≤ most_words) IsCheck (λ (found : List Datum). Data (record { items = found })) (data_in rest) (λ ds few. few) (range_data most_words rest))
+    (range_only 255 Response rest (λ b is. is)) (range_only 9999999 Period rest (λ b is. is)) (range_only 9999999 Count rest (λ b is. is))
+
+-- ---- rules
+
+range_channel : (rest : List Text) → IfOk (channel_in rest) (IsChoice 1 65535)
+range_channel rest =
+    if_either (IsChoice 1 65535) (begins_with (codes "channel") rest) (made Some (number_in 1 65535 (drop 1 rest))) (Ok None)
+    (if_made (IsFrom 1 65535) (IsChoice 1 65535) Some (number_in 1 65535 (drop 1 rest)) (λ n is. is) (range_number 1 65535 (drop 1 rest))) tt
+
+any_bus : (read : Read (Option Line)) → IfOk read (λ (b : Option Line). Unit {0})
+any_bus (Ok b) = tt
+any_bus (Err f) = tt
+
+range_behind : (line : ℕ) (rest : List Text) → IfOk (rule_behind line rest) IsInRange
+range_behind line rest =
+    let behind = behind_bus (behind_channel rest) in
+    if_made (λ (x : (Option ℕ × Option Line) × (Selector × Check)). (IsChoice 1 65535 x.0.0 × Unit {0}) × (IsSelector x.1.0 × IsCheck x.1.1)) IsInRange _ (both (both (channel_in rest) (bus_in (behind_channel rest))) (both (selector_in behind) (check_in (behind_selector behind))))
+    (λ x is. (is.0.0, is.1))
+    (if_both (λ (x : Option ℕ × Option Line). IsChoice 1 65535 x.0 × Unit {0}) (λ (x : Selector × Check). IsSelector x.0 × IsCheck x.1) (both (channel_in rest) (bus_in (behind_channel rest))) (both (selector_in behind) (check_in (behind_selector behind)))
+    (if_both (IsChoice 1 65535) (λ (b : Option Line). Unit {0}) (channel_in rest) (bus_in (behind_channel rest)) (range_channel rest) (any_bus (bus_in (behind_channel rest))))
+    (if_both IsSelector IsCheck (selector_in behind) (check_in (behind_selector behind)) (range_selector behind) (range_check (behind_selector behind))))
+
+range_rule : (line : ℕ) (rest : List Text) → IfOk (rule_in line rest) IsInRange
+unfolding rule_in
+range_rule line rest = if_either IsInRange (begins_with (codes "expect") rest) (rule_behind line (drop 1 rest)) (Err Word) (range_behind line (drop 1 rest)) tt
+
+range_said : (line : ℕ) (text : Text) → IfSome (said line text) (λ (read : Read Rule). IfOk read IsInRange)
+unfolding said
+range_said line text = go (is_passed_over text)
+  where
+    go : (b : Bool) → IfSome (if b then None else Some (rule_in line (words text))) (λ (read : Read Rule). IfOk read IsInRange)
+    go true = tt
+    go false = range_rule line (words text)
+
+range_front : (rule : Rule) (more : AllRules) → IsInRange rule → IfOk more (AllByRecursion IsInRange) → IfOk (in_front rule more) (AllByRecursion IsInRange)
+range_front rule (Ok rules) is are = (is, are)
+range_front rule (Err e) is are = tt
+
+range_taken : (before line : ℕ) (what : Option (Read Rule)) (same more : AllRules) → IfSome what (λ (read : Read Rule). IfOk read IsInRange) → IfOk same (AllByRecursion IsInRange) → IfOk more (AllByRecursion IsInRange) → IfOk (taken before line what same more) (AllByRecursion IsInRange)
+range_taken before line None same more is s m = s
+range_taken before line (Some (Err f)) same more is s m = tt
+range_taken before line (Some (Ok rule)) same more is s m = if_either (AllByRecursion IsInRange) (before == 10000) (fault_at line Range) (in_front rule more) tt (range_front rule more is m)
+
+range_from : (before line : ℕ) (texts : List Text) → IfOk (rules_from before line texts) (AllByRecursion IsInRange)
+range_from before line [] = if_either (AllByRecursion IsInRange) (before == 0) (fault_at line Word) (Ok []) tt tt
+range_from before line (text ∷ rest) =
+    range_taken before line (said line text) (rules_from before (line + 1) rest) (rules_from (before + 1) (line + 1) rest) (range_said line text) (range_from before (line + 1) rest) (range_from (before + 1) (line + 1) rest)
+
+-- the rules of a text are in their ranges
+pub in_range : (text : Text) (rules : List Rule) → rules_in text ≡ Ok rules → AllByRecursion IsInRange rules
+unfolding rules_in
+in_range text rules is = subst (λ (r : AllRules). IfOk r (AllByRecursion IsInRange)) is (range_from 0 1 (text_lines text))

@@ -1,0 +1,60 @@
+-- The ranges of the numbers of a rule (own choice).
+use Rattle.std.specs.Prelude.{ℕ, ◌≤◌, length, Option, IfSome, ⊤}
+use Rattle.mil_mode.specs.Codes.{last_code}
+use Rattle.mil_word.specs.Fields.{highest_address, highest_subaddress, most_words}
+use Rattle.judge_rules.specs.declared.rules.Bounds.{Bounds}
+use Rattle.judge_rules.specs.declared.rules.Check.{Check}
+use Rattle.judge_rules.specs.declared.rules.Check.TheVariants.{Sound, Failed, Clean, Status, Data, Response, Period, Count}
+use Rattle.judge_rules.specs.declared.rules.Rule.{Rule}
+use Rattle.judge_rules.specs.declared.rules.Selector.{Selector}
+use Rattle.judge_rules.specs.declared.rules.Selector.TheVariants.{Any, Receive, Transmit, Between, Mode, ReceiveAll}
+use Rattle.judge_rules.specs.declared.rules.Selector.TheVariants.{BetweenAll, ModeAll}
+
+-- a number from low to high
+abbrev pub IsFrom : ℕ → ℕ → ℕ → Type 0
+IsFrom low high n = (low ≤ n) × (n ≤ high)
+
+-- such a number, or each of them
+abbrev pub IsChoice : ℕ → ℕ → Option ℕ → Type 0
+IsChoice low high choice = IfSome choice (IsFrom low high)
+
+-- the address of a terminal, a subaddress that is none of mode commands, and a mode code (4.3.3.5.1)
+abbrev pub IsAddress : Option ℕ → Type 0
+IsAddress address = IsChoice 0 highest_address address
+
+abbrev pub IsSubaddress : Option ℕ → Type 0
+IsSubaddress subaddress = IsChoice 1 highest_subaddress subaddress
+
+abbrev pub IsCode : Option ℕ → Type 0
+IsCode code = IsChoice 0 last_code code
+
+abbrev pub IsSelector : Selector → Type 0
+IsSelector Any = ⊤
+IsSelector (Receive address subaddress) = IsAddress address × IsSubaddress subaddress
+IsSelector (Transmit address subaddress) = IsAddress address × IsSubaddress subaddress
+IsSelector (Between from from_subaddress to to_subaddress) =
+    (IsAddress from × IsSubaddress from_subaddress) × (IsAddress to × IsSubaddress to_subaddress)
+IsSelector (Mode address code) = IsAddress address × IsCode code
+IsSelector (ReceiveAll subaddress) = IsSubaddress subaddress
+IsSelector (BetweenAll from from_subaddress to_subaddress) =
+    (IsAddress from × IsSubaddress from_subaddress) × IsSubaddress to_subaddress
+IsSelector (ModeAll code) = IsCode code
+
+-- the least number is at most the greatest, and this at most so much
+abbrev pub AreBounds : ℕ → Bounds → Type 0
+AreBounds most bounds = (bounds.low ≤ bounds.high) × (bounds.high ≤ most)
+
+-- a message has at most 32 data words; gaps are told up to 255 ticks; other numbers have seven digits
+abbrev pub IsCheck : Check → Type 0
+IsCheck Sound = ⊤
+IsCheck Failed = ⊤
+IsCheck Clean = ⊤
+IsCheck (Status datum) = ⊤
+IsCheck (Data found) = length found.items ≤ most_words
+IsCheck (Response bounds) = AreBounds 255 bounds
+IsCheck (Period bounds) = AreBounds 9999999 bounds
+IsCheck (Count bounds) = AreBounds 9999999 bounds
+
+-- a rule whose numbers are in their ranges
+abbrev pub IsInRange : Rule → Type 0
+IsInRange rule = (IsChoice 1 65535 rule.channel) × (IsSelector rule.selector × IsCheck rule.check)
