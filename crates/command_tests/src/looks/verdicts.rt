@@ -111,8 +111,8 @@ const LOST_REPORT: &str =
 <testcase classname=\"line 4\" name=\"expect any clean\">\n    \
 <failure message=\"selected 3 missed 1\">\nmessage 1 channel 1 stamp 0</failure>\n  </testcase>\n</testsuite>\n";
 
-/// A line that has marks of XML, a character of two bytes and a byte that is part of none, and two lines with rules. The
-/// message is `rx 5 1` without an error, alone in a packet with the overflow flag.
+/// A line that has marks of XML, a character of two bytes and a byte that is part of none, and two lines with rules.
+/// The message is `rx 5 1` without an error, alone in a packet with the overflow flag.
 const MARKED_RULES: &[u8] = b"#<&\xC3\xA4\"\xFF>\nexpect any fail\nexpect any ok";
 
 /// As many rules, of which each is missed by that message.
