@@ -7,11 +7,13 @@
 mod error;
 mod faults;
 mod gaps;
+mod line_words;
 mod on_line;
 mod plans;
 
 pub use error::LineError;
 pub use faults::Fault;
 pub use gaps::Gap;
-pub use on_line::{MOST_SENT, altered, late_gap};
+pub use line_words::LineWord;
+pub use on_line::{MOST_SENT, altered, reply_gap};
 pub use plans::Plan;

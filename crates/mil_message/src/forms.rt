@@ -106,6 +106,7 @@ fn put_words(others: &mut ArrayVec<u16, 32>, words: &ArrayVec<u16, 32>)
     ensures { others.new ≡ words.now }
 {
     *others = ArrayVec::new();
+    // There is room for all of them.
     let _ = others.try_extend_from_slice(words.as_slice());
 }
 

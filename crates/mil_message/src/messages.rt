@@ -233,6 +233,7 @@ impl Message {
             words.push(second.value());
         }
         let count = words.len() as u8;
+        // There is room for all of them.
         let _ = words.try_extend_from_slice(self.data_words());
         Values {
             words,

@@ -14,7 +14,7 @@ message_error = 4096
 abbrev pub terminal_to_terminal : ℕ
 terminal_to_terminal = 2048
 
--- bit 10: a format error, which this bench never sets (own choice)
+-- bit 10: a format error: a word that does not follow the one before at once, where it should
 abbrev pub format_error : ℕ
 format_error = 1024
 

@@ -48,7 +48,7 @@ impl BlockBits {
     pub const MESSAGE_ERROR: BlockBits = BlockBits(4096);
     /// Bit 11: a transfer between terminals, which has two commands.
     pub const TERMINAL_TO_TERMINAL: BlockBits = BlockBits(2048);
-    /// Bit 10: a format error. This bench never sets it (own choice).
+    /// Bit 10: a format error: a word that does not follow the one before at once, where it should.
     pub const FORMAT_ERROR: BlockBits = BlockBits(1024);
     /// Bit 9: a reply that did not come, or came too late.
     pub const RESPONSE_TIMEOUT: BlockBits = BlockBits(512);

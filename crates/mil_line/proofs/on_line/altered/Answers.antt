@@ -4,6 +4,6 @@ use Rattle.mil_line.proofs.on_line.altered.Goals as goal
 
 pub loop-i-preserved : goal.loop-i-preserved
 loop-i-preserved c = record {
-  items = next_place c.args.faults.now c.args.run c.loop-i.i c.args.room c.index-given-i.result c.args.given.now c.loop-i.waves.items c.put_place.new.waves.items c.loop-i-test.true c.index-given-i.is c.put_place.ensures.items ∙ c.loop-i.invariant.items;
+  items = next_place c.args.faults.now c.args.run c.loop-i.i c.args.room c.index-given-i.result c.args.given.now c.loop-i.words.items c.put_place.new.words.items c.loop-i-test.true c.index-given-i.is c.put_place.ensures.items ∙ c.loop-i.invariant.items;
   within = c.put_place.ensures.within;
 }
