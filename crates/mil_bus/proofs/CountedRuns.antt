@@ -1,5 +1,6 @@
 -- What runs that are kept as a whole make of the counts of a talk.
 use Rattle.std.proofs.Common.{◌≡◌, ℕ, zero, suc, ◌+◌, ◌<◌, ◌≤◌, ◌^◌, nat_lt, Bool, true, false, cond, ◌||◌, List, ◌++◌, take, drop, length, get_or, refl, sym, ap, ◌∙◌, arith, Option, Some, None, ◌-◌, ◌==◌, ◌&&◌, [], ◌∷◌, subst}
+use Rattle.std.specs.Prelude.{not}
 use Rattle.std.specs.Option.{is_none, is_some}
 use Rattle.std.proofs.lemmas.Bool.Decides.{nat_tests}
 use Rattle.std.proofs.lemmas.List.{get_or-drop, get_or_append_left, drop-drop, drop_at}
@@ -18,7 +19,7 @@ use Rattle.mil_bus.specs.DataRuns.{gap_at}
 use Rattle.mil_bus.specs.Pass.{noted, one_more, words_in as came_words}
 use Rattle.mil_bus.specs.Lengthened.{is_data, AreLike, goes_on, lengthened}
 use Rattle.mil_bus.specs.Wholes.{whole_words, all_words}
-use Rattle.mil_bus.proofs.Passes.{or_false, counts_of-more}
+use Rattle.mil_bus.proofs.Passes.{or_false, and_false, counts_of-more}
 use Rattle.mil_bus.proofs.Lengthening.{not_longer, counts_of-like}
 use Rattle.mil_bus.proofs.KeptRuns.{word-at, get-same, whole_words-length, words-step, own-length}
 
@@ -33,6 +34,15 @@ or_true false = refl
 none_before : (due : ℕ) → nat_lt due 0 ≡ false
 none_before due = grind (arith, nat_tests)
 
+-- a word behind the first of a run that is kept as a whole follows the one before at once
+gap_later : (place gap : ℕ) → 0 < place → gap_at place gap ≡ 20
+gap_later zero gap some = absurd (omega (arith, some))
+gap_later (suc place) gap some = refl
+
+no_pause : (place gap : ℕ) → (not (gap_at place gap == 20) && nat_lt 0 place) ≡ false
+no_pause zero gap = and_false (not (gap == 20))
+no_pause (suc place) gap = refl
+
 fits : (b : Bool) (value : ℕ) → differs b (Some (record { sync = cond b CommandSync DataSync; value = value })) ≡ false
 fits true value = refl
 fits false value = refl
@@ -42,10 +52,10 @@ sound true v small = word_of-wave (record { sync = CommandSync; value = v }) sma
 sound false v small = word_of-wave (record { sync = DataSync; value = v }) small
 
 -- a word of the controller that has the sync of its place
-note_in_place : (b : Bool) (commands due n : ℕ) (s : TalkCounts) (wave gap : ℕ) (source : Source) (value : ℕ) → nat_lt n commands ≡ b → s.controllers ≡ 0
+note_in_place : (b : Bool) (commands due n : ℕ) (s : TalkCounts) (wave gap : ℕ) (source : Source) (value : ℕ) → nat_lt n commands ≡ b → s.controllers ≡ 0 → (not (gap == 20) && nat_lt 0 n) ≡ false
     → word_of wave ≡ Some (record { sync = cond b CommandSync DataSync; value = value })
     → noted commands due (lengthened s 0 n) (record { wave = wave; gap = gap; run = 0; source = source }) ≡ lengthened s 0 (n + 1)
-note_in_place b commands due n s wave gap source value at front is =
+note_in_place b commands due n s wave gap source value at front calm is =
     let place : s.controllers + n ≡ n = omega (arith, front) in
     let takes : nat_lt (s.controllers + n) commands ≡ b = ap (λ k. nat_lt k commands) place ∙ at in
     let none : (s.unsound || is_none (word_of wave)) ≡ s.unsound = ap (λ o. s.unsound || is_none o) is ∙ or_false s.unsound in
@@ -53,7 +63,10 @@ note_in_place b commands due n s wave gap source value at front is =
     ap (λ t. s.other_sync || differs t (word_of wave)) takes ∙ ap (λ o. s.other_sync || differs b o) is ∙ ap (λ x. s.other_sync || x) (fits b value) ∙ or_false s.other_sync in
     let more : s.controllers + n + 1 ≡ s.controllers + (n + 1) = omega arith in
     let far : (s.beyond || nat_lt due 0) ≡ s.beyond = ap (λ x. s.beyond || x) (none_before due) ∙ or_false s.beyond in
-    λ i. record { controllers = more i; one = s.one; two = s.two; beyond = far i; unsound = none i; other_sync = sync i }
+    let pause : (s.paused || (not (gap == 20) && (not (nat_lt due 0) && nat_lt 0 (s.controllers + n)))) ≡ s.paused =
+    ap (λ x. s.paused || (not (gap == 20) && (not x && nat_lt 0 (s.controllers + n)))) (none_before due)
+    ∙ ap (λ k. s.paused || (not (gap == 20) && nat_lt 0 k)) place ∙ ap (λ x. s.paused || x) calm ∙ or_false s.paused in
+    λ i. record { controllers = more i; one = s.one; two = s.two; beyond = far i; unsound = none i; other_sync = sync i; paused = pause i }
 
 below : (n a b : ℕ) → a ≡ b → nat_lt n b ≡ true → n < a
 below n a b e h = grind (arith, nat_tests)
@@ -82,13 +95,13 @@ counts-front commands due few xs from (suc n) r own number same front within le 
     ∙ ap (noted commands due (counts_of commands due (take (from + n) xs))) at
     ∙ ap (λ t. noted commands due t w) (counts-front commands due few xs from n r own number same front within (omega (arith, le)) small there)
     ∙ ap (λ k. noted commands due (lengthened s 0 n) (record { wave = wave; gap = gap_at n r.gap; run = k; source = r.source })) number
-    ∙ note_in_place b commands due n s wave (gap_at n r.gap) r.source v refl front (sound b v (small n 0 lt))
+    ∙ note_in_place b commands due n s wave (gap_at n r.gap) r.source v refl front (no_pause n r.gap) (sound b v (small n 0 lt))
     ∙ ap (lengthened s 0) up
 
 -- the data words of a run
-pub data-like : (r : Whole) (own : List ℕ) (xs : List Sent) (from j more : ℕ) → r.commands ≤ j → j + more ≤ length own → AreSmall own → Stands xs from r own
+pub data-like : (r : Whole) (own : List ℕ) (xs : List Sent) (from j more : ℕ) → r.commands ≤ j → 0 < j → j + more ≤ length own → AreSmall own → Stands xs from r own
     → AreLike r.number more (drop (from + j) xs)
-data-like r own xs from j more behind fit small there = λ k d lt.
+data-like r own xs from j more behind later fit small there = λ k d lt.
     let place : j + k < length own = omega (arith, lt, fit) in
     let v = get_or own (j + k) 0 in
     let w : Sent = record { wave = data_wave v; gap = gap_at (j + k) r.gap; run = r.number; source = r.source } in
@@ -97,7 +110,7 @@ data-like r own xs from j more behind fit small there = λ k d lt.
     get_or-drop (from + j) xs k d ∙ ap (λ m. get_or xs m d) e ∙ there (j + k) d place
     ∙ word-at r own (j + k) d v (data_wave v) false place (get-same own (j + k) 0 v place) (λ h. absurd (false-not-true h)) (λ h. omega (arith, behind)) refl in
     let word : is_data (word_of (data_wave v)) ≡ true = ap is_data (word_of-wave (record { sync = DataSync; value = v }) (small (j + k) 0 place)) in
-    (ap (λ (x : Sent). x.run) at, ap (λ (x : Sent). is_data (word_of x.wave)) at ∙ word)
+    (ap (λ (x : Sent). x.run) at, ap (λ (x : Sent). is_data (word_of x.wave)) at ∙ word, ap (λ (x : Sent). x.gap) at ∙ gap_later (j + k) r.gap (omega (arith, later)))
   where
     false-not-true : false ≡ true → ⊥
     false-not-true h = cc
@@ -115,7 +128,10 @@ reply-begun commands due s wave gap source value some before is =
     ap (λ t. s.other_sync || differs t (word_of wave)) place ∙ ap (λ o. s.other_sync || differs true o) is ∙ or_false s.other_sync in
     let one : one_more s.one gap (word_of wave) ≡ Some (record { gap = gap; first = Some (record { sync = CommandSync; value = value }); count = 1 }) =
     ap (λ o. one_more o gap (word_of wave)) before ∙ ap (λ w. Some (record { gap = gap; first = w; count = 1 })) is in
-    λ i. record { controllers = s.controllers; one = one i; two = s.two; beyond = far i; unsound = none i; other_sync = sync i }
+    let pause : (s.paused || (not (gap == 20) && (not (nat_lt due 1) && nat_lt 0 (came_words s.one)))) ≡ s.paused =
+    ap (λ o. s.paused || (not (gap == 20) && (not (nat_lt due 1) && nat_lt 0 (came_words o)))) before
+    ∙ ap (λ x. s.paused || (not (gap == 20) && x)) (and_false (not (nat_lt due 1))) ∙ ap (λ x. s.paused || x) (and_false (not (gap == 20))) ∙ or_false s.paused in
+    λ i. record { controllers = s.controllers; one = one i; two = s.two; beyond = far i; unsound = none i; other_sync = sync i; paused = pause i }
 
 goes_on-begun : (commands due : ℕ) (s : TalkCounts) (c : Came) → 0 < due → c.count ≡ 1 → goes_on commands due (record s { one = Some c }) 1 ≡ true
 goes_on-begun commands due s c some one =
@@ -140,7 +156,7 @@ counts-reply commands due few xs from r own v number single some before within m
     ∙ reply-begun commands due s (command_wave v) r.gap r.source v some before word in
     let n = length own - 1 in
     let on : goes_on commands due (counts_of commands due (take (from + 1) xs)) 1 ≡ true = ap (λ t. goes_on commands due t 1) first ∙ goes_on-begun commands due s came some refl in
-    let like : AreLike 1 n (drop (from + 1) xs) = subst (λ k. AreLike k n (drop (from + 1) xs)) number (data-like r own xs from 1 n (omega (arith, single)) (omega (arith, more)) small there) in
+    let like : AreLike 1 n (drop (from + 1) xs) = subst (λ k. AreLike k n (drop (from + 1) xs)) number (data-like r own xs from 1 n (omega (arith, single)) (omega arith) (omega (arith, more)) small there) in
     let all : from + length own ≡ from + 1 + n = omega (arith, more) in
     let count : 1 + n ≡ length own = omega (arith, more) in
     ap (λ k. counts_of commands due (take k xs)) all ∙ counts_of-like commands due few xs (from + 1) 1 n (omega (arith, within, more)) on like

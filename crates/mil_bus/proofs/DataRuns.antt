@@ -1,15 +1,23 @@
 -- Words that one station hears one after the other, and words that all hear.
-use Rattle.std.proofs.Common.{◌≡◌, ℕ, zero, suc, List, [], ◌∷◌, ◌++◌, map, take, drop, length, refl, sym, ap, ◌∙◌, true, false, None, append-nil, arith}
+use Rattle.std.proofs.Common.{◌≡◌, ℕ, zero, suc, List, [], ◌∷◌, ◌++◌, map, take, drop, length, refl, sym, ap, ◌∙◌, true, false, Bool, ◌||◌, None, append-nil, arith}
+use Rattle.std.specs.Prelude.{◌==◌, ◌&&◌, Option, Some, if◌then◌else◌}
+use Rattle.std.specs.Option.{option_map, option_and_then, is_some}
 use Rattle.std.proofs.lemmas.List.{take-append-drop, length-map}
 use Rattle.mil_word.specs.declared.Line.{Line}
-use Rattle.mil_word.specs.Words.{command_in, command_wave, data_wave}
+use Rattle.mil_word.specs.declared.Word.{Word}
+use Rattle.mil_word.specs.Wave.{word_of}
+use Rattle.mil_word.specs.Fields.{address_of, is_broadcast}
+use Rattle.mil_word.specs.Words.{command_in, command_wave, data_wave, is_command_sync, value_if}
 use Rattle.mil_terminal.specs.declared.events.Event.TheVariants.{Heard}
-use Rattle.mil_terminal.specs.Windows.{opens}
+use Rattle.mil_terminal.specs.History.{History}
+use Rattle.mil_terminal.specs.Host.{is_deaf, is_off, takes_broadcast}
+use Rattle.mil_terminal.specs.Windows.{is_to, opens}
 use Rattle.mil_bus.specs.declared.talks.Sent.{Sent}
 use Rattle.mil_terminal.specs.Station.{Station, after}
 use Rattle.mil_terminal.specs.Runs.{heard, after_all}
 use Rattle.mil_bus.specs.declared.talks.Source.{Source}
-use Rattle.mil_bus.specs.Exchange.{misses, hearing, all_hearing, words_of_run}
+use Rattle.mil_bus.specs.Exchange.{misses, sends, hearing, all_hearing, contiguous_run}
+use Rattle.mil_bus.specs.Index.{is_command_to}
 use Rattle.mil_bus.specs.Wholes.{run_waves}
 use Rattle.mil_bus.specs.DataRuns.{hearing_all, run_words, gap_at, run_from}
 use Rattle.mil_bus.specs.declared.talk_runs.Run.{Run}
@@ -49,8 +57,8 @@ hearing_all-own line [] s = refl
 hearing_all-own line (w ∷ ws) s = hearing_all-own line ws (hearing line w s) ∙ hearing-own line w s
 
 -- a word that is no command opens no window
-pub opens-none : (own : ℕ) (line : Line) (wave gap : ℕ) → command_in wave ≡ None → opens own (Heard line wave gap) ≡ false
-opens-none own line wave gap none = rw none refl
+pub opens-none : (own : ℕ) (line : Line) (wave gap : ℕ) (past : History) → command_in wave ≡ None → opens own (Heard line wave gap) past ≡ false
+opens-none own line wave gap past none = rw none refl
 
 -- ---- the words of a run
 
@@ -59,20 +67,20 @@ gap_at-same zero = refl
 gap_at-same (suc place) = refl
 
 words_of-append : (number : ℕ) (source : Source) (gap : ℕ) (vs ws : List ℕ)
-    → words_of_run number source gap vs ++ words_of_run number source (gap_at (length vs) gap) ws ≡ words_of_run number source gap (vs ++ ws)
+    → contiguous_run number source gap vs ++ contiguous_run number source (gap_at (length vs) gap) ws ≡ contiguous_run number source gap (vs ++ ws)
 words_of-append number source gap [] ws = refl
 words_of-append number source gap (v ∷ vs) ws =
     ap (λ xs. record { wave = v; gap = gap; run = number; source = source } ∷ xs)
-    (ap (λ g. words_of_run number source 20 vs ++ words_of_run number source g ws) (sym (gap_at-same (length vs))) ∙ words_of-append number source 20 vs ws)
+    (ap (λ g. contiguous_run number source 20 vs ++ contiguous_run number source g ws) (sym (gap_at-same (length vs))) ∙ words_of-append number source 20 vs ws)
 
 -- the commands of a run, and then its data words
 pub run-parts : (line : Line) (run : Run) (cs vs : List ℕ) (xs : List Station)
     → map (hearing_all line (run_words (run_from (length cs) run) (map data_wave vs))) (all_hearing line (run_words run (map command_wave cs)) xs) ≡ all_hearing line (run_words run (run_waves cs vs)) xs
 run-parts line run cs vs xs =
-    let first = words_of_run run.number run.source run.gap (map command_wave cs) in
-    let rest = words_of_run run.number run.source (gap_at (length cs) run.gap) (map data_wave vs) in
+    let first = contiguous_run run.number run.source run.gap (map command_wave cs) in
+    let rest = contiguous_run run.number run.source (gap_at (length cs) run.gap) (map data_wave vs) in
     sym (all_hearing-map line rest (all_hearing line first xs)) ∙ sym (all_hearing-append line first rest xs)
-    ∙ ap (λ n. all_hearing line (first ++ words_of_run run.number run.source (gap_at n run.gap) (map data_wave vs)) xs) (sym (length-map cs command_wave))
+    ∙ ap (λ n. all_hearing line (first ++ contiguous_run run.number run.source (gap_at n run.gap) (map data_wave vs)) xs) (sym (length-map cs command_wave))
     ∙ ap (λ ws. all_hearing line ws xs) (words_of-append run.number run.source run.gap (map command_wave cs) (map data_wave vs))
 
 -- a run of commands alone
@@ -87,17 +95,25 @@ hearing-missed line w s missed = rw missed refl
 hearing-other : (line : Line) (w : Sent) (s : Station) → misses line w.source s ≡ false → hearing line w s ≡ after s (Heard line w.wave w.gap)
 hearing-other line w s other = rw other refl
 
-missed_go : (line : Line) (number : ℕ) (source : Source) (gap : ℕ) (waves : List ℕ) (s : Station) → misses line source s ≡ true → hearing_all line (words_of_run number source gap waves) s ≡ s
+-- a word changes nothing of which words a station misses
+misses-on : (line : Line) (source : Source) (wave gap : ℕ) (s : Station) → misses line source (after s (Heard line wave gap)) ≡ misses line source s
+misses-on line source wave gap s = go (is_off s.history)
+  where
+    go : (b : Bool) → (sends source s.own || is_deaf line (if b then s.history else Heard line wave gap ∷ s.history)) ≡ misses line source s
+    go true = refl
+    go false = refl
+
+missed_go : (line : Line) (number : ℕ) (source : Source) (gap : ℕ) (waves : List ℕ) (s : Station) → misses line source s ≡ true → hearing_all line (contiguous_run number source gap waves) s ≡ s
 missed_go line number source gap [] s missed = refl
 missed_go line number source gap (w ∷ ws) s missed =
-    ap (hearing_all line (words_of_run number source 20 ws)) (hearing-missed line (record { wave = w; gap = gap; run = number; source = source }) s missed) ∙ missed_go line number source 20 ws s missed
+    ap (hearing_all line (contiguous_run number source 20 ws)) (hearing-missed line (record { wave = w; gap = gap; run = number; source = source }) s missed) ∙ missed_go line number source 20 ws s missed
 
 heard_go : (line : Line) (number : ℕ) (source : Source) (gap : ℕ) (waves : List ℕ) (s : Station) → misses line source s ≡ false
-    → hearing_all line (words_of_run number source gap waves) s ≡ after_all s (heard line gap waves)
+    → hearing_all line (contiguous_run number source gap waves) s ≡ after_all s (heard line gap waves)
 heard_go line number source gap [] s other = refl
 heard_go line number source gap (w ∷ ws) s other =
-    ap (hearing_all line (words_of_run number source 20 ws)) (hearing-other line (record { wave = w; gap = gap; run = number; source = source }) s other)
-    ∙ heard_go line number source 20 ws (after s (Heard line w gap)) other
+    ap (hearing_all line (contiguous_run number source 20 ws)) (hearing-other line (record { wave = w; gap = gap; run = number; source = source }) s other)
+    ∙ heard_go line number source 20 ws (after s (Heard line w gap)) (misses-on line source w gap s ∙ other)
 
 -- a station does not hear what it sends, nor anything on a line where it is deaf
 pub run-missed : (line : Line) (run : Run) (waves : List ℕ) (s : Station) → misses line run.source s ≡ true → s ≡ hearing_all line (run_words run waves) s

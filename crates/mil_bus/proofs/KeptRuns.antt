@@ -10,14 +10,14 @@ use Rattle.mil_terminal.proofs.Runs.{first_small, rest_small}
 use Rattle.mil_bus.specs.declared.talks.Source.{Source}
 use Rattle.mil_bus.specs.declared.talks.Sent.{Sent}
 use Rattle.mil_bus.specs.declared.wholes.Whole.{Whole}
-use Rattle.mil_bus.specs.RunWords.{words_of_run}
+use Rattle.mil_bus.specs.RunWords.{contiguous_run}
 use Rattle.mil_bus.specs.DataRuns.{gap_at}
 use Rattle.mil_bus.specs.Times.{lasting, end_from, is_last_or}
 use Rattle.mil_bus.specs.Wholes.{run_waves, value_waves, whole_words, all_words, words_in}
 
 -- ---- how many words there are
 
-pub words_of-length : (n : ℕ) (s : Source) (g : ℕ) (ws : List ℕ) → length (words_of_run n s g ws) ≡ length ws
+pub words_of-length : (n : ℕ) (s : Source) (g : ℕ) (ws : List ℕ) → length (contiguous_run n s g ws) ≡ length ws
 words_of-length n s g [] = refl
 words_of-length n s g (w ∷ ws) = omega (arith, words_of-length n s 20 ws)
 
@@ -89,7 +89,7 @@ gap_at-same zero = refl
 gap_at-same (suc place) = refl
 
 words_of-at : (n : ℕ) (s : Source) (g : ℕ) (ws : List ℕ) (k : ℕ) (d : Sent) (e : ℕ) → k < length ws
-    → get_or (words_of_run n s g ws) k d ≡ record { wave = get_or ws k e; gap = gap_at k g; run = n; source = s }
+    → get_or (contiguous_run n s g ws) k d ≡ record { wave = get_or ws k e; gap = gap_at k g; run = n; source = s }
 words_of-at n s g [] k d e lt = absurd (omega (arith, lt))
 words_of-at n s g (w ∷ ws) zero d e lt = refl
 words_of-at n s g (w ∷ ws) (suc k) d e lt =
@@ -122,7 +122,7 @@ word-at r vs k d v wave false lt value below above is =
 
 -- ---- when they end
 
-end-rest : (place tick n : ℕ) (s : Source) (ws : List ℕ) (more : List Sent) → end_from (suc place) tick (words_of_run n s 20 ws ++ more) ≡ end_from (suc place + length ws) (tick + 200 * length ws) more
+end-rest : (place tick n : ℕ) (s : Source) (ws : List ℕ) (more : List Sent) → end_from (suc place) tick (contiguous_run n s 20 ws ++ more) ≡ end_from (suc place + length ws) (tick + 200 * length ws) more
 end-rest place tick n s [] more =
     let p : suc place ≡ suc place + 0 = omega arith in
     let t : tick ≡ tick + 200 * 0 = omega arith in
@@ -133,7 +133,7 @@ end-rest place tick n s (w ∷ ws) more =
     end-rest (suc place) (tick + 200) n s ws more ∙ ap (λ k. end_from k (tick + 200 + 200 * length ws) more) p ∙ ap (λ k. end_from (suc place + length (w ∷ ws)) k more) t
 
 end-run : (place tick n : ℕ) (s : Source) (gap : ℕ) (ws : List ℕ) (more : List Sent) → 0 < length ws
-    → end_from place tick (words_of_run n s gap ws ++ more) ≡ end_from (place + length ws) (tick + (lasting place gap + 200 * (length ws - 1))) more
+    → end_from place tick (contiguous_run n s gap ws ++ more) ≡ end_from (place + length ws) (tick + (lasting place gap + 200 * (length ws - 1))) more
 end-run place tick n s gap [] more some = absurd (omega (arith, some))
 end-run place tick n s gap (w ∷ ws) more some =
     let p : suc place + length ws ≡ place + length (w ∷ ws) = omega arith in
@@ -150,11 +150,11 @@ end-whole place tick r vs more ticks long some is =
 
 -- ---- whose the last is
 
-last-run : (b : Bool) (n : ℕ) (s : Source) (g w : ℕ) (ws : List ℕ) (more : List Sent) → is_last_or b (words_of_run n s g (w ∷ ws) ++ more) ≡ is_last_or (n == 0) more
+last-run : (b : Bool) (n : ℕ) (s : Source) (g w : ℕ) (ws : List ℕ) (more : List Sent) → is_last_or b (contiguous_run n s g (w ∷ ws) ++ more) ≡ is_last_or (n == 0) more
 last-run b n s g w [] more = refl
 last-run b n s g w (v ∷ vs) more = last-run (n == 0) n s 20 v vs more
 
-last-some : (b : Bool) (n : ℕ) (s : Source) (g : ℕ) (ws : List ℕ) (more : List Sent) → 0 < length ws → is_last_or b (words_of_run n s g ws ++ more) ≡ is_last_or (n == 0) more
+last-some : (b : Bool) (n : ℕ) (s : Source) (g : ℕ) (ws : List ℕ) (more : List Sent) → 0 < length ws → is_last_or b (contiguous_run n s g ws ++ more) ≡ is_last_or (n == 0) more
 last-some b n s g [] more some = absurd (omega (arith, some))
 last-some b n s g (w ∷ ws) more some = last-run b n s g w ws more
 
@@ -164,14 +164,14 @@ last-whole b r vs more some =
 
 -- ---- what is recorded of them
 
-raw-data : (n : ℕ) (s : Source) (g : ℕ) (vs : List ℕ) → AreSmall vs → map (λ (w : Sent). raw_of w.wave) (words_of_run n s g (map data_wave vs)) ≡ vs
+raw-data : (n : ℕ) (s : Source) (g : ℕ) (vs : List ℕ) → AreSmall vs → map (λ (w : Sent). raw_of w.wave) (contiguous_run n s g (map data_wave vs)) ≡ vs
 raw-data n s g [] small = refl
 raw-data n s g (v ∷ vs) small =
     let first = raw_of-wave (record { sync = DataSync; value = v }) (first_small v vs small) in
     let rest = raw-data n s 20 vs (rest_small v vs small) in
     cc
 
-raw-run : (n : ℕ) (s : Source) (g c : ℕ) (vs : List ℕ) → AreSmall vs → map (λ (w : Sent). raw_of w.wave) (words_of_run n s g (run_waves (take c vs) (drop c vs))) ≡ vs
+raw-run : (n : ℕ) (s : Source) (g c : ℕ) (vs : List ℕ) → AreSmall vs → map (λ (w : Sent). raw_of w.wave) (contiguous_run n s g (run_waves (take c vs) (drop c vs))) ≡ vs
 raw-run n s g zero vs small = raw-data n s g vs small
 raw-run n s g (suc c) [] small = refl
 raw-run n s g (suc c) (v ∷ vs) small =
@@ -260,7 +260,7 @@ last-same last place next rs vs i r lt is left next_is none more all whole =
     ∙ ap (λ xs. is_last_or last ((xs ++ rest) ++ more)) (sym empty)
     ∙ ap (λ xs. is_last_or last (xs ++ more)) (sym (words-step rs vs i place r lt is)) ∙ whole
   where
-    none_of : (n : ℕ) (s : Source) (g c : ℕ) → words_of_run n s g (run_waves (take c []) (drop c [])) ≡ []
+    none_of : (n : ℕ) (s : Source) (g c : ℕ) → contiguous_run n s g (run_waves (take c []) (drop c [])) ≡ []
     none_of n s g zero = refl
     none_of n s g (suc c) = refl
 

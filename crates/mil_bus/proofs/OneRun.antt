@@ -3,12 +3,13 @@ use Rattle.std.proofs.Common.{◌≡◌, ◌≢◌, ℕ, ◌+◌, ◌-◌, List,
 use Rattle.mil_word.specs.declared.Line.{Line}
 use Rattle.mil_line.specs.declared.faults.Fault.{Fault}
 use Rattle.mil_line.specs.Faults.{altered, gap_of}
+use Rattle.mil_line.specs.declared.line_words.LineWord.{LineWord}
 use Rattle.mil_bus.specs.declared.talks.Sent.{Sent}
 use Rattle.mil_terminal.specs.Station.{Station}
 use Rattle.mil_bus.specs.Exchange.{Offer, Standing, words_of_run, run_sent, quieted, first_reply, quiet_after, next_offer, all_hearing, runs}
 use Rattle.mil_bus.specs.Said.{IsSaid}
 
-pub run_sent-some : (room : ℕ) (faults : List Fault) (run : ℕ) (o : Offer) (gap : ℕ) (ws : List ℕ) → ws ≡ take room (altered faults run o.waves) → gap ≡ gap_of faults run o.gap → run_sent room faults run o ≡ words_of_run run o.source gap ws
+pub run_sent-some : (room : ℕ) (faults : List Fault) (run : ℕ) (o : Offer) (gap : ℕ) (ws : List LineWord) → ws ≡ take room (altered faults run o.waves) → gap ≡ gap_of faults run o.gap → run_sent room faults run o ≡ words_of_run run o.source gap ws
 unfolding run_sent
 run_sent-some room faults run o gap ws e g = rw (g, e) refl
 

@@ -80,19 +80,25 @@ has_word_count_error form seen =
     not (seen.controllers == length (controller_words form))
     || is_miscounted (first_due (replies_due form)) seen.one || is_miscounted (second_due (replies_due form)) seen.two
 
+-- a word of the controller's run or of a due reply, but the first, that does not follow the one before at once
+-- (4.4.1.2)
+abbrev pub has_format_error : TalkCounts → Bool
+has_format_error seen = seen.paused
+
 -- any error
 abbrev pub has_error : Form → TalkCounts → Bool
 has_error form seen =
-    has_response_time_out form seen || has_word_count_error form seen || seen.other_sync || seen.unsound
+    has_response_time_out form seen || has_word_count_error form seen || has_format_error seen
+    || seen.other_sync || seen.unsound
     || has_other_address (first_due (replies_due form)) seen.one
     || has_other_address (second_due (replies_due form)) seen.two
     || seen.beyond
 
--- the bits of the errors, of the line and of the kind of message; a format error is never told
+-- the bits of the errors, of the line and of the kind of message
 abbrev pub block_of : Line → Form → TalkCounts → ℕ
 block_of line form seen =
     bit_if (is_line_b line) table.line_b + bit_if (has_error form seen) table.message_error
-    + bit_if (is_transfer form) table.terminal_to_terminal
+    + bit_if (is_transfer form) table.terminal_to_terminal + bit_if (has_format_error seen) table.format_error
     + bit_if (has_response_time_out form seen) table.response_timeout
     + bit_if (has_word_count_error form seen) table.word_count_error + bit_if seen.other_sync table.sync_type_error
     + bit_if seen.unsound table.invalid_word_error

@@ -6,6 +6,7 @@ use Rattle.std.specs.Option.{is_none}
 use Rattle.std.proofs.Common.{zero, suc}
 use Rattle.mil_word.specs.declared.Word.{Word}
 use Rattle.mil_word.specs.Wave.{word_of}
+use Rattle.mil_word.specs.Timing.{contiguous_gap}
 use Rattle.mil_word.specs.Words.{is_command_sync, same_bool}
 use Rattle.mil_message.specs.declared.forms.Form.{Form}
 use Rattle.mil_message.specs.Forms.{commands, replies_due}
@@ -40,6 +41,16 @@ is_any_other_sync commands due before (w ∷ ws) =
     differs (takes_command commands due w.run (length (run_of w.run before))) (word_of w.wave)
     || is_any_other_sync commands due (before ++ w ∷ []) ws
 
+-- whether a word behind the first of a run does not follow the one before at once
+abbrev pub is_broken : List Sent → Bool
+is_broken [] = false
+is_broken (w ∷ ws) = list_any (λ (v : Sent). not (v.gap == contiguous_gap)) ws
+
+-- whether the controller's run is broken so, or a due reply; a reply beyond those due does not count
+abbrev pub is_any_broken : ℕ → List Sent → Bool
+is_any_broken due sent = is_broken (run_of 0 sent)
+    || ((nat_lt 0 due && is_broken (run_of 1 sent)) || (nat_lt 1 due && is_broken (run_of 2 sent)))
+
 -- what is seen where so many commands are sent and so many replies are due
 unfoldable pub counts_of : ℕ → ℕ → List Sent → TalkCounts
 counts_of commands due sent = record {
@@ -49,6 +60,7 @@ counts_of commands due sent = record {
   beyond = list_any (λ w. nat_lt due w.run) sent;
   unsound = list_any (λ w. is_none (word_of w.wave)) sent;
   other_sync = is_any_other_sync commands due [] sent;
+  paused = is_any_broken due sent;
 }
 
 -- what is seen of the talk of a message

@@ -6,7 +6,7 @@ use Rattle.mil_word.specs.Timing.{contiguous_gap}
 use Rattle.mil_terminal.specs.Station.{Station}
 use Rattle.mil_bus.specs.declared.talks.Sent.{Sent}
 use Rattle.mil_bus.specs.declared.talk_runs.Run.{Run}
-use Rattle.mil_bus.specs.Exchange.{hearing, words_of_run}
+use Rattle.mil_bus.specs.Exchange.{hearing, contiguous_run}
 pub use Rattle.mil_terminal.specs.Runs.{AreNoCommands}
 
 -- words, each heard by one station
@@ -14,9 +14,9 @@ abbrev pub hearing_all : Line → List Sent → Station → Station
 hearing_all line [] s = s
 hearing_all line (w ∷ ws) s = hearing_all line ws (hearing line w s)
 
--- the words of a run with these waves
+-- the words of a run with these waves, which follow one another at once
 abbrev pub run_words : Run → List ℕ → List Sent
-run_words run waves = words_of_run run.number run.source run.gap waves
+run_words run waves = contiguous_run run.number run.source run.gap waves
 
 -- the gap of a word of a run, by its place
 abbrev pub gap_at : ℕ → ℕ → ℕ

@@ -22,7 +22,7 @@ use Rattle.mil_terminal.specs.declared.replies.Reply.{Reply}
 use Rattle.mil_terminal.specs.Station.{Station, after}
 use Rattle.mil_terminal.specs.Replies.{reply}
 use Rattle.mil_terminal.specs.Host.{is_deaf, is_mute}
-pub use Rattle.mil_bus.specs.RunWords.{words_of_run}
+pub use Rattle.mil_bus.specs.RunWords.{words_of_run, contiguous_run}
 pub use Rattle.mil_line.specs.Ranges.{most_sent}
 
 -- what a sender gives: a gap, and the waves of its words

@@ -3,6 +3,7 @@ use Rattle.std.specs.Prelude.{ℕ, ◌+◌, ◌<◌, ◌==◌, ◌≡◌, nat_lt
 use Rattle.std.specs.Prelude.{get_or, Option, Some, None}
 use Rattle.mil_word.specs.declared.Word.{Word}
 use Rattle.mil_word.specs.Wave.{word_of}
+use Rattle.mil_word.specs.Timing.{contiguous_gap}
 use Rattle.mil_word.specs.Words.{is_command_sync}
 use Rattle.mil_bus.specs.declared.talks.Sent.{Sent}
 use Rattle.mil_bus.specs.declared.counts.Came.{Came}
@@ -14,10 +15,10 @@ abbrev pub is_data : Option Word → Bool
 is_data None = false
 is_data (Some word) = not (is_command_sync word.sync)
 
--- the first words, so many of them, are sound data words of a run
+-- the first words, so many of them, are sound data words of a run, each of which follows the one before at once
 abbrev pub AreLike : ℕ → ℕ → List Sent → Type 0
 AreLike run count words = (k : ℕ) (d : Sent) → k < count → ((get_or words k d).run ≡ run)
-    × (is_data (word_of (get_or words k d).wave) ≡ true)
+    × (is_data (word_of (get_or words k d).wave) ≡ true) × ((get_or words k d).gap ≡ contiguous_gap)
 
 -- a reply with so many words more
 abbrev pub longer : Option Came → ℕ → Option Came
@@ -41,4 +42,5 @@ lengthened s run more = record {
   beyond = s.beyond;
   unsound = s.unsound;
   other_sync = s.other_sync;
+  paused = s.paused;
 }

@@ -5,7 +5,7 @@ use Rattle.mil_word.specs.Words.{command_wave, data_wave}
 use Rattle.mil_terminal.specs.Runs.{AreSmall}
 use Rattle.mil_bus.specs.declared.talks.Sent.{Sent}
 use Rattle.mil_bus.specs.declared.wholes.Whole.{Whole}
-use Rattle.mil_bus.specs.RunWords.{words_of_run}
+use Rattle.mil_bus.specs.RunWords.{contiguous_run}
 
 -- the waves of commands or a status word, and then of data words
 abbrev pub run_waves : List ℕ → List ℕ → List ℕ
@@ -17,7 +17,7 @@ value_waves commands values = run_waves (take commands values) (drop commands va
 
 -- the words of such a run with these values
 abbrev pub whole_words : Whole → List ℕ → List Sent
-whole_words r values = words_of_run r.number r.source r.gap (value_waves r.commands values)
+whole_words r values = contiguous_run r.number r.source r.gap (value_waves r.commands values)
 
 -- the words of such runs, which have these values one after the other
 abbrev pub all_words : List Whole → List ℕ → List Sent

@@ -218,6 +218,7 @@ impl Bus {
         ensures later { now_of self.old ≤ now_of self.new }
     {
         let mut talk = Talk::none();
+        // The talk says all that the answer does.
         let _ = self.exchange_into(line, message, gap, faults, &mut talk, seen);
         talk
     }

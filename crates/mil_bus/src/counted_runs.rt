@@ -53,6 +53,7 @@ fn note_run(
     requires seen { seen.old ≡ counts_of commands due (take from (all_words runs.now values.now)) }
     ensures { seen.new ≡ counts_of commands due (take (from + length own.now) (all_words runs.now values.now)) }
 {
+    // Named for the proofs alone.
     let _ = from;
     let _ = runs;
     let _ = values;

@@ -1,7 +1,7 @@
 //! What one pass over the words of a talk counts.
 ghost use Rattle.mil_bus.specs.Counts.{counts_of, takes_command, differs};
 ghost use Rattle.mil_bus.specs.Lengthened.{is_data, AreLike, longer, goes_on, lengthened};
-ghost use Rattle.mil_bus.specs.Pass.{noted, one_more, words_in, place_in};
+ghost use Rattle.mil_bus.specs.Pass.{noted, one_more, words_in, place_in, breaks};
 ghost use Rattle.mil_line.specs.Ranges.{most_sent};
 ghost use Rattle.mil_word.specs.Words.{is_command_sync};
 ghost use Rattle.std.specs.Prelude.{◌≡◌, ℕ, ◌+◌, ◌<◌, ◌≤◌, [], length};
@@ -36,6 +36,9 @@ pub struct TalkCounts {
     pub unsound: bool,
     /// Whether a sound word had the wrong sync for its place.
     pub other_sync: bool,
+    /// Whether a word of the controller or of a due reply, but the first of its run, did not follow the one before at
+    /// once.
+    pub paused: bool,
 }
 
 /// Whether a place takes command sync.
@@ -143,6 +146,7 @@ impl TalkCounts {
             beyond: false,
             unsound: false,
             other_sync: false,
+            paused: false,
         }
     }
 
@@ -157,6 +161,13 @@ impl TalkCounts {
         } else {
             words_in(self.two)
         }
+    }
+
+    /// Whether a pause stands before the next word of a run, which has one before it, and counts.
+    fn breaks(&self, due: u8, sent: &Sent) -> bool
+        ensures { result ≡ breaks due self.now sent.now }
+    {
+        !sent.gap.is_contiguous() && (!(due < sent.run) && 0 < self.place(sent.run))
     }
 
     /// Whether a further data word of a run is in its place.
@@ -199,6 +210,7 @@ impl TalkCounts {
     {
         let word = decode(sent.wave);
         self.unsound = self.unsound || word.is_none();
+        self.paused = self.paused || self.breaks(due, sent);
         if sent.run == 0 {
             self.other_sync = self.other_sync || differs(self.controllers < commands, word);
             self.controllers += 1;
@@ -218,14 +230,14 @@ impl TalkCounts {
     }
 }
 
-/// How many words at the beginning of these are sound data words of a run.
+/// How many words at the beginning of these are sound data words of a run that follow the one before at once.
 #[inline(never)]
 fn count_like(run: u8, words: &[Sent]) -> usize
     ensures within { result ≤ length words.now }
     ensures like { AreLike run result words.now }
 {
     for i in 0..words.len() {
-        if words[i].run != run || !is_data(decode(words[i].wave)) {
+        if words[i].run != run || !words[i].gap.is_contiguous() || !is_data(decode(words[i].wave)) {
             return i;
         }
     }

@@ -58,7 +58,7 @@ pub fn misses(terminal: &Terminal, line: Line, source: Source) -> bool
 /// A word that does not concern a terminal comes to it: its history alone grows, which costs nothing.
 #[inline]
 pub fn pass(terminal: &mut Terminal, line: Line, sent: &Sent)
-    requires other { opens terminal.old.own (Heard line sent.now.wave sent.now.gap) ≡ false }
+    requires other { opens terminal.old.own (Heard line sent.now.wave sent.now.gap) terminal.old.history ≡ false }
     requires closed { IsClosed terminal.old }
     ensures after { terminal.new ≡ hearing line sent.now terminal.old }
     ensures closed { IsClosed terminal.new }
@@ -91,7 +91,7 @@ impl<'a> Coming for HeardWord<'a> {
 
     ghost answers = { λ h s. None };
 
-    ghost passes = { λ h s. opens s.own (event.Heard h.line h.sent.now.wave h.sent.now.gap) ≡ false };
+    ghost passes = { λ h s. opens s.own (event.Heard h.line h.sent.now.wave h.sent.now.gap) s.history ≡ false };
 
     #[inline]
     fn pass(&self, terminal: &mut Terminal) {

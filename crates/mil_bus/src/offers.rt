@@ -30,6 +30,7 @@ impl Offered {
         self.gap = reply.gap;
         self.values.commands = 1;
         self.values.words = ArrayVec::new();
+        // There is room for all of them.
         let _ = self
             .values
             .words

@@ -2,7 +2,7 @@
 ghost use Rattle.mil_bus.specs.BlockStatus.{first_due, second_due, is_late, is_excuse, is_miscounted};
 ghost use Rattle.mil_bus.specs.BlockStatus.{is_from_other, has_other_address, status_bits, came_bits, bit_if};
 ghost use Rattle.mil_bus.specs.BlockStatus.{is_line_b, is_transfer, has_response_time_out, has_word_count_error};
-ghost use Rattle.mil_bus.specs.BlockStatus.{has_error, block_of, outcome_of};
+ghost use Rattle.mil_bus.specs.BlockStatus.{has_format_error, has_error, block_of, outcome_of};
 ghost use Rattle.mil_bus.specs.Counts.{seen_of};
 ghost use Rattle.mil_message.specs.Forms.{controller_words, replies_due};
 ghost use Rattle.std.specs.Prelude.{◌≡◌, ◌≤◌, length};
@@ -130,7 +130,8 @@ fn came_bits(due: Option<Due>, came: Option<Came>) -> u16
 
 /// A bit of the block status word, where it is on.
 fn bit_if(on: bool, bit: BlockBits) -> u16
-    ensures { result ≡ bit_if on bit.0 }
+    ensures value { result ≡ bit_if on bit.0 }
+    ensures small { result ≤ bit.0 }
 {
     if on { bit.0 } else { 0 }
 }
@@ -193,6 +194,7 @@ fn judged(message: &Message, due: DueReplies, seen: &TalkCounts) -> Errors
         || is_miscounted(due.second, seen.two);
     let any = late
         || miscounted
+        || seen.paused
         || seen.other_sync
         || seen.unsound
         || has_other_address(due.first, seen.one)
@@ -215,6 +217,7 @@ fn block_with(talk: &Talk, errors: Errors, seen: &TalkCounts) -> u16
     bit_if(is_line_b(talk.line), BlockBits::LINE_B)
         + bit_if(errors.any, BlockBits::MESSAGE_ERROR)
         + bit_if(is_transfer(&talk.message), BlockBits::TERMINAL_TO_TERMINAL)
+        + bit_if(seen.paused, BlockBits::FORMAT_ERROR)
         + bit_if(errors.late, BlockBits::RESPONSE_TIMEOUT)
         + bit_if(errors.miscounted, BlockBits::WORD_COUNT_ERROR)
         + bit_if(seen.other_sync, BlockBits::SYNC_TYPE_ERROR)
@@ -230,6 +233,7 @@ fn outcome_with(talk: &Talk, due: DueReplies, errors: Errors, seen: &TalkCounts)
     requires seen { seen.now ≡ seen_of talk.now.message talk.now.sent.items }
     ensures { result ≡ outcome_of talk.now.message talk.now.sent.items }
 {
+    // Named for the proofs alone.
     let _ = talk;
     Outcome {
         failed: errors.any,

@@ -1,11 +1,11 @@
 //! The runs of an exchange: words and quiets, told to all terminals.
 ghost use Rattle.mil_bus.specs.Exchange.{words_of_run, runs, most_runs};
 ghost use Rattle.mil_bus.specs.Offers.{offered, offer_in, given};
+ghost use Rattle.mil_bus.specs.RunWords.{later_words};
 ghost use Rattle.mil_bus.specs.Said.{IsSaid};
 ghost use Rattle.mil_bus.specs.Wholes.{value_waves};
 ghost use Rattle.mil_line.specs.Faults.{altered};
 ghost use Rattle.mil_line.specs.Ranges.{is_in_range, most_sent};
-ghost use Rattle.mil_word.specs.Timing.{contiguous_gap};
 ghost use Rattle.mil_word.specs.Words.{command_wave};
 ghost use Rattle.std.specs.List.{list_all};
 ghost use Rattle.std.specs.Prelude.{◌≡◌, ℕ, ◌+◌, ◌≤◌, true, [], ◌∷◌, ◌++◌, length, take, Some};
@@ -13,51 +13,46 @@ ghost use Rattle.std.specs.Prelude.{◌≡◌, ℕ, ◌+◌, ◌≤◌, true, []
 use crate::offers::Offered;
 use crate::talk_runs::Run;
 use crate::terminals::Terminals;
-use crate::{Sent, SentWords, Source};
+use crate::{Sent, SentWords};
 use arrayvec::ArrayVec;
-use mil_line::{Fault, Gap, MOST_SENT, altered, late_gap};
+use mil_line::{Fault, LineWord, MOST_SENT, altered, reply_gap};
 use mil_message::{Values, Waves};
-use mil_word::{Line, Sync, Wave, Word};
+use mil_word::{Line, Sync, Word};
 
 /// As many runs are enough, since each but the last puts a word on the line.
 const MOST_RUNS: u8 = MOST_SENT as u8;
 
-/// Puts words behind those sent, each like this one but for its wave.
-#[inline(never)]
-fn send_like(sent: &mut ArrayVec<Sent, MOST_SENT>, word: &Sent, waves: &[Wave])
-    requires room { length sent.old.items + length waves.now ≤ most_sent }
-    requires contiguous { word.now.gap ≡ contiguous_gap }
-    ensures { sent.new.items ≡ sent.old.items ++ words_of_run word.now.run word.now.source contiguous_gap waves.now }
+/// Puts words of a run behind others, each with its own gap.
+fn put_later(sent: &mut ArrayVec<Sent, MOST_SENT>, run: &Run, words: &[LineWord])
+    requires { length sent.old.items + length words.now ≤ most_sent }
+    ensures { sent.new.items ≡ sent.old.items ++ later_words run.now.number run.now.source words.now }
 {
-    for wave in waves {
-        let mut next = *word;
-        next.wave = *wave;
-        sent.push(next);
+    for word in words {
+        sent.push(Sent {
+            wave: word.wave,
+            gap: word.gap,
+            run: run.number,
+            source: run.source,
+        });
     }
 }
 
-/// Puts the words of a run behind those sent.
-pub fn send(sent: &mut ArrayVec<Sent, MOST_SENT>, run: u8, source: Source, gap: Gap, waves: &[Wave])
-    requires { length sent.old.items + length waves.now ≤ most_sent }
-    ensures { sent.new.items ≡ sent.old.items ++ words_of_run run source gap waves.now }
+/// The words of a run: the first has the run's gap, each other its own.
+fn words_of_run(run: &Run, words: &[LineWord]) -> ArrayVec<Sent, MOST_SENT>
+    requires { length words.now ≤ most_sent }
+    ensures { result.items ≡ words_of_run run.now.number run.now.source run.now.gap words.now }
 {
-    let Some((first, others)) = waves.split_first() else {
-        return;
-    };
-    let wave = *first;
-    sent.push(Sent {
-        wave,
-        gap,
-        run,
-        source,
-    });
-    let word = Sent {
-        wave,
-        gap: Gap::contiguous(),
-        run,
-        source,
-    };
-    send_like(sent, &word, others);
+    let mut sent = ArrayVec::new();
+    if let Some((first, others)) = words.split_first() {
+        sent.push(Sent {
+            wave: first.wave,
+            gap: run.gap,
+            run: run.number,
+            source: run.source,
+        });
+        put_later(&mut sent, run, others);
+    }
+    sent
 }
 
 /// Puts the wave of a command or a status word behind others.
@@ -76,6 +71,7 @@ fn waves_of(values: &Values) -> Waves
     ensures { result ≡ value_waves values.now.commands values.now.words.items }
 {
     let count = values.words.len();
+    // Named for the proofs alone.
     let _ = count;
     let mut waves = Waves::none();
     let (commands, data) = values.parts();
@@ -88,13 +84,14 @@ fn waves_of(values: &Values) -> Waves
 
 /// What the planned faults make of the words of a run, as far as there is room for so many.
 #[inline(never)]
-fn altered_waves(
+fn altered_words(
     faults: &[Fault],
     run: u8,
     values: &Values,
     room: usize,
-) -> ArrayVec<Wave, MOST_SENT>
-    requires { room ≤ most_sent }
+) -> ArrayVec<LineWord, MOST_SENT>
+    requires room { room ≤ most_sent }
+    requires in_range { list_all is_in_range faults.now ≡ true }
     ensures { result.items
         ≡ take room (altered faults.now run (value_waves values.now.commands values.now.words.items)) }
 {
@@ -119,14 +116,15 @@ fn say_altered(
         (record { sent = sent.new.items; stations = terminals.new }) }
 {
     let room = MOST_SENT - sent.len();
-    let late = Run {
+    let altered = Run {
         number: run.number,
         source: run.source,
-        gap: late_gap(faults, u32::from(run.number), run.gap),
+        gap: reply_gap(faults, u32::from(run.number), run.gap),
     };
-    let waves = altered_waves(faults, run.number, values, room);
-    sent.put_each(&late, waves.as_slice());
-    terminals.hear_each(line, &late, waves.as_slice());
+    let given = altered_words(faults, run.number, values, room);
+    let words = words_of_run(&altered, given.as_slice());
+    sent.put_each(words.as_slice());
+    terminals.hear_each(line, words.as_slice());
 }
 
 /// What comes on the line of a run, as far as there is room for it among the words sent, comes to all terminals.

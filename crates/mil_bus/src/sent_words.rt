@@ -11,7 +11,6 @@ ghost use Rattle.std.specs.Prelude.{◌≡◌, ℕ, ◌+◌, ◌*◌, ◌<◌, �
 use crate::Sent;
 use crate::counted_runs::counted_runs;
 use crate::counts::{TalkCounts, counted};
-use crate::runs::send;
 use crate::talk_runs::Run;
 use crate::talks::lasting;
 use crate::wholes::Whole;
@@ -19,8 +18,8 @@ use arrayvec::ArrayVec;
 use mil_line::MOST_SENT;
 use mil_message::Values;
 use mil_terminal::are_small;
+use mil_word::raw_bits;
 use mil_word::timing::WORD_TIME;
-use mil_word::{Wave, raw_bits};
 use std::marker::Model;
 
 /// How long a word lasts, in ticks.
@@ -104,6 +103,7 @@ fn end_of_runs(runs: &[Whole], values: &[u16], start: u64) -> u64
     ensures soon { result ≤ start + length values.now * 2 ^ 17 }
     ensures after { start ≤ result }
 {
+    // Named for the proofs alone.
     let _ = values;
     let mut tick = start;
     let mut from = 0;
@@ -146,6 +146,7 @@ fn is_controllers_run(runs: &[Whole], values: &[u16]) -> bool
         }
         from = end;
     }
+    // Named for the proofs alone.
     let _ = values;
     last
 }
@@ -218,6 +219,7 @@ impl SentWords {
         ensures { result ≡ self.now }
     {
         let mut words = words_of(self.runs.as_slice(), self.values.as_slice());
+        // There is room for all of them.
         let _ = words.try_extend_from_slice(self.each.as_slice());
         words
     }
@@ -244,16 +246,18 @@ impl SentWords {
             commands: values.commands,
             count: words.len() as u8,
         });
+        // There is room for all of them.
         let _ = self.values.try_extend_from_slice(words);
         true
     }
 
-    /// Puts the words of a run behind the others, by their waves.
-    pub(crate) fn put_each(&mut self, run: &Run, waves: &[Wave])
-        requires { length self.old.items + length waves.now ≤ most_sent }
-        ensures { self.new.items ≡ self.old.items ++ run_words run.now waves.now }
+    /// Puts words behind the others, one by one.
+    pub(crate) fn put_each(&mut self, words: &[Sent])
+        requires { length self.old.items + length words.now ≤ most_sent }
+        ensures { self.new.items ≡ self.old.items ++ words.now }
     {
-        send(&mut self.each, run.number, run.source, run.gap, waves);
+        // There is room for all of them.
+        let _ = self.each.try_extend_from_slice(words);
     }
 
     /// When the last word ended, where the first started, or would have, at a tick.
@@ -305,6 +309,7 @@ impl SentWords {
             return self.raw_each();
         }
         let mut words = ArrayVec::new();
+        // There is room for all of them.
         let _ = words.try_extend_from_slice(self.values.as_slice());
         words
     }

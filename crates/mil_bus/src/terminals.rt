@@ -25,7 +25,7 @@ use mil_line::Gap;
 use mil_message::Values;
 use mil_terminal::Terminal;
 use mil_word::fields::FIELD_VALUES;
-use mil_word::{Line, Wave, Word, decode};
+use mil_word::{Line, Word, decode};
 use std::alloc::{AllocError, Global};
 use std::marker::Model;
 
@@ -87,20 +87,12 @@ impl Terminals {
         self.opened = tell_all(&mut self.list, mask, &heard, &mut ());
     }
 
-    /// The words of a run come to all terminals, one after the other.
-    pub fn hear_each(&mut self, line: Line, run: &Run, waves: &[Wave])
-        ensures { self.new ≡ all_hearing line (run_words run.now waves.now) self.old }
+    /// Words come to all terminals, one after the other.
+    pub fn hear_each(&mut self, line: Line, words: &[Sent])
+        ensures { self.new ≡ all_hearing line words.now self.old }
     {
-        let mut gap = run.gap;
-        for wave in waves {
-            let word = Sent {
-                wave: *wave,
-                gap,
-                run: run.number,
-                source: run.source,
-            };
-            self.hear(line, &word);
-            gap = Gap::contiguous();
+        for word in words {
+            self.hear(line, word);
         }
     }
 

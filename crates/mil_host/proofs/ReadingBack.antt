@@ -1,5 +1,5 @@
 -- A printed action reads back.
-use Rattle.std.proofs.Common.{◌≡◌, ℕ, zero, suc, ◌≤◌, ◌<◌, List, Bool, true, false, [], ◌∷◌, drop, length, refl, sym, ap, ◌∙◌, arith, All}
+use Rattle.std.proofs.Common.{◌≡◌, ℕ, zero, suc, ◌≤◌, ◌<◌, zero-le, List, Bool, true, false, [], ◌∷◌, drop, length, refl, sym, ap, ◌∙◌, arith, All}
 use Rattle.std.specs.Prelude.{Ok, Some, slice_get, codes, decimal, map, nat_lt, nat_le, ◌&&◌}
 use Rattle.std.specs.List.{list_all}
 use Rattle.std.specs.Char.{digit_value}
@@ -11,14 +11,15 @@ use Rattle.std.proofs.lemmas.List.Elements.{All-tail}
 use Rattle.numerals.proofs.Back.{decimal_back, four_back}
 use Rattle.mil_word.specs.declared.Line.{Line}
 use Rattle.mil_word.specs.declared.Line.TheVariants.{A, B}
-use Rattle.mil_host.specs.Values.{PutUp, Marked}
+use Rattle.mil_host.specs.Values.{PutUp, Marked, ModeMarked, Ramped}
 use Rattle.text_lines.specs.Words.{Text, has_bytes}
-use Rattle.mil_host.specs.Reading.{action_in, in_words, of_word, name_of, number_of, data_of, value_or_fault, all_data, only_switch, only_line_switch, only_mark}
+use Rattle.mil_host.specs.Reading.{action_in, in_words, of_word, name_of, number_of, data_of, value_or_fault, all_data, only_switch, only_line_switch, only_ramp, mark_in}
 use Rattle.mil_word.specs.Printing.{line_text}
-use Rattle.mil_host.specs.Printing.{action_text, action_words, data_text, switch_text, direction_text, mark_words}
-use Rattle.mil_host.specs.Ranges.{IsInRange, IsPutUp, IsMark}
+use Rattle.mil_host.specs.Printing.{action_text, action_words, data_text, switch_text, direction_text, mark_words, mode_mark_words, ramp_words}
+use Rattle.mil_host.specs.Ranges.{IsInRange, IsPutUp, IsMark, IsRamp}
 use Rattle.mil_host.specs.declared.actions.Action.{Action}
 use Rattle.mil_host.specs.declared.actions.Action.TheVariants.{Transmit, Busy, Service, Subsystem, Fault, Control, Vector, SelfTest, Illegal, Legal, Response, Deaf, Mute}
+use Rattle.mil_host.specs.declared.actions.Action.TheVariants.{IllegalMode, LegalMode, Broadcast, Power, BitWord, ServiceOnce, Gap, Ramp}
 use Rattle.mil_host.proofs.Spacing.{AreVisible, IsWord, AreWords, words-spaced, one_line-spaced}
 
 -- the first word of a text names the action
@@ -106,9 +107,9 @@ direction_word : (transmit : Bool) → IsWord (direction_text transmit)
 direction_word true = record { some = refl; visible = (refl, (refl, (refl, (refl, (refl, (refl, (refl, (refl, tt)))))))) }
 direction_word false = record { some = refl; visible = (refl, (refl, (refl, (refl, (refl, (refl, (refl, tt))))))) }
 
--- the words of a mark
-mark_back : (mark : Marked) → IsMark mark → only_mark (mark_words mark) ≡ Ok mark
-mark_back mark range = go mark.transmit
+-- the words of a mark of a subaddress
+mark_back : (at_sub : Marked → Action) (of_mode : ModeMarked → Action) (mark : Marked) → IsMark mark → mark_in at_sub of_mode (mark_words mark) ≡ Ok (at_sub mark)
+mark_back at_sub of_mode mark range = go mark.transmit
   where
     sub : IsNumber 1 30 mark.sub
     sub = number 1 30 mark.sub range.sub_low range.sub_high (omega arith)
@@ -116,9 +117,39 @@ mark_back mark range = go mark.transmit
     count : IsNumber 1 32 mark.count
     count = number 1 32 mark.count range.count_low range.count_high (omega arith)
 
-    go : (transmit : Bool) → only_mark (mark_words (record { transmit = transmit; sub = mark.sub; count = mark.count })) ≡ Ok (record { transmit = transmit; sub = mark.sub; count = mark.count })
+    go : (transmit : Bool) → mark_in at_sub of_mode (mark_words (record { transmit = transmit; sub = mark.sub; count = mark.count })) ≡ Ok (at_sub (record { transmit = transmit; sub = mark.sub; count = mark.count }))
     go true = rw (sub.reads, count.reads) refl
     go false = rw (sub.reads, count.reads) refl
+
+-- the words of a mark of mode commands
+mode_mark_back : (at_sub : Marked → Action) (of_mode : ModeMarked → Action) (mark : ModeMarked) → mark.code ≤ 31 → mark_in at_sub of_mode (mode_mark_words mark) ≡ Ok (of_mode mark)
+mode_mark_back at_sub of_mode mark range = go mark.transmit
+  where
+    code : IsNumber 0 31 mark.code
+    code = number 0 31 mark.code zero-le range (omega arith)
+
+    go : (transmit : Bool) → mark_in at_sub of_mode (mode_mark_words (record { transmit = transmit; code = mark.code })) ≡ Ok (of_mode (record { transmit = transmit; code = mark.code }))
+    go true = rw code.reads refl
+    go false = rw code.reads refl
+
+-- the words of a ramp
+ramp_back : (r : Ramped) → IsRamp r → only_ramp (ramp_words r) ≡ Ok r
+ramp_back r range =
+    rw (
+      (number 1 29 r.sub range.sub_low range.sub_high (omega arith)).reads,
+      (number 1 32 r.index range.index_low range.index_high (omega arith)).reads,
+      (data_word r.start range.start_16_bits).reads,
+      (data_word r.add range.add_16_bits).reads,
+    ) refl
+
+are_ramp_words : (r : Ramped) → IsRamp r → AreWords (ramp_words r)
+are_ramp_words r range = (
+  (number 1 29 r.sub range.sub_low range.sub_high (omega arith)).is,
+  (
+    (number 1 32 r.index range.index_low range.index_high (omega arith)).is,
+    ((data_word r.start range.start_16_bits).is, ((data_word r.add range.add_16_bits).is, tt)),
+  ),
+)
 
 are_mark_words : (mark : Marked) → IsMark mark → AreWords (mark_words mark)
 are_mark_words mark range =
@@ -137,6 +168,10 @@ visible (b ∷ word) each = go (nat_lt 32 b) refl each (visible word)
 pub named : (name : Text) → has_bytes name ≡ true → list_all (λ b. nat_lt 32 b) name ≡ true → IsWord name
 named name some each = record { some = some; visible = visible name each }
 
+are_mode_mark_words : (mark : ModeMarked) → mark.code ≤ 31 → AreWords (mode_mark_words mark)
+are_mode_mark_words mark range =
+    (named (codes "mode") refl refl, (direction_word mark.transmit, ((number 0 31 mark.code zero-le range (omega arith)).is, tt)))
+
 are_words : (a : Action) → IsInRange a → AreWords (action_words a)
 are_words (Transmit put) range =
     (named (codes "transmit") refl refl, ((number 1 29 put.sub range.sub_low range.sub_high (omega arith)).is, data_words put.words range.of_16_bits))
@@ -152,6 +187,14 @@ are_words (Legal mark) range = (named (codes "legal") refl refl, are_mark_words 
 are_words (Response ticks) range = (named (codes "response") refl refl, ((number 40 120 ticks range.0 range.1 (omega arith)).is, tt))
 are_words (Deaf line on) range = (named (codes "deaf") refl refl, (line_word line, (switch_word on, tt)))
 are_words (Mute line on) range = (named (codes "mute") refl refl, (line_word line, (switch_word on, tt)))
+are_words (IllegalMode mark) range = (named (codes "illegal") refl refl, are_mode_mark_words mark range)
+are_words (LegalMode mark) range = (named (codes "legal") refl refl, are_mode_mark_words mark range)
+are_words (Broadcast on) range = (named (codes "broadcast") refl refl, (switch_word on, tt))
+are_words (Power on) range = (named (codes "power") refl refl, (switch_word on, tt))
+are_words (BitWord value) range = (named (codes "bit") refl refl, ((data_word value range).is, tt))
+are_words ServiceOnce range = (named (codes "service") refl refl, (named (codes "once") refl refl, tt))
+are_words (Gap ticks) range = (named (codes "gap") refl refl, ((number 21 255 ticks range.0 range.1 (omega arith)).is, tt))
+are_words (Ramp r) range = (named (codes "ramp") refl refl, are_ramp_words r range)
 
 switch_back : (on : Bool) → only_switch (switch_text on ∷ []) ≡ Ok on
 switch_back true = refl
@@ -166,17 +209,26 @@ line_switch_back B false = refl
 words_back : (a : Action) → IsInRange a → in_words (action_words a) ≡ Ok a
 words_back (Transmit put) range = put_up_back put range
 words_back (Busy on) range = rw (switch_back on) refl
-words_back (Service on) range = rw (switch_back on) refl
+words_back (Service true) range = refl
+words_back (Service false) range = refl
 words_back (Subsystem on) range = rw (switch_back on) refl
 words_back (Fault on) range = rw (switch_back on) refl
 words_back (Control on) range = rw (switch_back on) refl
 words_back (Vector value) range = rw (data_word value range).reads refl
 words_back (SelfTest value) range = rw (data_word value range).reads refl
-words_back (Illegal mark) range = rw (mark_back mark range) refl
-words_back (Legal mark) range = rw (mark_back mark range) refl
+words_back (Illegal mark) range = mark_back Illegal IllegalMode mark range
+words_back (Legal mark) range = mark_back Legal LegalMode mark range
 words_back (Response ticks) range = rw (number 40 120 ticks range.0 range.1 (omega arith)).reads refl
 words_back (Deaf line on) range = rw (line_switch_back line on) refl
 words_back (Mute line on) range = rw (line_switch_back line on) refl
+words_back (IllegalMode mark) range = mode_mark_back Illegal IllegalMode mark range
+words_back (LegalMode mark) range = mode_mark_back Legal LegalMode mark range
+words_back (Broadcast on) range = rw (switch_back on) refl
+words_back (Power on) range = rw (switch_back on) refl
+words_back (BitWord value) range = rw (data_word value range).reads refl
+words_back ServiceOnce range = refl
+words_back (Gap ticks) range = rw (number 21 255 ticks range.0 range.1 (omega arith)).reads refl
+words_back (Ramp r) range = rw (ramp_back r range) refl
 
 -- the text of an action in range spells it
 pub reads-back : (a : Action) → IsInRange a → action_in (action_text a) ≡ Ok a

@@ -4,13 +4,15 @@ use Rattle.std.specs.Prelude.{ℕ, Bool, true, false, ◌/◌, ◌%◌, List, []
 use Rattle.std.specs.List.{flat_map}
 use Rattle.numerals.specs.Numerals.{byte_text}
 use Rattle.mil_word.specs.Printing.{line_text}
-use Rattle.mil_host.specs.Values.{Marked}
+use Rattle.mil_host.specs.Values.{Marked, ModeMarked, Ramped}
 use Rattle.text_lines.specs.Words.{Text}
 use Rattle.mil_host.specs.declared.reading.BadAction.{BadAction}
 use Rattle.mil_host.specs.declared.reading.BadAction.TheVariants.{Word, Number, Range}
 use Rattle.mil_host.specs.declared.actions.Action.{Action}
 use Rattle.mil_host.specs.declared.actions.Action.TheVariants.{Transmit, Busy, Service, Subsystem, Fault, Control}
 use Rattle.mil_host.specs.declared.actions.Action.TheVariants.{Vector, SelfTest, Illegal, Legal, Response, Deaf, Mute}
+use Rattle.mil_host.specs.declared.actions.Action.TheVariants.{IllegalMode, LegalMode, Broadcast, Power, BitWord}
+use Rattle.mil_host.specs.declared.actions.Action.TheVariants.{ServiceOnce, Gap, Ramp}
 
 -- a data word
 abbrev pub data_text : ℕ → Text
@@ -27,6 +29,12 @@ direction_text false = codes "receive"
 abbrev pub mark_words : Marked → List Text
 mark_words m = direction_text m.transmit ∷ decimal m.sub ∷ decimal m.count ∷ []
 
+abbrev pub mode_mark_words : ModeMarked → List Text
+mode_mark_words m = codes "mode" ∷ direction_text m.transmit ∷ decimal m.code ∷ []
+
+abbrev pub ramp_words : Ramped → List Text
+ramp_words r = decimal r.sub ∷ decimal r.index ∷ data_text r.start ∷ data_text r.add ∷ []
+
 -- the words of an action's text
 abbrev pub action_words : Action → List Text
 action_words (Transmit put) = codes "transmit" ∷ decimal put.sub ∷ map data_text put.words
@@ -42,6 +50,14 @@ action_words (Legal mark) = codes "legal" ∷ mark_words mark
 action_words (Response ticks) = codes "response" ∷ decimal ticks ∷ []
 action_words (Deaf line on) = codes "deaf" ∷ line_text line ∷ switch_text on ∷ []
 action_words (Mute line on) = codes "mute" ∷ line_text line ∷ switch_text on ∷ []
+action_words (IllegalMode mark) = codes "illegal" ∷ mode_mark_words mark
+action_words (LegalMode mark) = codes "legal" ∷ mode_mark_words mark
+action_words (Broadcast on) = codes "broadcast" ∷ switch_text on ∷ []
+action_words (Power on) = codes "power" ∷ switch_text on ∷ []
+action_words (BitWord value) = codes "bit" ∷ data_text value ∷ []
+action_words ServiceOnce = codes "service" ∷ codes "once" ∷ []
+action_words (Gap ticks) = codes "gap" ∷ decimal ticks ∷ []
+action_words (Ramp r) = codes "ramp" ∷ ramp_words r
 
 -- a space, and then a word
 abbrev pub spaced_word : Text → Text

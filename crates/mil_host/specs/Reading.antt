@@ -7,18 +7,21 @@ use Rattle.numerals.specs.Numerals as numerals
 use Rattle.mil_word.specs.declared.Line.{Line}
 use Rattle.mil_word.specs.declared.Line.TheVariants.{A, B}
 use Rattle.mil_word.specs.Timing.{least_response, latest_response}
-use Rattle.mil_word.specs.Fields.{highest_put_up, highest_subaddress, most_words}
-use Rattle.mil_host.specs.Values.{PutUp, Marked}
-use Rattle.text_lines.specs.Words.{Text, words}
+use Rattle.mil_word.specs.Fields.{greatest_field, highest_put_up, highest_subaddress, most_words}
+use Rattle.mil_host.specs.Values.{PutUp, Marked, ModeMarked, Ramped, least_set_gap, most_set_gap}
+use Rattle.text_lines.specs.Words.{Text, begins_with, words}
 use Rattle.mil_host.specs.declared.reading.BadAction.{BadAction}
 use Rattle.mil_host.specs.declared.reading.BadAction.TheVariants.{Word, Number, Range}
 use Rattle.mil_host.specs.declared.names.Name.{Name}
 use Rattle.mil_host.specs.declared.names.Name.TheVariants.{TransmitName, BusyName, ServiceName, SubsystemName}
 use Rattle.mil_host.specs.declared.names.Name.TheVariants.{FaultName, ControlName, VectorName, SelfTestName}
 use Rattle.mil_host.specs.declared.names.Name.TheVariants.{IllegalName, LegalName, ResponseName, DeafName, MuteName}
+use Rattle.mil_host.specs.declared.names.Name.TheVariants.{BroadcastName, PowerName, BitName, GapName, RampName}
 use Rattle.mil_host.specs.declared.actions.Action.{Action}
 use Rattle.mil_host.specs.declared.actions.Action.TheVariants.{Transmit, Busy, Service, Subsystem, Fault, Control}
 use Rattle.mil_host.specs.declared.actions.Action.TheVariants.{Vector, SelfTest, Illegal, Legal, Response, Deaf, Mute}
+use Rattle.mil_host.specs.declared.actions.Action.TheVariants.{IllegalMode, LegalMode, Broadcast, Power, BitWord}
+use Rattle.mil_host.specs.declared.actions.Action.TheVariants.{ServiceOnce, Gap, Ramp}
 
 abbrev pub Read : Type 0 → Type 0
 Read X = Result X BadAction
@@ -103,8 +106,9 @@ only_line_switch rest = and_then (line_in rest)
 abbrev pub only_data : List Text → Read ℕ
 only_data rest = and_then (data_in rest) (λ value. and_end (drop 1 rest) value)
 
-abbrev pub only_ticks : List Text → Read ℕ
-only_ticks rest = and_then (number_in least_response latest_response rest) (λ ticks. and_end (drop 1 rest) ticks)
+-- a time of this range
+abbrev pub only_ticks : ℕ → ℕ → List Text → Read ℕ
+only_ticks low high rest = and_then (number_in low high rest) (λ ticks. and_end (drop 1 rest) ticks)
 
 -- a subaddress of 1 to 29, and 1 to 32 data words
 abbrev pub only_words : List Text → Read PutUp
@@ -121,25 +125,57 @@ only_mark rest =
     and_then (number_in 1 most_words (drop 2 rest)) (λ count.
     and_end (drop 3 rest) (record { transmit = transmit; sub = sub; count = count }))))
 
+-- a direction and a mode code
+abbrev pub only_mode_mark : List Text → Read ModeMarked
+only_mode_mark rest =
+    and_then (direction_in rest) (λ transmit.
+    and_then (number_in 0 greatest_field (drop 1 rest)) (λ code.
+    and_end (drop 2 rest) (record { transmit = transmit; code = code })))
+
+-- a subaddress of 1 to 29, a place of 1 to 32, and two words
+abbrev pub only_ramp : List Text → Read Ramped
+only_ramp rest =
+    and_then (number_in 1 highest_put_up rest) (λ sub.
+    and_then (number_in 1 most_words (drop 1 rest)) (λ index.
+    and_then (data_in (drop 2 rest)) (λ start.
+    and_then (data_in (drop 3 rest)) (λ add.
+    and_end (drop 4 rest) (record { sub = sub; index = index; start = start; add = add })))))
+
 abbrev pub as_action : {X : Type 0} → (X → Action) → Read X → Read Action
 as_action make (Ok x) = Ok (make x)
 as_action make (Err fault) = Err fault
+
+-- a mark of mode commands where the next word is `mode`, and else one of a subaddress
+abbrev pub mark_in : (Marked → Action) → (ModeMarked → Action) → List Text → Read Action
+mark_in at_sub of_mode rest =
+    if begins_with (codes "mode") rest then as_action of_mode (only_mode_mark (drop 1 rest))
+    else as_action at_sub (only_mark rest)
+
+-- `once`, or `on` or `off`
+abbrev pub service_in : List Text → Read Action
+service_in rest = if begins_with (codes "once") rest then and_end (drop 1 rest) ServiceOnce
+    else as_action Service (only_switch rest)
 
 -- the action with a name, from the words behind it
 abbrev pub of_name : Name → List Text → Read Action
 of_name TransmitName rest = as_action Transmit (only_words rest)
 of_name BusyName rest = as_action Busy (only_switch rest)
-of_name ServiceName rest = as_action Service (only_switch rest)
+of_name ServiceName rest = service_in rest
 of_name SubsystemName rest = as_action Subsystem (only_switch rest)
 of_name FaultName rest = as_action Fault (only_switch rest)
 of_name ControlName rest = as_action Control (only_switch rest)
 of_name VectorName rest = as_action Vector (only_data rest)
 of_name SelfTestName rest = as_action SelfTest (only_data rest)
-of_name IllegalName rest = as_action Illegal (only_mark rest)
-of_name LegalName rest = as_action Legal (only_mark rest)
-of_name ResponseName rest = as_action Response (only_ticks rest)
+of_name IllegalName rest = mark_in Illegal IllegalMode rest
+of_name LegalName rest = mark_in Legal LegalMode rest
+of_name ResponseName rest = as_action Response (only_ticks least_response latest_response rest)
 of_name DeafName rest = as_action (λ told. Deaf told.0 told.1) (only_line_switch rest)
 of_name MuteName rest = as_action (λ told. Mute told.0 told.1) (only_line_switch rest)
+of_name BroadcastName rest = as_action Broadcast (only_switch rest)
+of_name PowerName rest = as_action Power (only_switch rest)
+of_name BitName rest = as_action BitWord (only_data rest)
+of_name GapName rest = as_action Gap (only_ticks least_set_gap most_set_gap rest)
+of_name RampName rest = as_action Ramp (only_ramp rest)
 
 -- the name that a word spells
 abbrev pub name_of : Text → Option Name
@@ -157,6 +193,11 @@ name_of word =
     else if bytes_eq word (codes "response") then Some ResponseName
     else if bytes_eq word (codes "deaf") then Some DeafName
     else if bytes_eq word (codes "mute") then Some MuteName
+    else if bytes_eq word (codes "broadcast") then Some BroadcastName
+    else if bytes_eq word (codes "power") then Some PowerName
+    else if bytes_eq word (codes "bit") then Some BitName
+    else if bytes_eq word (codes "gap") then Some GapName
+    else if bytes_eq word (codes "ramp") then Some RampName
     else None
 
 abbrev pub of_word : Option Name → List Text → Read Action

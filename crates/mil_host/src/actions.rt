@@ -4,6 +4,7 @@ ghost use Rattle.mil_host.specs.Ranges.{IsInRange};
 ghost use Rattle.mil_host.specs.Reading.{action_in};
 ghost use Rattle.std.specs.Prelude.{◌≡◌, ◌≤◌, Ok, All};
 
+use crate::host_values::{ModeMark, ReplyGap, WordRamp};
 use crate::values::{Mark, ResponseGap, TransmitWords};
 use mil_word::Line;
 
@@ -40,6 +41,26 @@ pub enum Action {
     /// Whether its transmitter on a line fails unnoticed: on a bus it acts there as ever, and nothing of its replies is
     /// sent (own choice).
     Mute { line: Line, on: bool },
+    /// The terminal takes mode commands of this T/R bit and mode code as illegal, at both mode subaddresses and to all
+    /// terminals (4.4.3.4).
+    IllegalMode(ModeMark),
+    /// It takes them again as the standard does.
+    LegalMode(ModeMark),
+    /// Whether commands to all terminals are commands for it, as they are at first (own choice; the standard makes
+    /// broadcast an option, 4.3.3.6.7).
+    Broadcast(bool),
+    /// Whether the terminal is on, as it is at first. What comes to one that is off does not reach it; after on it is
+    /// as one newly made, but for what its host has set (own choice).
+    Power(bool),
+    /// The BIT word (4.3.3.5.1.7.14).
+    BitWord(u16),
+    /// Service is requested until a reply has carried the vector word (own choice).
+    ServiceOnce,
+    /// The gap before a reply, also out of the standard's response time (4.3.3.8).
+    Gap(ReplyGap),
+    /// A word of those that a transmit command at a subaddress sends changes with each reply that carries it (own
+    /// choice).
+    Ramp(WordRamp),
 }
 
 impl Action {
@@ -67,6 +88,14 @@ impl Action {
                 line: *line,
                 on: *on,
             },
+            Action::IllegalMode(mark) => Action::IllegalMode(*mark),
+            Action::LegalMode(mark) => Action::LegalMode(*mark),
+            Action::Broadcast(on) => Action::Broadcast(*on),
+            Action::Power(on) => Action::Power(*on),
+            Action::BitWord(word) => Action::BitWord(*word),
+            Action::ServiceOnce => Action::ServiceOnce,
+            Action::Gap(gap) => Action::Gap(*gap),
+            Action::Ramp(ramp) => Action::Ramp(*ramp),
         }
     }
 
@@ -87,10 +116,17 @@ impl Action {
         match self {
             Action::Transmit(put) => put.keeps_ranges(),
             Action::Illegal(mark) | Action::Legal(mark) => mark.keeps_ranges(),
-            Action::Vector(word) | Action::SelfTest(word) => {
+            Action::IllegalMode(mark) | Action::LegalMode(mark) => {
+                let _code = mark.code();
+            }
+            Action::Ramp(ramp) => ramp.keeps_ranges(),
+            Action::Vector(word) | Action::SelfTest(word) | Action::BitWord(word) => {
                 let _word = *word;
             }
             Action::Response(gap) => {
+                let _ticks = gap.ticks();
+            }
+            Action::Gap(gap) => {
                 let _ticks = gap.ticks();
             }
             Action::Busy(_)
@@ -99,7 +135,10 @@ impl Action {
             | Action::Fault(_)
             | Action::Control(_)
             | Action::Deaf { line: _, on: _ }
-            | Action::Mute { line: _, on: _ } => {}
+            | Action::Mute { line: _, on: _ }
+            | Action::Broadcast(_)
+            | Action::Power(_)
+            | Action::ServiceOnce => {}
         }
     }
 }

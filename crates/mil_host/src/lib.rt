@@ -5,6 +5,7 @@
 
 mod actions;
 mod data_words;
+mod host_values;
 mod names;
 mod printing;
 mod reading;
@@ -12,5 +13,6 @@ mod values;
 
 pub use actions::Action;
 pub use data_words::{DataWord, DataWords};
+pub use host_values::{ModeMark, ReplyGap, WordRamp};
 pub use reading::{BadAction, number_within, read_action};
 pub use values::{Mark, ResponseGap, TransmitWords};

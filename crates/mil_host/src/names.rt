@@ -18,6 +18,11 @@ pub enum Name {
     ResponseName,
     DeafName,
     MuteName,
+    BroadcastName,
+    PowerName,
+    BitName,
+    GapName,
+    RampName,
 }
 
 /// The name that a word spells.
@@ -50,6 +55,16 @@ pub fn name_in(word: &[u8]) -> Option<Name>
         Some(Name::DeafName)
     } else if word == b"mute".as_slice() {
         Some(Name::MuteName)
+    } else if word == b"broadcast".as_slice() {
+        Some(Name::BroadcastName)
+    } else if word == b"power".as_slice() {
+        Some(Name::PowerName)
+    } else if word == b"bit".as_slice() {
+        Some(Name::BitName)
+    } else if word == b"gap".as_slice() {
+        Some(Name::GapName)
+    } else if word == b"ramp".as_slice() {
+        Some(Name::RampName)
     } else {
         None
     }

@@ -1,11 +1,12 @@
 //! The text of an action, and the code of a fault in such a text.
 ghost use Rattle.mil_host.specs.Printing.{action_text, switch_text, direction_text, fault_code, mark_words};
-ghost use Rattle.mil_host.specs.Printing.{spaced};
+ghost use Rattle.mil_host.specs.Printing.{mode_mark_words, ramp_words, spaced};
 ghost use Rattle.mil_word.specs.Printing.{line_text};
 ghost use Rattle.std.specs.Prelude.{◌≡◌, Some};
 
 use crate::actions::Action;
 use crate::data_words::{DataWord, DataWords};
+use crate::host_values::{ModeMark, WordRamp};
 use crate::reading::BadAction;
 use crate::values::Mark;
 use mil_word::Line;
@@ -26,14 +27,10 @@ fn letter(line: Line) -> &'static str
     }
 }
 
-fn direction(mark: &Mark) -> &'static str
-    ensures { result.now ≡ direction_text mark.now.transmit }
+fn direction(transmit: bool) -> &'static str
+    ensures { result.now ≡ direction_text transmit }
 {
-    if mark.transmit() {
-        "transmit"
-    } else {
-        "receive"
-    }
+    if transmit { "transmit" } else { "receive" }
 }
 
 /// The code of the fault: `H1`, `H2` or `H3`.
@@ -54,10 +51,34 @@ impl Display for Mark {
     ghost output = { λ m. Some (spaced (mark_words m)) };
 
     fn fmt<W: Write>(&self, f: &mut Formatter<W>) -> fmt::Result {
-        let side = direction(self);
+        let side = direction(self.transmit());
         let sub = self.sub();
         let count = self.count();
         write!(f, "{side} {sub} {count}")
+    }
+}
+
+/// `mode`, a direction and a mode code as three words.
+impl Display for ModeMark {
+    ghost output = { λ m. Some (spaced (mode_mark_words m)) };
+
+    fn fmt<W: Write>(&self, f: &mut Formatter<W>) -> fmt::Result {
+        let side = direction(self.transmit());
+        let code = self.code();
+        write!(f, "mode {side} {code}")
+    }
+}
+
+/// A subaddress, a place and two data words as four words.
+impl Display for WordRamp {
+    ghost output = { λ r. Some (spaced (ramp_words r)) };
+
+    fn fmt<W: Write>(&self, f: &mut Formatter<W>) -> fmt::Result {
+        let sub = self.sub();
+        let index = self.index();
+        let start = DataWord(self.start());
+        let add = DataWord(self.add());
+        write!(f, "{sub} {index} {start} {add}")
     }
 }
 
@@ -88,6 +109,17 @@ impl Display for Action {
             }
             Action::Deaf { line, on } => write!(f, "deaf {} {}", letter(*line), switch(*on)),
             Action::Mute { line, on } => write!(f, "mute {} {}", letter(*line), switch(*on)),
+            Action::IllegalMode(mark) => write!(f, "illegal {mark}"),
+            Action::LegalMode(mark) => write!(f, "legal {mark}"),
+            Action::Broadcast(on) => write!(f, "broadcast {}", switch(*on)),
+            Action::Power(on) => write!(f, "power {}", switch(*on)),
+            Action::BitWord(word) => write!(f, "bit {}", DataWord(*word)),
+            Action::ServiceOnce => f.write_str("service once"),
+            Action::Gap(gap) => {
+                let ticks = gap.ticks();
+                write!(f, "gap {ticks}")
+            }
+            Action::Ramp(ramp) => write!(f, "ramp {ramp}"),
         }
     }
 }

@@ -1,10 +1,15 @@
 //! The action that a text spells.
 ghost use Rattle.mil_host.specs.Reading.{action_in, of_name, number_in, data_in, one_of, line_of, line_in, switch_in};
 ghost use Rattle.mil_host.specs.Reading.{one_in, and_end, some_data, only_switch, only_line_switch, only_data};
-ghost use Rattle.mil_host.specs.Reading.{only_ticks, only_words, only_mark, data_of, number_of};
+ghost use Rattle.mil_host.specs.Reading.{only_ticks, only_words, only_mark, only_mode_mark, only_ramp, data_of};
+ghost use Rattle.mil_host.specs.Reading.{number_of, mark_in, service_in};
+ghost use Rattle.mil_host.specs.declared.actions.Action.TheVariants as action;
 ghost use Rattle.std.specs.Prelude.{◌≡◌, ◌≤◌, Ok, Err, Some, None, slice_get, true, length, drop, IfOk, MatchResult};
 
 use crate::actions::Action;
+use crate::host_values::{
+    GREATEST_CODE, LEAST_SET_GAP, MOST_SET_GAP, ModeMark, ReplyGap, WordRamp,
+};
 use crate::names::{Name, name_in};
 use crate::values::{Mark, ResponseGap, TransmitWords};
 use arrayvec::ArrayVec;
@@ -164,12 +169,13 @@ fn read_only_data(words: &mut Words<'_>) -> Result<u16, BadAction>
     read_end(words, value)
 }
 
-/// A response time, and no more.
-fn read_only_ticks(words: &mut Words<'_>) -> Result<ResponseGap, BadAction>
-    ensures { result ≡ only_ticks words.old }
+/// A time of this range, and no more.
+fn read_only_ticks(words: &mut Words<'_>, low: u8, high: u8) -> Result<u8, BadAction>
+    ensures value { result ≡ only_ticks low high words.old }
+    ensures range { IfOk result (λ n. (low ≤ n) × (n ≤ high)) }
 {
-    let ticks = read_number(words, LEAST_RESPONSE, LATEST_RESPONSE)?;
-    read_end(words, ResponseGap::make(ticks))
+    let ticks = read_number(words, low, high)?;
+    read_end(words, ticks)
 }
 
 /// Data words to the end, 1 to 32 of them.
@@ -211,6 +217,59 @@ fn read_only_mark(words: &mut Words<'_>) -> Result<Mark, BadAction>
     read_end(words, Mark::make(transmit, sub, count))
 }
 
+/// A direction and a mode code, and no more.
+fn read_only_mode_mark(words: &mut Words<'_>) -> Result<ModeMark, BadAction>
+    ensures { result ≡ only_mode_mark words.old }
+{
+    let transmit = read_one_of(words, b"transmit", b"receive")?;
+    let code = read_number(words, 0, GREATEST_CODE)?;
+    read_end(words, ModeMark::make(transmit, code))
+}
+
+/// A subaddress, a place and two data words, and no more.
+fn read_only_ramp(words: &mut Words<'_>) -> Result<WordRamp, BadAction>
+    ensures { result ≡ only_ramp words.old }
+{
+    let sub = read_number(words, 1, HIGHEST_PUT_UP)?;
+    let index = read_number(words, 1, MOST_WORDS)?;
+    let start = read_data(words)?;
+    let add = read_data(words)?;
+    read_end(words, WordRamp::make(sub, index, start, add))
+}
+
+/// What becomes illegal: mode commands behind `mode`, and else a subaddress.
+fn read_illegal(words: &mut Words<'_>) -> Result<Action, BadAction>
+    ensures { result ≡ mark_in action.Illegal action.IllegalMode words.old }
+{
+    if words.takes(b"mode") {
+        Ok(Action::IllegalMode(read_only_mode_mark(words)?))
+    } else {
+        Ok(Action::Illegal(read_only_mark(words)?))
+    }
+}
+
+/// What becomes legal again.
+fn read_legal(words: &mut Words<'_>) -> Result<Action, BadAction>
+    ensures { result ≡ mark_in action.Legal action.LegalMode words.old }
+{
+    if words.takes(b"mode") {
+        Ok(Action::LegalMode(read_only_mode_mark(words)?))
+    } else {
+        Ok(Action::Legal(read_only_mark(words)?))
+    }
+}
+
+/// `once`, or `on` or `off`, and no more.
+fn read_service(words: &mut Words<'_>) -> Result<Action, BadAction>
+    ensures { result ≡ service_in words.old }
+{
+    if words.takes(b"once") {
+        read_end(words, Action::ServiceOnce)
+    } else {
+        Ok(Action::Service(read_only_switch(words)?))
+    }
+}
+
 /// The action with a name, from the words behind it.
 fn read_named(name: Name, words: &mut Words<'_>) -> Result<Action, BadAction>
     ensures { result ≡ of_name name words.old }
@@ -218,15 +277,18 @@ fn read_named(name: Name, words: &mut Words<'_>) -> Result<Action, BadAction>
     match name {
         Name::TransmitName => Ok(Action::Transmit(read_only_words(words)?)),
         Name::BusyName => Ok(Action::Busy(read_only_switch(words)?)),
-        Name::ServiceName => Ok(Action::Service(read_only_switch(words)?)),
+        Name::ServiceName => read_service(words),
         Name::SubsystemName => Ok(Action::Subsystem(read_only_switch(words)?)),
         Name::FaultName => Ok(Action::Fault(read_only_switch(words)?)),
         Name::ControlName => Ok(Action::Control(read_only_switch(words)?)),
         Name::VectorName => Ok(Action::Vector(read_only_data(words)?)),
         Name::SelfTestName => Ok(Action::SelfTest(read_only_data(words)?)),
-        Name::IllegalName => Ok(Action::Illegal(read_only_mark(words)?)),
-        Name::LegalName => Ok(Action::Legal(read_only_mark(words)?)),
-        Name::ResponseName => Ok(Action::Response(read_only_ticks(words)?)),
+        Name::IllegalName => read_illegal(words),
+        Name::LegalName => read_legal(words),
+        Name::ResponseName => {
+            let ticks = read_only_ticks(words, LEAST_RESPONSE, LATEST_RESPONSE)?;
+            Ok(Action::Response(ResponseGap::make(ticks)))
+        }
         Name::DeafName => {
             let (line, on) = read_only_line_switch(words)?;
             Ok(Action::Deaf { line, on })
@@ -235,13 +297,23 @@ fn read_named(name: Name, words: &mut Words<'_>) -> Result<Action, BadAction>
             let (line, on) = read_only_line_switch(words)?;
             Ok(Action::Mute { line, on })
         }
+        Name::BroadcastName => Ok(Action::Broadcast(read_only_switch(words)?)),
+        Name::PowerName => Ok(Action::Power(read_only_switch(words)?)),
+        Name::BitName => Ok(Action::BitWord(read_only_data(words)?)),
+        Name::GapName => {
+            let ticks = read_only_ticks(words, LEAST_SET_GAP, MOST_SET_GAP)?;
+            Ok(Action::Gap(ReplyGap::make(ticks)))
+        }
+        Name::RampName => Ok(Action::Ramp(read_only_ramp(words)?)),
     }
 }
 
-/// The action that a text spells, of words separated by one or more spaces: `transmit SUB WORD..`, `busy on|off`,
-/// `service on|off`, `subsystem on|off`, `fault on|off`, `control on|off`, `vector WORD`, `selftest WORD`, `illegal
-/// receive|transmit SUB COUNT`, `legal receive|transmit SUB COUNT`, `response TICKS`, `deaf A|B on|off` or `mute A|B
-/// on|off` (own choice). The first fault from left to right is answered.
+/// The action that a text spells, of words separated by one or more spaces: `transmit SUB WORD..`, `ramp SUB PLACE
+/// START ADD`, `busy on|off`, `service on|off|once`, `subsystem on|off`, `fault on|off`, `control on|off`, `vector
+/// WORD`, `selftest WORD`, `bit WORD`, `illegal receive|transmit SUB COUNT`, `legal receive|transmit SUB COUNT`,
+/// `illegal mode receive|transmit CODE`, `legal mode receive|transmit CODE`, `response TICKS`, `gap TICKS`, `deaf A|B
+/// on|off`, `mute A|B on|off`, `broadcast on|off` or `power on|off` (own choice). The first fault from left to right is
+/// answered.
 #[tactic(auto, unfolding(crate::specs::Reading::action_in))]
 pub fn read_action(text: &[u8]) -> Result<Action, BadAction>
     ensures { result ≡ action_in text.now }

@@ -37,6 +37,7 @@ impl TransmitWords {
         requires some { 1 ≤ length words.items }
         ensures { result ≡ record { sub = sub; words = words.items } }
     {
+        // At most 32 words, by the type of their list.
         let _ = words.as_slice();
         TransmitWords { place: sub, words }
     }

@@ -9,9 +9,10 @@ use Rattle.mil_terminal.specs.declared.events.Event.TheVariants.{Heard, Quiet, H
 use Rattle.mil_terminal.specs.declared.replies.Reply.{Reply}
 use Rattle.mil_terminal.specs.History.{History}
 use Rattle.mil_terminal.specs.Windows.{latest_window, ended_by, ended}
-use Rattle.mil_terminal.specs.Registers.{received, received_from_all, transmit_words, sync_word, is_transmitter_on, is_flag_inhibited, last_command}
+use Rattle.mil_terminal.specs.PutUp.{words_put_up}
+use Rattle.mil_terminal.specs.Registers.{received, received_from_all, sync_word, is_transmitter_on, is_flag_inhibited, last_command}
 use Rattle.mil_terminal.specs.Status.{conditions, status}
-use Rattle.mil_terminal.specs.Replies.{reply}
+use Rattle.mil_terminal.specs.Replies.{transmit_words, reply}
 
 -- a command and data words on a line, one after the other, after a history
 heard : Line → ℕ → List ℕ → History → History
@@ -61,7 +62,7 @@ alone-status = refl
 
 -- two words of two, with no words put up: zeros are sent
 zeros-reply : reply 5 A (heard A 0x2c41 [] []) ≡ answer 80 (0x2800 ∷ 0 ∷ [])
-unfolding heard answer wave_of number digits raw_of word_of latest_window ended_by ended transmit_words is_transmitter_on is_flag_inhibited conditions status reply
+unfolding heard answer wave_of number digits raw_of word_of latest_window ended_by ended transmit_words words_put_up is_transmitter_on is_flag_inhibited conditions status reply
 zeros-reply = refl
 
 -- a window on A that a command on B cuts short is bad; transmit status word tells so, and A has no window left
@@ -138,7 +139,7 @@ busy-last = refl
 
 -- subaddress 30 sends what it received; what all terminals were sent is kept apart
 wraps-reply : reply 5 A (heard A 0x2fc2 [] (said A 0x2bc2 (0xbeef ∷ 0xcafe ∷ []) [])) ≡ answer 80 (0x2800 ∷ 0xbeef ∷ 0xcafe ∷ [])
-unfolding said heard answer wave_of number digits raw_of word_of latest_window ended_by ended received transmit_words is_transmitter_on is_flag_inhibited conditions status reply
+unfolding said heard answer wave_of number digits raw_of word_of latest_window ended_by ended received transmit_words words_put_up is_transmitter_on is_flag_inhibited conditions status reply
 wraps-reply = refl
 
 from_all-received : received_from_all 5 1 (said A 0xf821 (0xaa ∷ []) []) ≡ 0xaa ∷ []
@@ -163,7 +164,7 @@ forbidden-received = refl
 
 -- words that were put up are cut, or filled with zeros
 put_up-reply : reply 5 A (heard A 0x2c43 [] (Host (Transmit (record { sub = 2; words = 0xaaaa ∷ 0x5555 ∷ [] })) ∷ [])) ≡ answer 80 (0x2800 ∷ 0xaaaa ∷ 0x5555 ∷ 0 ∷ [])
-unfolding heard answer wave_of number digits raw_of word_of latest_window ended_by ended transmit_words is_transmitter_on is_flag_inhibited conditions status reply
+unfolding heard answer wave_of number digits raw_of word_of latest_window ended_by ended transmit_words words_put_up is_transmitter_on is_flag_inhibited conditions status reply
 put_up-reply = refl
 
 -- synchronize with data word: the word is kept

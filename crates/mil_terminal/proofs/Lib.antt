@@ -6,6 +6,7 @@ pub mod Syncing
 pub mod Storing
 pub mod Telling
 pub mod Hears
+pub mod Putting
 pub mod Quiets
 pub mod Bits
 pub mod SlotLemmas

@@ -1,25 +1,25 @@
 -- The words that a terminal keeps, after one more event.
-use Rattle.std.proofs.Common.{◌≡◌, ℕ, ◌+◌, ◌<◌, List, [], ◌∷◌, length, refl, sym, ◌∙◌, arith, get_or-set_same, get_or-set_other, length-set}
+use Rattle.std.proofs.Common.{◌≡◌, ℕ, ◌+◌, ◌<◌, ◌≤◌, List, [], ◌∷◌, length, refl, sym, ◌∙◌, arith, get_or-set_same, get_or-set_other, length-set}
 use Rattle.std.proofs.lemmas.Bool.{eq-eqb, eqb-true, false≢true}
 use Rattle.std.specs.Prelude.{Bool, true, false, ◌&&◌, ◌==◌, not, Some, None, if◌then◌else◌, slice_index_or, slice_set}
 use Rattle.mil_word.specs.Words.{same_bool}
 use Rattle.mil_word.specs.Fields.{is_broadcast, is_receive, sub_of}
 use Rattle.mil_terminal.specs.declared.events.Event.{Event}
 use Rattle.mil_terminal.specs.History.{History}
-use Rattle.mil_terminal.specs.Host.{is_busy}
+use Rattle.mil_terminal.specs.Host.{is_busy, is_power_on}
 use Rattle.mil_terminal.specs.Windows.{Ended, ended_by}
 use Rattle.mil_terminal.specs.Verdicts.{verdict, is_good}
 use Rattle.mil_terminal.specs.Registers.{window_data, received, received_from_all}
 use Rattle.mil_terminal.specs.Updates.{stored}
-use Rattle.mil_terminal.specs.StandsFor.{AreReceived, ArePutUp}
+use Rattle.mil_terminal.specs.StandsFor.{AreReceived}
 use Rattle.mil_terminal.proofs.Ends.{latest_none, latest_some}
 
 -- no window ended
-pub received-none : (own : ℕ) (block : List (List ℕ)) (e : Event) (past : History) → ended_by own e past ≡ None → AreReceived own block past → AreReceived own block (e ∷ past)
+pub received-none : (own : ℕ) (block : List (List ℕ)) (e : Event) (past : History) → is_power_on e ≡ false → ended_by own e past ≡ None → AreReceived own block past → AreReceived own block (e ∷ past)
 unfolding received received_from_all
-received-none own block e past none is = record {
-  addressed = λ sub lt. is.addressed sub lt ∙ sym (latest_none own _ _ _ e past none);
-  from_all = λ sub lt. is.from_all sub lt ∙ sym (latest_none own _ _ _ e past none);
+received-none own block e past on none is = record {
+  addressed = λ sub lt. is.addressed sub lt ∙ sym (latest_none own _ _ _ e past on none);
+  from_all = λ sub lt. is.from_all sub lt ∙ sym (latest_none own _ _ _ e past on none);
 }
 
 -- a window ended that is not good
@@ -41,7 +41,7 @@ module _ (block : List (List ℕ)) (words : List ℕ) where
       go true same = rw (← eqb-true at sub same) (get_or-set_same block (base + at) words [] lt)
       go false other = get_or-set_other block (base + at) (base + sub) words [] (λ e. false≢true (sym other ∙ eq-eqb at sub (omega arith)))
 
-  addressed_is : (r b busy : Bool) (at sub : ℕ) → at < 32 → sub < 32 → length block ≡ 96
+  addressed_is : (r b busy : Bool) (at sub : ℕ) → at < 32 → sub < 32 → length block ≡ 160
       → slice_index_or (if r && not busy then slice_set block (if b then 32 + at else at) words else block) sub []
       ≡ (if true && r && at == sub && same_bool b false && not busy then words else slice_index_or block sub [])
   addressed_is false b busy at sub at_lt sub_lt long = refl
@@ -62,7 +62,7 @@ module _ (block : List (List ℕ)) (words : List ℕ) where
       go true same = rw (← eqb-true at sub same) (get_or-set_same block at words [] (omega arith))
       go false other = get_or-set_other block at sub words [] (λ e. false≢true (sym other ∙ eq-eqb at sub (sym e)))
 
-  from_all_is : (r b busy : Bool) (at sub : ℕ) → at < 32 → sub < 32 → length block ≡ 96
+  from_all_is : (r b busy : Bool) (at sub : ℕ) → at < 32 → sub < 32 → length block ≡ 160
       → slice_index_or (if r && not busy then slice_set block (if b then 32 + at else at) words else block) (32 + sub) []
       ≡ (if true && r && at == sub && same_bool b true && not busy then words else slice_index_or block (32 + sub) [])
   from_all_is false b busy at sub at_lt sub_lt long = refl
@@ -83,12 +83,12 @@ module _ (block : List (List ℕ)) (words : List ℕ) where
       go true same = rw (← eqb-true at sub same) (get_or-set_same block (32 + at) words [] (omega arith))
       go false other = get_or-set_other block (32 + at) (32 + sub) words [] (λ e. false≢true (sym other ∙ eq-eqb at sub (omega arith)))
 
-  put_up_is : (r b busy : Bool) (at sub : ℕ) → at < 32 → sub < 32
-      → slice_index_or (if r && not busy then slice_set block (if b then 32 + at else at) words else block) (64 + sub) [] ≡ slice_index_or block (64 + sub) []
-  put_up_is false b busy at sub at_lt sub_lt = refl
-  put_up_is true b true at sub at_lt sub_lt = refl
-  put_up_is true true false at sub at_lt sub_lt = get_or-set_other block (32 + at) (64 + sub) words [] (λ same. absurd (omega arith))
-  put_up_is true false false at sub at_lt sub_lt = get_or-set_other block at (64 + sub) words [] (λ same. absurd (omega arith))
+  put_up_is : (r b busy : Bool) (at slot : ℕ) → at < 32 → 64 ≤ slot
+      → slice_index_or (if r && not busy then slice_set block (if b then 32 + at else at) words else block) slot [] ≡ slice_index_or block slot []
+  put_up_is false b busy at slot at_lt le = refl
+  put_up_is true b true at slot at_lt le = refl
+  put_up_is true true false at slot at_lt le = get_or-set_other block (32 + at) slot words [] (λ same. absurd (omega arith))
+  put_up_is true false false at slot at_lt le = get_or-set_other block at slot words [] (λ same. absurd (omega arith))
 
   long_is : (r b busy : Bool) (at : ℕ) → length (if r && not busy then slice_set block (if b then 32 + at else at) words else block) ≡ length block
   long_is false b busy at = refl
@@ -101,7 +101,7 @@ sub_lt c = omega arith
 
 -- a good window ended
 pub received-good : (own : ℕ) (block : List (List ℕ)) (e : Event) (past : History) (w : Ended) (words : List ℕ) (busy : Bool) → ended_by own e past ≡ Some w → is_good (verdict own w) ≡ true
-    → window_data w ≡ words → busy ≡ is_busy w.before → length block ≡ 96
+    → window_data w ≡ words → busy ≡ is_busy w.before → length block ≡ 160
     → AreReceived own block past → AreReceived own (stored block w.window.command busy words) (e ∷ past)
 unfolding received received_from_all
 received-good own block e past w words busy ends good words_are busy_is long is =
@@ -114,8 +114,8 @@ received-good own block e past w words busy ends good words_are busy_is long is 
     }
 
 -- the words that are put up stay
-pub put_up-stored : (block : List (List ℕ)) (past : History) (c : ℕ) (busy : Bool) (words : List ℕ) → ArePutUp block past → ArePutUp (stored block c busy words) past
-put_up-stored block past c busy words is = record {
-  long = long_is block words (is_receive c) (is_broadcast c) busy (sub_of c) ∙ is.long;
-  words = λ sub lt. put_up_is block words (is_receive c) (is_broadcast c) busy (sub_of c) sub (sub_lt c) lt ∙ is.words sub lt;
-}
+pub put_up-stored : (block : List (List ℕ)) (c : ℕ) (busy : Bool) (words : List ℕ) (slot : ℕ) → 64 ≤ slot → slice_index_or (stored block c busy words) slot [] ≡ slice_index_or block slot []
+put_up-stored block c busy words slot le = put_up_is block words (is_receive c) (is_broadcast c) busy (sub_of c) slot (sub_lt c) le
+
+pub long-stored : (block : List (List ℕ)) (c : ℕ) (busy : Bool) (words : List ℕ) → length (stored block c busy words) ≡ length block
+long-stored block c busy words = long_is block words (is_receive c) (is_broadcast c) busy (sub_of c)

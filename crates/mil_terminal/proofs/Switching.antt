@@ -7,6 +7,7 @@ use Rattle.mil_word.specs.Words.{same_line, same_bool}
 use Rattle.mil_word.specs.Fields.{is_transmit, code_of, is_mode}
 use Rattle.mil_terminal.specs.declared.events.Event.{Event}
 use Rattle.mil_terminal.specs.History.{History}
+use Rattle.mil_terminal.specs.Host.{is_power_on}
 use Rattle.mil_terminal.specs.Windows.{Ended, ended_by}
 use Rattle.mil_terminal.specs.Verdicts.{verdict, is_good}
 use Rattle.mil_terminal.specs.Registers.{is_transmitter_on, is_flag_inhibited}
@@ -20,12 +21,12 @@ and_false true = refl
 and_false false = refl
 
 -- no window ended
-pub switches-none : (own : ℕ) (s : Switches) (e : Event) (past : History) → ended_by own e past ≡ None → AreSwitches own s past → AreSwitches own s (e ∷ past)
+pub switches-none : (own : ℕ) (s : Switches) (e : Event) (past : History) → is_power_on e ≡ false → ended_by own e past ≡ None → AreSwitches own s past → AreSwitches own s (e ∷ past)
 unfolding is_transmitter_on is_flag_inhibited
-switches-none own s e past none is = record {
-  on_a = is.on_a ∙ sym (latest_none own _ _ _ e past none);
-  on_b = is.on_b ∙ sym (latest_none own _ _ _ e past none);
-  inhibited = is.inhibited ∙ sym (latest_none own _ _ _ e past none);
+switches-none own s e past on none is = record {
+  on_a = is.on_a ∙ sym (latest_none own _ _ _ e past on none);
+  on_b = is.on_b ∙ sym (latest_none own _ _ _ e past on none);
+  inhibited = is.inhibited ∙ sym (latest_none own _ _ _ e past on none);
 }
 
 -- a window ended that is not good

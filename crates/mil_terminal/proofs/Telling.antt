@@ -6,33 +6,33 @@ use Rattle.mil_terminal.specs.declared.events.Event.{Event}
 use Rattle.mil_terminal.specs.History.{History}
 use Rattle.mil_terminal.specs.Windows.{Ended, ended_by}
 use Rattle.mil_terminal.specs.Verdicts.{verdict, is_good}
-use Rattle.mil_terminal.specs.Registers.{is_question}
-use Rattle.mil_terminal.specs.Status.{conditions, conditions_at, no_conditions}
+use Rattle.mil_terminal.specs.Host.{is_power_on}
+use Rattle.mil_terminal.specs.Status.{conditions, conditions_at, no_conditions, leaves_status}
 use Rattle.mil_terminal.specs.declared.conditions.Conditions.{Conditions}
 use Rattle.mil_terminal.specs.declared.registers.Registers.{Registers}
 use Rattle.mil_terminal.specs.Updates.{conditions_set, told}
 use Rattle.mil_terminal.specs.StandsFor.{AreSettings, AreSwitches}
 use Rattle.mil_terminal.proofs.Ends.{latest_none, latest_some}
 
-pub conditions-none : (own : ℕ) (s : Conditions) (e : Event) (past : History) → ended_by own e past ≡ None → s ≡ conditions own past → s ≡ conditions own (e ∷ past)
+pub conditions-none : (own : ℕ) (s : Conditions) (e : Event) (past : History) → is_power_on e ≡ false → ended_by own e past ≡ None → s ≡ conditions own past → s ≡ conditions own (e ∷ past)
 unfolding conditions
-conditions-none own s e past none is = is ∙ sym (latest_none own _ _ _ e past none)
+conditions-none own s e past on none is = is ∙ sym (latest_none own _ _ _ e past on none)
 
 same_true : (b : Bool) → same_bool b true ≡ b
 same_true true = refl
 same_true false = refl
 
 -- a window ended: with its verdict, and the settings and switches before it
-pub conditions-some : (r : Registers) (e : Event) (past : History) (w : Ended) (good : Bool) → ended_by r.own e past ≡ Some w → is_good (verdict r.own w) ≡ good → w.before ≡ past
-    → AreSettings r.host past → AreSwitches r.own r.switches past → r.conditions ≡ conditions r.own past
-    → (told r w.window.command good).conditions ≡ conditions r.own (e ∷ past)
+pub conditions-some : (r : Registers) (e : Event) (past : History) (w : Ended) (good asks : Bool) → ended_by r.own e past ≡ Some w → is_good (verdict r.own w) ≡ good → leaves_status r.own w ≡ asks → w.before ≡ past
+    → AreSettings r.own r.host past → AreSwitches r.own r.switches past → r.conditions ≡ conditions r.own past
+    → (told r w.window.command good asks).conditions ≡ conditions r.own (e ∷ past)
 unfolding conditions
-conditions-some r e past w good ends good_is before settings switches is = go (is_question r.own w.window.command) good refl good_is
+conditions-some r e past w good asks ends good_is asks_is before settings switches is = go asks good asks_is good_is
   where
-    some : conditions r.own (e ∷ past) ≡ (if not (is_question r.own w.window.command) then conditions_at r.own w else conditions r.own past)
-    some = latest_some r.own (λ e. not (is_question r.own e.window.command)) (conditions_at r.own) no_conditions e past w ends
+    some : conditions r.own (e ∷ past) ≡ (if not (leaves_status r.own w) then conditions_at r.own w else conditions r.own past)
+    some = latest_some r.own (λ e. not (leaves_status r.own e)) (conditions_at r.own) no_conditions e past w ends
 
-    go : (asks good : Bool) → is_question r.own w.window.command ≡ asks → is_good (verdict r.own w) ≡ good
+    go : (asks good : Bool) → leaves_status r.own w ≡ asks → is_good (verdict r.own w) ≡ good
         → (if asks then r.conditions else conditions_set r w.window.command good) ≡ conditions r.own (e ∷ past)
     go true good asks_is good_is = is ∙ sym (some ∙ rw asks_is refl)
     go false true asks_is good_is =

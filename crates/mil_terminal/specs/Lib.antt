@@ -3,6 +3,9 @@ pub mod Host
 pub mod Windows
 pub mod Verdicts
 pub mod Registers
+pub mod Answers
+pub mod Service
+pub mod PutUp
 pub mod Status
 pub mod Replies
 pub mod Station
@@ -10,6 +13,7 @@ pub mod Runs
 pub mod Slots
 pub mod ByLines
 pub mod Marking
+pub mod Placing
 pub mod Phases
 pub mod Updates
 pub mod StandsFor

@@ -6,15 +6,14 @@ use Rattle.std.specs.List.{find, filter_map}
 use Rattle.mil_word.specs.declared.Line.{Line}
 use Rattle.mil_word.specs.Words.{same_line, same_bool, data_in}
 use Rattle.mil_word.specs.Fields.{address_of, is_broadcast, is_transmit, sub_of, code_of, is_mode, is_receive}
-use Rattle.mil_word.specs.Fields.{wrap_around}
 use Rattle.mil_mode.specs.Codes.{synchronize, transmit_status_word, initiate_self_test, transmitter_shutdown}
 use Rattle.mil_mode.specs.Codes.{override_shutdown, inhibit_terminal_flag, override_inhibit, reset_remote_terminal}
 use Rattle.mil_mode.specs.Codes.{synchronize_with_word, transmit_last_command}
 use Rattle.mil_terminal.specs.declared.events.Event.{Event}
 use Rattle.mil_terminal.specs.declared.events.Event.TheVariants.{Heard, Quiet, Host}
 use Rattle.mil_terminal.specs.History.{History, latest_set}
-use Rattle.mil_terminal.specs.Host.{told_vector, is_busy, self_test, words_put_up}
-use Rattle.mil_terminal.specs.Windows.{Ended, opening, ended}
+use Rattle.mil_terminal.specs.Host.{told_vector, told_bit, is_busy, self_test, host_bit, is_power_on}
+use Rattle.mil_terminal.specs.Windows.{Ended, opening, ended, ended_by}
 use Rattle.mil_terminal.specs.Verdicts.{verdict, is_good}
 
 -- of the latest ended window that passes the test, what is asked, and else the first value
@@ -56,11 +55,6 @@ received own sub h = latest own (is_good_receive own false sub) window_data [] h
 unfoldable pub received_from_all : ℕ → ℕ → History → List ℕ
 received_from_all own sub h = latest own (is_good_receive own true sub) window_data [] h
 
--- the words that a transmit command sends: those that the host put up, and at subaddress 30, which wraps around,
--- those that were received there (Notice 2)
-unfoldable pub transmit_words : ℕ → ℕ → History → List ℕ
-transmit_words own sub h = if sub == wrap_around then received own wrap_around h else words_put_up sub h
-
 abbrev pub first_or_zero : List ℕ → ℕ
 first_or_zero [] = 0
 first_or_zero (w ∷ ws) = w
@@ -72,9 +66,23 @@ sync_word own h =
     || is_good_mode own true reset_remote_terminal e)
     (λ e. if code_of e.window.command == synchronize_with_word then first_or_zero (window_data e) else 0) 0 h
 
--- the result of the self test when one was initiated last (3)
+-- the result of the self test when a window initiates one (3), and else this
+abbrev pub tested_or : ℕ → Option Ended → ℕ → ℕ
+tested_or own None before = before
+tested_or own (Some e) before = if is_good_mode own true initiate_self_test e then self_test e.before else before
+
+-- the BIT word that the host sets, and else this
+abbrev pub bit_set_or : Event → ℕ → ℕ
+bit_set_or (Heard line wave gap) before = before
+bit_set_or (Quiet line) before = before
+bit_set_or (Host action) before = unwrap_or (told_bit action) before
+
+-- the BIT word: the latest of that which the host set and of the result of the self test when one was initiated (3);
+-- when the terminal is turned on, that of the host
 unfoldable pub bit_word : ℕ → History → ℕ
-bit_word own h = latest own (is_good_mode own true initiate_self_test) (λ e. self_test e.before) 0 h
+bit_word own [] = 0
+bit_word own (e ∷ past) = if is_power_on e then host_bit past
+    else bit_set_or e (tested_or own (ended_by own e past) (bit_word own past))
 
 -- the vector word, which is the host's
 unfoldable pub vector : History → ℕ
@@ -114,7 +122,8 @@ abbrev pub opened_or : ℕ → Option (Line × ℕ) → ℕ → ℕ
 opened_or own None before = before
 opened_or own (Some o) before = if is_question own o.1 && code_of o.1 == transmit_last_command then before else o.1
 
--- the command of the latest window, questions for the last command excepted
+-- the command of the latest window since the terminal was turned on, questions for the last command excepted
 unfoldable pub last_command : ℕ → History → ℕ
 last_command own [] = 0
-last_command own (e ∷ past) = opened_or own (opening own e) (last_command own past)
+last_command own (e ∷ past) = if is_power_on e then 0
+    else opened_or own (opening own e past) (last_command own past)

@@ -6,7 +6,7 @@ use Rattle.mil_word.specs.Timing.{contiguous_gap}
 use Rattle.mil_terminal.specs.declared.events.Event.{Event}
 use Rattle.mil_terminal.specs.declared.events.Event.TheVariants.{Heard}
 use Rattle.mil_terminal.specs.History.{History}
-use Rattle.mil_terminal.specs.Station.{Station}
+use Rattle.mil_terminal.specs.Station.{Station, after}
 
 -- the words of a run as events: the first has this gap, and the others follow at once
 abbrev pub heard : Line → ℕ → List ℕ → List Event
@@ -20,7 +20,8 @@ met (e ∷ es) h = met es (e ∷ h)
 
 -- a station after more events, of which the first came first
 abbrev pub after_all : Station → List Event → Station
-after_all station events = record { own = station.own; history = met events station.history }
+after_all station [] = station
+after_all station (e ∷ es) = after_all (after station e) es
 
 -- none of the waves from a place on is a command or a status word
 abbrev pub AreNoCommands : ℕ → List ℕ → Type 0

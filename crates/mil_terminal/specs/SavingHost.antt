@@ -32,6 +32,11 @@ settings_kept s marks = record {
   self_test = s.self_test;
   response = s.response;
   marks = marks;
+  bit = s.bit;
+  by_gap = s.by_gap;
+  once = s.once;
+  broadcast = s.broadcast;
+  off = s.off;
   deaf = s.deaf;
   mute = s.mute;
 }

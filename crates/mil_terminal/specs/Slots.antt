@@ -2,9 +2,20 @@
 use Rattle.std.specs.Prelude.{◌≡◌, ℕ, ◌+◌, ◌*◌, ◌≤◌, List, [], ◌∷◌, ◌++◌, length, take, drop, slice_index_or}
 use Rattle.mil_word.specs.Fields.{field_values, most_words}
 
--- for each subaddress one list of the words received, one of those received from all, and one of those put up
+-- for each subaddress one list of the words received, one of those received from all, one of those put up, one of what
+-- is added to each of these when a reply carries it, and one that has 1 where a ramp stands
 abbrev pub slot_count : ℕ
-slot_count = 3 * field_values
+slot_count = 5 * field_values
+
+-- where the lists of a kind begin
+abbrev pub put_up_slots : ℕ
+put_up_slots = 2 * field_values
+
+abbrev pub added_slots : ℕ
+added_slots = 3 * field_values
+
+abbrev pub ramp_slots : ℕ
+ramp_slots = 4 * field_values
 
 -- the lists with these counts, each in as many places as a message has words at most
 abbrev pub slots : List ℕ → List ℕ → List (List ℕ)

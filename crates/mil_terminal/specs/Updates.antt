@@ -1,22 +1,27 @@
 -- What each window does to the registers (inside the terminal).
-use Rattle.std.specs.Prelude.{ℕ, ◌+◌, ◌*◌, ◌==◌, Bool, true, false, ◌&&◌, ◌||◌, not, List, [], ◌∷◌, slice_set}
+use Rattle.std.specs.Prelude.{ℕ, ◌+◌, ◌==◌, Bool, true, false, ◌&&◌, ◌||◌, not, List, [], ◌∷◌, slice_set}
 use Rattle.std.specs.Prelude.{slice_index_or, if◌then◌else◌, Option, Some, None}
 use Rattle.mil_word.specs.declared.Line.{Line}
 use Rattle.mil_word.specs.declared.Line.TheVariants.{A, B}
 use Rattle.mil_word.specs.Words.{same_line}
-use Rattle.mil_word.specs.Fields.{is_broadcast, is_transmit, sub_of, code_of, count_of, is_mode, is_receive}
+use Rattle.mil_word.specs.Fields.{address_of, is_broadcast, is_transmit, sub_of, code_of, count_of, is_mode}
+use Rattle.mil_word.specs.Fields.{is_receive}
 use Rattle.mil_word.specs.Fields.{field_values, wrap_around}
 use Rattle.mil_mode.specs.Codes.{dynamic_bus_control, synchronize, initiate_self_test, transmitter_shutdown}
 use Rattle.mil_mode.specs.Codes.{override_shutdown, inhibit_terminal_flag, override_inhibit, reset_remote_terminal}
 use Rattle.mil_mode.specs.Codes.{transmit_vector_word, synchronize_with_word, transmit_last_command, transmit_bit_word}
 use Rattle.mil_terminal.specs.Registers.{first_or_zero, is_question}
 use Rattle.mil_terminal.specs.Verdicts.{is_unknown}
-use Rattle.mil_terminal.specs.Marking.{is_set}
-use Rattle.mil_terminal.specs.Status.{status_word}
+use Rattle.mil_terminal.specs.Windows.{transmits_data}
+use Rattle.mil_terminal.specs.Marking.{is_set, is_mode_set}
+use Rattle.mil_terminal.specs.Placing.{carried}
+use Rattle.mil_terminal.specs.Slots.{put_up_slots}
+use Rattle.mil_terminal.specs.Status.{no_conditions, status_word}
 use Rattle.mil_terminal.specs.Replies.{exactly}
 use Rattle.mil_terminal.specs.declared.switches.Switches.{Switches}
 use Rattle.mil_terminal.specs.declared.synced.Synced.{Synced}
 use Rattle.mil_terminal.specs.declared.conditions.Conditions.{Conditions}
+use Rattle.mil_terminal.specs.declared.host.Settings.{Settings}
 use Rattle.mil_terminal.specs.declared.pending.Pending.{Pending}
 use Rattle.mil_terminal.specs.declared.pending.Phase.TheVariants.{Start}
 use Rattle.mil_terminal.specs.declared.registers.Registers.{Registers}
@@ -72,9 +77,14 @@ slot_of c = if is_broadcast c then field_values + sub_of c else sub_of c
 abbrev pub stored : List (List ℕ) → ℕ → Bool → List ℕ → List (List ℕ)
 stored block c busy words = if is_receive c && not busy then slice_set block (slot_of c) words else block
 
+-- whether the host has marked the command
+abbrev pub is_marked_now : Registers → ℕ → Bool
+is_marked_now r c = if is_mode c then is_mode_set r.host.marks (is_transmit c) (code_of c)
+    else is_set r.host.marks (is_transmit c) (sub_of c) (count_of c)
+
 -- whether the command is illegal
 abbrev pub is_barred : Registers → ℕ → Bool
-is_barred r c = is_unknown c || not (is_mode c) && is_set r.host.marks (is_transmit c) (sub_of c) (count_of c)
+is_barred r c = is_unknown c || is_marked_now r c
 
 -- the conditions that a window sets
 abbrev pub conditions_set : Registers → ℕ → Bool → Conditions
@@ -88,8 +98,8 @@ conditions_set r c good = record {
   terminal = r.host.fault && not (inhibited_for r.switches c good);
 }
 
-abbrev pub told : Registers → ℕ → Bool → Registers
-told r c good = record r { conditions = if is_question r.own c then r.conditions else conditions_set r c good }
+abbrev pub told : Registers → ℕ → Bool → Bool → Registers
+told r c good asks = record r { conditions = if asks then r.conditions else conditions_set r c good }
 
 abbrev pub acted : Registers → Line → ℕ → List ℕ → Registers
 acted r line c words = record r {
@@ -99,14 +109,45 @@ acted r line c words = record r {
 }
 
 -- the registers after a window that ended by a quiet
-abbrev pub settled : Registers → Line → ℕ → Bool → List ℕ → Registers
-settled r line c true words = acted (told r c true) line c words
-settled r line c false words = told r c false
+abbrev pub settled : Registers → Line → ℕ → Bool → Bool → List ℕ → Registers
+settled r line c true asks words = acted (told r c true asks) line c words
+settled r line c false asks words = told r c false asks
+
+-- what a reply to a good command ends of a service request that was asked for once
+abbrev pub served : Settings → Settings
+served s = record s { service = s.service && not s.once; once = false }
+
+-- whether the reply to a good command has the vector word, and whether it has words of a subaddress
+abbrev pub has_vector : Registers → ℕ → Bool
+has_vector r c = is_mode c && is_transmit c && code_of c == transmit_vector_word && not r.host.busy
+
+abbrev pub has_words : Registers → ℕ → Bool
+has_words r c = transmits_data c && not r.host.busy
+
+-- the registers after a command was answered, with its words where it was good
+abbrev pub handed : Bool → Registers → ℕ → Registers
+handed good r c = record r {
+  host = if good && has_vector r c then served r.host else r.host;
+  block = if good && has_words r c then carried r.block (sub_of c) (count_of c) else r.block;
+}
+
+-- the registers of a terminal that was turned on, from those that it had
+abbrev pub renewed : Registers → List (List ℕ) → Registers
+renewed r block = record {
+  own = r.own;
+  window = None;
+  host = r.host;
+  conditions = no_conditions;
+  switches = record { off_a = false; off_b = false; inhibited = false };
+  synced = record { sync_word = 0; bit_word = r.host.bit };
+  last_command = 0;
+  block = block;
+}
 
 -- a window that another one cuts short
 abbrev pub cut : Option Pending → Registers → Registers
 cut None r = r
-cut (Some p) r = told r p.command false
+cut (Some p) r = told r p.command false (is_question r.own p.command)
 
 abbrev pub with_open_window : Registers → Line → ℕ → Registers
 with_open_window r line c = record (cut r.window r) {
@@ -118,7 +159,7 @@ with_open_window r line c = record (cut r.window r) {
 
 abbrev pub put_up_at : Registers → ℕ → List ℕ
 put_up_at r sub = if sub == wrap_around then slice_index_or r.block wrap_around []
-    else slice_index_or r.block (2 * field_values + sub) []
+    else slice_index_or r.block (put_up_slots + sub) []
 
 abbrev pub mode_data_now : Registers → ℕ → List ℕ
 mode_data_now r code =
@@ -141,3 +182,26 @@ answer_now r c good = record {
   gap = r.host.response;
   words = record { items = status_word r.own r.conditions ∷ (if good then data_now r c else []) };
 }
+
+-- ---- a window that its last quiet ends, of good shape or not
+
+abbrev pub is_good_end : Registers → Pending → Bool → Bool
+is_good_end r p shape = shape && not (is_barred r p.command)
+
+abbrev pub asks_at_end : Registers → Pending → Bool → Bool
+asks_at_end r p shape = is_question r.own p.command && not (shape && is_barred r p.command)
+
+-- the registers before the reply
+abbrev pub told_end : Registers → Pending → Bool → Registers
+told_end r p shape = settled r p.line p.command (is_good_end r p shape) (asks_at_end r p shape) p.words.items
+
+abbrev pub answers_end : Registers → Pending → Bool → Bool
+answers_end r p shape = shape && address_of p.command == r.own && not (off_on r.switches p.line)
+
+abbrev pub end_answer : Registers → Pending → Bool → Option Reply
+end_answer r p shape = if answers_end r p shape
+    then Some (answer_now (told_end r p shape) p.command (is_good_end r p shape)) else None
+
+-- and after it
+abbrev pub after_end : Registers → Pending → Bool → Registers
+after_end r p shape = handed (is_good_end r p shape && answers_end r p shape) (told_end r p shape) p.command

@@ -11,7 +11,7 @@ use Rattle.mil_mode.specs.Codes.{first_with_word}
 use Rattle.mil_terminal.specs.declared.events.Event.{Event}
 use Rattle.mil_terminal.specs.declared.events.Event.TheVariants.{Heard, Quiet}
 use Rattle.mil_terminal.specs.History.{History}
-use Rattle.mil_terminal.specs.Host.{is_marked_illegal}
+use Rattle.mil_terminal.specs.Host.{is_marked_illegal, is_mode_marked}
 use Rattle.mil_terminal.specs.Windows.{Window, Ended, follows_at_once, sender_in}
 
 -- the data words that a command announces: those of a receive command, and one with a mode command that is no
@@ -72,9 +72,14 @@ is_unknown c =
     && not (is_broadcast_mode (is_transmit c) (code_of c))
     else is_broadcast c && is_transmit c
 
+-- whether the host has marked the command as illegal
+abbrev pub is_marked : ℕ → History → Bool
+is_marked c h = if is_mode c then is_mode_marked (is_transmit c) (code_of c) h
+    else is_marked_illegal (is_transmit c) (sub_of c) (count_of c) h
+
 -- whether no terminal here carries out the command, or its host has marked it (4.4.3.4)
 abbrev pub is_illegal : ℕ → History → Bool
-is_illegal c h = is_unknown c || not (is_mode c) && is_marked_illegal (is_transmit c) (sub_of c) (count_of c) h
+is_illegal c h = is_unknown c || is_marked c h
 
 -- good; of good shape, but illegal; or bad
 pub data Verdict : Type 0 where

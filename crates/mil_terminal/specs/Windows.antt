@@ -11,17 +11,23 @@ use Rattle.mil_word.specs.Timing.{contiguous_gap}
 use Rattle.mil_terminal.specs.declared.events.Event.{Event}
 use Rattle.mil_terminal.specs.declared.events.Event.TheVariants.{Heard, Quiet, Host}
 use Rattle.mil_terminal.specs.History.{History}
+use Rattle.mil_terminal.specs.Host.{is_power_on, takes_broadcast}
 
--- the command with which an event opens a window: a sound word with command sync and the terminal's own address,
--- or with that of all terminals
-abbrev pub opening : ℕ → Event → Option (Line × ℕ)
-opening own (Heard line wave gap) = option_map
-    (λ c. (line, c)) (option_and_then (λ c. value_if (address_of c == own || is_broadcast c) c) (command_in wave))
-opening own (Quiet line) = None
-opening own (Host action) = None
+-- a command to the terminal: with its own address, or with that of all terminals where its host has not taken it out of
+-- these
+abbrev pub is_to : ℕ → History → ℕ → Bool
+is_to own past c = address_of c == own || is_broadcast c && takes_broadcast past
 
-abbrev pub opens : ℕ → Event → Bool
-opens own e = is_some (opening own e)
+-- the command with which an event opens a window behind a history: a sound word with command sync that is to the
+-- terminal
+abbrev pub opening : ℕ → Event → History → Option (Line × ℕ)
+opening own (Heard line wave gap) past = option_map
+    (λ c. (line, c)) (option_and_then (λ c. value_if (is_to own past c) c) (command_in wave))
+opening own (Quiet line) past = None
+opening own (Host action) past = None
+
+abbrev pub opens : ℕ → Event → History → Bool
+opens own e past = is_some (opening own e past)
 
 -- whether the event is a word or a quiet of the line
 abbrev pub is_on : Line → Event → Bool
@@ -35,15 +41,15 @@ pub record Window : Type 0 where
   pub command : ℕ
   pub items : List Event
 
--- the latest opening
+-- the latest opening since the terminal was turned on
 abbrev pub latest_opening : ℕ → History → Option (Line × ℕ)
 latest_opening own [] = None
-latest_opening own (e ∷ past) = option_or (opening own e) (latest_opening own past)
+latest_opening own (e ∷ past) = if is_power_on e then None else option_or (opening own e past) (latest_opening own past)
 
 -- what came after the latest opening, the oldest first
 abbrev pub since_opening : ℕ → History → List Event
 since_opening own [] = []
-since_opening own (e ∷ past) = if opens own e then [] else since_opening own past ++ e ∷ []
+since_opening own (e ∷ past) = if is_power_on e || opens own e past then [] else since_opening own past ++ e ∷ []
 
 -- the window that was opened last
 unfoldable pub latest_window : ℕ → History → Option Window
@@ -114,15 +120,15 @@ decided own (Some w) = if is_decided own w then Some w else None
 unfoldable pub ended_by : ℕ → Event → History → Option Ended
 ended_by own e past =
     option_and_then
-    (λ w. if opens own e then Some (record { window = w; by_quiet = false; before = past })
+    (λ w. if opens own e past then Some (record { window = w; by_quiet = false; before = past })
     else option_map (λ (v : Window). record { window = v; by_quiet = true; before = past })
     (decided own (latest_window own (e ∷ past))))
     (undecided own (latest_window own past))
 
--- all windows that have ended, the latest end first
+-- all windows that have ended since the terminal was turned on, the latest end first
 unfoldable pub ended : ℕ → History → List Ended
 ended own [] = []
-ended own (e ∷ past) = cons_option (ended_by own e past) (ended own past)
+ended own (e ∷ past) = if is_power_on e then [] else cons_option (ended_by own e past) (ended own past)
 
 abbrev pub is_open_on : Line → Option Window → Bool
 is_open_on line None = false

@@ -7,14 +7,14 @@ use mil_word::fields::{FIELD_VALUES, MOST_WORDS};
 use std::alloc::{AllocError, Global};
 use std::marker::Model;
 
-/// How many lists there are: three for each subaddress.
-pub(crate) const SLOTS: usize = 3 * FIELD_VALUES;
+/// How many lists there are: five for each subaddress.
+pub(crate) const SLOTS: usize = 5 * FIELD_VALUES;
 
 /// How many words there is room for in a list.
 const ROOM: usize = MOST_WORDS as usize;
 
 /// Lists of at most 32 words each, in one block of memory: for each subaddress those received, behind them for each
-/// those received from all, and then for each those put up.
+/// those received from all, then for each those put up, then what replies add to these, and last where ramps stand.
 #[derive(Drop)]
 pub struct Block {
     pub(crate) words: Vec<u16>,

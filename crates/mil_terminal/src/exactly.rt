@@ -15,6 +15,7 @@ pub(crate) fn push_exactly(words: &mut ArrayVec<u16, 33>, count: usize, from: &[
     } else {
         from.len()
     };
+    // There is room for all of them.
     let _ = words.try_extend_from_slice(&from[..taken]);
     push_zeros(words, count - taken);
 }
@@ -25,5 +26,6 @@ fn push_zeros(words: &mut ArrayVec<u16, 33>, count: usize)
     ensures { words.new.items ≡ words.old.items ++ replicate count 0 }
 {
     let zeros = [0; 33];
+    // There is room for all of them.
     let _ = words.try_extend_from_slice(&zeros[..count]);
 }

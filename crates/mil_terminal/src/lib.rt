@@ -5,6 +5,7 @@
 #![tactic(auto)]
 
 mod addresses;
+mod answering;
 mod blocks;
 mod by_lines;
 mod commands;
@@ -15,6 +16,8 @@ mod exactly;
 mod host;
 mod marks;
 mod pending;
+mod put_up;
+mod readers;
 mod registers;
 mod replies;
 mod saved;
@@ -29,6 +32,7 @@ mod values;
 pub use conditions::Conditions;
 pub use error::TerminalError;
 pub use events::Event;
+pub use readers::HostConditions;
 pub use replies::Reply;
 pub use saved::SavedTerminal;
 pub use terminals::Terminal;

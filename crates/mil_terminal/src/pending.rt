@@ -179,6 +179,7 @@ impl Pending {
             Phase::Start | Phase::Taking => {
                 let room = words_due(self.command).saturating_sub(self.words.len());
                 if gap.is_contiguous() && values.len() <= room && !values.is_empty() {
+                    // There is room for all of them.
                     let _ = self.words.try_extend_from_slice(values);
                     self.phase = Phase::Taking;
                     return;
@@ -242,6 +243,7 @@ impl Pending {
         requires { command_in sound.now ≡ None }
         ensures { self.new ≡ after_word own self.old self.old.phase sound.now gap }
     {
+        // Named for the proofs alone.
         let _ = own;
         match self.phase {
             Phase::Start | Phase::Taking => self.take_due(sound, gap),

@@ -4,29 +4,26 @@ ghost use Rattle.mil_terminal.specs.Host.{is_deaf, is_mute};
 ghost use Rattle.mil_terminal.specs.Registers as registers;
 ghost use Rattle.mil_terminal.specs.Replies as replies;
 ghost use Rattle.mil_terminal.specs.Status.{status};
-ghost use Rattle.mil_terminal.specs.Windows.{is_listening};
+ghost use Rattle.mil_terminal.specs.Slots.{put_up_slots};
+ghost use Rattle.mil_terminal.specs.Windows.{ended_by, is_listening};
 ghost use Rattle.mil_terminal.specs.declared.events.Event.TheVariants.{Heard, Quiet, Host};
-ghost use Rattle.mil_word.specs.Fields.{address_of, field_values, most_words};
-ghost use Rattle.std.specs.Option.{option_to_list};
-ghost use Rattle.std.specs.Prelude.{None, if◌then◌else◌};
-ghost use Rattle.std.specs.Prelude.{◌≡◌, ◌+◌, ◌≤◌, ◌<◌, ◌==◌, ◌&&◌, not, [], ◌∷◌, IfOk, length, Some};
+ghost use Rattle.mil_word.specs.Fields.{field_values, most_words};
+ghost use Rattle.std.specs.Prelude.{◌≡◌, ℕ, ◌≤◌, ◌<◌, [], ◌∷◌, IfOk, length, slice_index_or};
 
 use crate::addresses::Address;
 use crate::blocks::Block;
 use crate::commands::{is_bus_control, is_question, is_unknown};
 use crate::conditions::Conditions;
-use crate::exactly::push_exactly;
 use crate::host::Settings;
 use crate::pending::{Pending, same_line};
 use crate::replies::Reply;
 use crate::sounds::Sound;
 use crate::switches::Switches;
 use crate::synced::Synced;
-use arrayvec::ArrayVec;
 use mil_host::Action;
 use mil_line::Gap;
-use mil_mode::codes::{TRANSMIT_BIT_WORD, TRANSMIT_LAST_COMMAND, TRANSMIT_VECTOR_WORD};
-use mil_word::fields::{FIELD_VALUES, WRAP_AROUND};
+use mil_mode::codes::TRANSMIT_LAST_COMMAND;
+use mil_word::fields::FIELD_VALUES;
 use mil_word::{Command, Line};
 use std::alloc::{AllocError, Global};
 
@@ -45,9 +42,8 @@ pub struct Registers {
 
 impl Registers {
     ghost use Rattle.mil_terminal.specs.StandsFor.{StandsFor};
-    ghost use Rattle.mil_terminal.specs.Updates.{put_up_at, is_barred};
-    ghost use Rattle.mil_terminal.specs.Updates.{told, with_open_window, settled, stored, off_on, answer_now};
-    ghost use Rattle.mil_terminal.specs.Updates.{mode_data_now};
+    ghost use Rattle.mil_terminal.specs.Updates.{is_barred, is_marked_now, told, with_open_window, settled, stored};
+    ghost use Rattle.mil_terminal.specs.Updates.{renewed, after_end, end_answer};
 
     /// The registers of a terminal that has met nothing yet. All room is made here.
     pub fn make(alloc: Global, own: Address) -> Result<Registers, AllocError>
@@ -72,7 +68,7 @@ impl Registers {
         ensures stands { (h : History) → StandsFor self.old h → StandsFor self.new (Heard line sound.now gap ∷ h) }
         ensures own { self.new.own ≡ self.old.own }
     {
-        match sound.command_to(self.own) {
+        match sound.command_to(self.own, self.host.broadcast) {
             Some(command) => self.open(line, command),
             None => {
                 if let Some(pending) = &mut self.window {
@@ -84,11 +80,11 @@ impl Registers {
         }
     }
 
-    /// The status that a window sets when it ends.
-    fn tell(&mut self, command: Command, good: bool)
-        ensures { self.new ≡ told self.old command good }
+    /// The status that a window sets when it ends, unless it asks for that which there was.
+    fn tell(&mut self, command: Command, good: bool, asks: bool)
+        ensures { self.new ≡ told self.old command good asks }
     {
-        if !is_question(self.own, command) {
+        if !asks {
             self.conditions = Conditions {
                 message_error: !good,
                 service_request: self.host.service,
@@ -105,7 +101,8 @@ impl Registers {
         ensures { self.new ≡ with_open_window self.old line command }
     {
         if let Some(pending) = self.window.take() {
-            self.tell(pending.command, false);
+            let asks = is_question(self.own, pending.command);
+            self.tell(pending.command, false, asks);
         }
         self.window = Some(Pending::open(line, command));
         if !(is_question(self.own, command) && command.code() == TRANSMIT_LAST_COMMAND) {
@@ -117,7 +114,8 @@ impl Registers {
     pub fn quiet(&mut self, line: Line) -> Option<Reply>
         ensures stands { (h : History) → StandsFor self.old h → StandsFor self.new (Quiet line ∷ h) }
         ensures own { self.new.own ≡ self.old.own }
-        ensures reply { (h : History) → StandsFor self.old h → result ≡ replies.reply self.old.own line h }
+        ensures reply { (h : History) → StandsFor self.old h → result
+            ≡ replies.reply_to self.old.own (ended_by self.old.own (Quiet line) h) (Quiet line ∷ h) }
     {
         match self.window.take() {
             None => None,
@@ -140,12 +138,8 @@ impl Registers {
 
     /// A window that its last quiet ends.
     fn settle(&mut self, pending: Pending, shape: bool) -> Option<Reply>
-        ensures after { self.new ≡ settled self.old pending.line pending.command
-            (shape && not (is_barred self.old pending.command)) pending.words.items }
-        ensures reply { result ≡ (if shape && address_of pending.command == self.old.own
-            && not (off_on self.old.switches pending.line)
-            then Some (answer_now self.new pending.command (shape && not (is_barred self.old pending.command)))
-            else None) }
+        ensures after { self.new ≡ after_end self.old pending shape }
+        ensures reply { result ≡ end_answer self.old pending shape }
     {
         let Pending {
             line,
@@ -154,10 +148,12 @@ impl Registers {
             words,
         } = pending;
         let answers = shape && command.address() == self.own.value() && self.switches.is_on(line);
-        let good = shape && !self.bars(command);
-        self.conclude(line, command, good, words.as_slice());
+        let barred = self.bars(command);
+        let good = shape && !barred;
+        let asks = is_question(self.own, command) && !(shape && barred);
+        self.conclude(line, command, good, asks, words.as_slice());
         if answers {
-            Some(self.answer(command, good))
+            Some(self.respond(command, good))
         } else {
             None
         }
@@ -167,16 +163,26 @@ impl Registers {
     fn bars(&self, command: Command) -> bool
         ensures { result ≡ is_barred self.now command }
     {
-        is_unknown(command)
-            || !command.is_mode()
-                && self.host.marks.has(command.is_transmit(), command.subaddress(), command.count())
+        is_unknown(command) || self.marks_command(command)
     }
 
-    fn conclude(&mut self, line: Line, command: Command, good: bool, words: &[u16])
-        requires { length words.now ≤ most_words }
-        ensures { self.new ≡ settled self.old line command good words.now }
+    /// Whether the host has marked the command.
+    fn marks_command(&self, command: Command) -> bool
+        ensures { result ≡ is_marked_now self.now command }
     {
-        self.tell(command, good);
+        let marks = &self.host.marks;
+        if command.is_mode() {
+            marks.has_mode(command.is_transmit(), command.code())
+        } else {
+            marks.has(command.is_transmit(), command.subaddress(), command.count())
+        }
+    }
+
+    fn conclude(&mut self, line: Line, command: Command, good: bool, asks: bool, words: &[u16])
+        requires { length words.now ≤ most_words }
+        ensures { self.new ≡ settled self.old line command good asks words.now }
+    {
+        self.tell(command, good, asks);
         if good {
             self.switches.act(line, command);
             self.synced.act(command, words, self.host.self_test);
@@ -199,66 +205,44 @@ impl Registers {
         }
     }
 
-    /// The status, and behind it the data words of a good command.
-    fn answer(&self, command: Command, good: bool) -> Reply
-        ensures { result ≡ answer_now self.now command good }
-    {
-        let mut words = ArrayVec::new();
-        words.push(self.conditions.word(self.own));
-        if good && command.is_transmit() {
-            if command.is_mode() {
-                if let Some(word) = self.mode_data(command.code()) {
-                    words.push(word);
-                }
-            } else if !self.host.busy {
-                push_exactly(
-                    &mut words,
-                    command.count() as usize,
-                    self.put_up(command.subaddress()),
-                );
-            }
-        }
-        Reply {
-            gap: self.host.response,
-            words,
-        }
-    }
-
-    /// The data word that a mode command is answered with, if one.
-    fn mode_data(&self, code: u8) -> Option<u16>
-        ensures { option_to_list result ≡ mode_data_now self.now code }
-    {
-        match code {
-            TRANSMIT_LAST_COMMAND => Some(self.last_command),
-            TRANSMIT_VECTOR_WORD if !self.host.busy => Some(self.host.vector),
-            TRANSMIT_BIT_WORD if !self.host.busy => Some(self.synced.bit_word),
-            _ => None,
-        }
-    }
-
-    /// The words that a transmit command at the subaddress sends.
-    fn put_up(&self, sub: u8) -> &[u16]
-        requires { sub < field_values }
-        ensures value { result.now ≡ put_up_at self.now sub }
-        ensures few { length result.now ≤ most_words }
-    {
-        if sub == WRAP_AROUND {
-            self.block.at(usize::from(WRAP_AROUND))
-        } else {
-            self.block.at(2 * FIELD_VALUES + sub as usize)
-        }
-    }
-
     /// An action of the host.
     pub fn act(&mut self, action: &Action)
         ensures stands { (h : History) → StandsFor self.old h → StandsFor self.new (Host action.now ∷ h) }
         ensures own { self.new.own ≡ self.old.own }
     {
         self.host.set(action);
-        if let Action::Transmit(put) = action {
-            self.block
-                .store(2 * FIELD_VALUES + put.sub() as usize, put.words());
+        match action {
+            Action::Transmit(put) => self.block.put_words(put.sub(), put.words()),
+            Action::Ramp(ramp) => self
+                .block
+                .put_ramp(ramp.sub(), ramp.index() - 1, ramp.start(), ramp.add()),
+            Action::BitWord(word) => self.synced.bit_word = *word,
+            Action::Power(on) => {
+                if *on {
+                    self.renew();
+                }
+            }
+            _ => {}
         }
+    }
+
+    /// The terminal is turned on: it is as at first, but for what its host has set.
+    fn renew(&mut self)
+        ensures renewed { self.new ≡ renewed self.old self.new.block }
+        ensures cleared { (slot : ℕ) → slot < put_up_slots → slice_index_or self.new.block slot [] ≡ [] }
+        ensures kept { (slot : ℕ) → put_up_slots ≤ slot
+            → slice_index_or self.new.block slot [] ≡ slice_index_or self.old.block slot [] }
+        ensures long { length self.new.block ≡ length self.old.block }
+    {
+        self.window = None;
+        self.conditions = Conditions::none();
+        self.switches = Switches::none();
+        self.synced = Synced {
+            sync_word: 0,
+            bit_word: self.host.bit,
+        };
+        self.last_command = 0;
+        self.block.clear_received();
     }
 
     /// Whether a window is open on the line that is not decided yet.
@@ -355,7 +339,7 @@ impl Registers {
     /// The words that a transmit command there sends.
     pub fn transmit_words(&self, sub: u8) -> &[u16]
         requires { sub < field_values }
-        ensures { (h : History) → StandsFor self.now h → result.now ≡ registers.transmit_words self.now.own sub h }
+        ensures { (h : History) → StandsFor self.now h → result.now ≡ replies.transmit_words self.now.own sub h }
     {
         self.put_up(sub)
     }

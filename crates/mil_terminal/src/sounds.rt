@@ -4,7 +4,7 @@ ghost use Rattle.mil_word.specs.Wave.{word_of};
 ghost use Rattle.mil_word.specs.Words.{command_in, data_in, value_if};
 ghost use Rattle.mil_word.specs.declared.Word.{Word};
 ghost use Rattle.std.specs.Option.{option_and_then};
-ghost use Rattle.std.specs.Prelude.{◌≡◌, ◌||◌, ◌==◌};
+ghost use Rattle.std.specs.Prelude.{◌≡◌, ◌&&◌, ◌||◌, ◌==◌};
 
 use crate::addresses::Address;
 use mil_word::{Command, Sync, Wave, Word};
@@ -66,15 +66,15 @@ impl Sound {
         }
     }
 
-    /// The command, where it is to this terminal or to all.
+    /// The command, where it is to this terminal, or to all and the terminal takes these.
     #[inline]
-    pub fn command_to(&self, own: Address) -> Option<Command>
+    pub fn command_to(&self, own: Address, takes_broadcast: bool) -> Option<Command>
         ensures { result ≡ option_and_then
-            (λ c. value_if (address_of c == own || is_broadcast c) c) (command_in self.now) }
+            (λ c. value_if (address_of c == own || is_broadcast c && takes_broadcast) c) (command_in self.now) }
     {
         match self.command() {
             Some(command) => {
-                if command.address() == own.value() || command.is_broadcast() {
+                if command.address() == own.value() || command.is_broadcast() && takes_broadcast {
                     Some(command)
                 } else {
                     None

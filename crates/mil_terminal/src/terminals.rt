@@ -1,19 +1,23 @@
 //! The remote terminal.
+ghost use Rattle.mil_terminal.specs.Host as host;
 ghost use Rattle.mil_terminal.specs.Host.{is_deaf, is_mute};
+ghost use Rattle.mil_terminal.specs.PutUp.{ramp_at};
 ghost use Rattle.mil_terminal.specs.Registers as registers;
 ghost use Rattle.mil_terminal.specs.Replies as replies;
 ghost use Rattle.mil_terminal.specs.Runs.{heard, met, after_all};
+ghost use Rattle.mil_terminal.specs.Service.{requests_service, waits_once};
 ghost use Rattle.mil_terminal.specs.Station.{after};
 ghost use Rattle.mil_terminal.specs.Status as statuses;
 ghost use Rattle.mil_terminal.specs.Windows as windows;
 ghost use Rattle.mil_terminal.specs.declared.events.Event.TheVariants.{Heard, Quiet, Host};
-ghost use Rattle.mil_word.specs.Fields.{highest_address, highest_subaddress};
+ghost use Rattle.mil_word.specs.Fields.{field_values, highest_address, highest_subaddress};
 ghost use Rattle.mil_word.specs.Wave.{word_of};
 ghost use Rattle.mil_word.specs.Words.{data_wave};
 ghost use Rattle.mil_word.specs.declared.Line.{Line as LineValue};
 ghost use Rattle.std.specs.Prelude.{◌≡◌, ◌<◌, ◌≤◌, ◌↔◌, ◌/◌, ◌%◌, ◌^◌, ◌==◌, Err, None, [], false, IfOk, map};
 
 use crate::addresses::Address;
+use crate::readers::HostConditions;
 use crate::registers::Registers;
 use crate::replies::Reply;
 use crate::sounds::Sound;
@@ -80,6 +84,9 @@ impl Terminal {
         requires { decoded ≡ word_of wave }
         ensures { self.new ≡ after self.old (Heard line wave gap) }
     {
+        if self.registers.is_off() {
+            return;
+        }
         self.registers.hear(line, &Sound::of(wave, decoded), gap);
         self.past = self.past.put_before(&Event::Heard { line, wave, gap });
     }
@@ -90,6 +97,9 @@ impl Terminal {
     pub fn hear_values(&mut self, line: Line, gap: Gap, values: &[u16])
         ensures { self.new ≡ after_all self.old (heard line gap (map data_wave values.now)) }
     {
+        if self.registers.is_off() {
+            return;
+        }
         self.registers.hear_values(line, gap, values);
         self.past = past_of_values(&self.past, line, gap, values);
     }
@@ -98,15 +108,17 @@ impl Terminal {
     /// listening: it changes nothing but what contracts see, and costs nothing.
     #[inline]
     pub fn pass(&mut self, line: Line, wave: Wave, gap: Gap)
-        requires other { windows.opens self.old.own (Heard line wave gap) ≡ false }
+        requires other { windows.opens self.old.own (Heard line wave gap) self.old.history ≡ false }
         requires closed { windows.is_listening self.old.own line self.old.history ≡ false }
         ensures after { self.new ≡ after self.old (Heard line wave gap) }
         ensures listening { (l : LineValue)
             → windows.is_listening self.new.own l self.new.history
             ≡ windows.is_listening self.old.own l self.old.history }
     {
-        let heard = Event::Heard { line, wave, gap };
-        self.past = self.past.put_before(&heard);
+        if !self.registers.is_off() {
+            let heard = Event::Heard { line, wave, gap };
+            self.past = self.past.put_before(&heard);
+        }
     }
 
     /// A line that fell quiet where this terminal is not listening: it answers nothing, and this costs nothing.
@@ -119,8 +131,10 @@ impl Terminal {
             → windows.is_listening self.new.own l self.new.history
             ≡ windows.is_listening self.old.own l self.old.history }
     {
-        let quiet = Event::Quiet(line);
-        self.past = self.past.put_before(&quiet);
+        if !self.registers.is_off() {
+            let quiet = Event::Quiet(line);
+            self.past = self.past.put_before(&quiet);
+        }
     }
 
     /// A line that fell quiet after words, and what the terminal answers.
@@ -128,6 +142,9 @@ impl Terminal {
         ensures after { self.new ≡ after self.old (Quiet line) }
         ensures reply { result ≡ replies.reply self.old.own line self.old.history }
     {
+        if self.registers.is_off() {
+            return None;
+        }
         let reply = self.registers.quiet(line);
         self.past = self.past.put_before(&Event::Quiet(line));
         reply
@@ -258,9 +275,49 @@ impl Terminal {
     pub fn transmit_words(&self, sub: u8) -> &[u16]
         requires low { 1 ≤ sub }
         requires high { sub ≤ highest_subaddress }
-        ensures { result.now ≡ registers.transmit_words self.now.own sub self.now.history }
+        ensures { result.now ≡ replies.transmit_words self.now.own sub self.now.history }
     {
         self.registers.transmit_words(sub)
+    }
+
+    /// What the ramp at a place, counted from 0, of a subaddress adds each time, if one stands there; its next word is
+    /// among the words that a transmit command sends.
+    pub fn ramp(&self, sub: u8, place: u8) -> Option<u16>
+        requires { sub ≤ highest_subaddress }
+        ensures { result ≡ ramp_at sub place self.now.history }
+    {
+        self.registers.ramp(sub, place)
+    }
+
+    /// Whether its host has turned the terminal off, as it is not at first.
+    pub fn is_off(&self) -> bool
+        ensures { result ≡ host.is_off self.now.history }
+    {
+        self.registers.is_off()
+    }
+
+    /// What its host has set on or off.
+    pub fn conditions_set(&self) -> HostConditions
+        ensures { result ≡ record {
+          busy = host.is_busy self.now.history;
+          service = requests_service self.now.own self.now.history;
+          subsystem = host.has_subsystem_fault self.now.history;
+          fault = host.has_fault self.now.history;
+          control = host.accepts_control self.now.history;
+          once = waits_once self.now.own self.now.history;
+          broadcast = host.takes_broadcast self.now.history;
+          gap = host.set_gap self.now.history;
+        } }
+    {
+        self.registers.conditions_set()
+    }
+
+    /// Whether it has marked mode commands of this T/R bit and mode code as illegal.
+    pub fn marks_mode(&self, transmit: bool, code: u8) -> bool
+        requires { code < field_values }
+        ensures { result ≡ host.is_mode_marked transmit code self.now.history }
+    {
+        self.registers.marks_mode(transmit, code)
     }
 }
 

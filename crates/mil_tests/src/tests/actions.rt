@@ -29,6 +29,17 @@ const FAULTS: &[(&str, BadAction)] = &[
     ("mute A", BadAction::Word),
     ("mute A maybe", BadAction::Word),
     ("mute B on on", BadAction::Word),
+    ("illegal transmit mode 1", BadAction::Number),
+    ("illegal mode", BadAction::Word),
+    ("legal mode transmit 32", BadAction::Range),
+    ("service once on", BadAction::Word),
+    ("power", BadAction::Word),
+    ("bit 12", BadAction::Number),
+    ("gap 20 20", BadAction::Range),
+    ("gap 256", BadAction::Range),
+    ("ramp 30 1 0000 0000", BadAction::Range),
+    ("ramp 1 33 0000 0000", BadAction::Range),
+    ("ramp 1 1 0000", BadAction::Word),
 ];
 
 #[test]
@@ -67,6 +78,15 @@ const PRINTED: &[&str] = &[
     "deaf B off",
     "mute A off",
     "mute B on",
+    "illegal mode transmit 1",
+    "legal mode receive 31",
+    "broadcast off",
+    "power on",
+    "bit 0F0F",
+    "service once",
+    "gap 21",
+    "gap 255",
+    "ramp 29 32 0100 FFFF",
 ];
 
 /// The action that a text spells is printed as that text.

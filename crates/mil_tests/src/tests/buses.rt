@@ -15,6 +15,7 @@ use std::process::Abort;
 mod addresses;
 mod failing;
 mod faults;
+mod irregular;
 mod messages;
 mod paces;
 mod wholes;
@@ -85,6 +86,12 @@ enum Flaw {
     Late(u32),
     /// The first reply is not sent.
     Mute,
+    /// The first reply comes after so many ticks, sooner than it may.
+    Early(u32),
+    /// Before the word at a place of a run there are so many ticks.
+    Pause(u32, u32, u32),
+    /// So many data words more behind a run.
+    Babble(u32, u32, u16),
 }
 
 /// What is compared of a record beside its words.
@@ -194,6 +201,9 @@ fn fault_of(flaw: Flaw) -> Fault {
         },
         Flaw::Late(ticks) => Fault::Late { run: 1, ticks },
         Flaw::Mute => Fault::Mute { run: 1 },
+        Flaw::Early(ticks) => Fault::Early { run: 1, ticks },
+        Flaw::Pause(run, index, ticks) => Fault::Pause { run, index, ticks },
+        Flaw::Babble(run, count, word) => Fault::Babble { run, count, word },
     }
 }
 

@@ -9,14 +9,27 @@ use std::process::Abort;
 enum Flaw {
     Late(u32),
     Mute,
+    /// The first reply comes after so many ticks.
+    Early(u32),
+    /// Before the word at a place of a run there are so many ticks.
+    Pause(u32, u32, u32),
+    /// So many data words more behind a run.
+    Babble(u32, u32),
 }
 
-use Flaw::{Late, Mute};
+use Flaw::{Babble, Early, Late, Mute, Pause};
 
 fn fault_of(flaw: Flaw) -> Fault {
     match flaw {
         Late(ticks) => Fault::Late { run: 1, ticks },
         Mute => Fault::Mute { run: 0 },
+        Early(ticks) => Fault::Early { run: 1, ticks },
+        Pause(run, index, ticks) => Fault::Pause { run, index, ticks },
+        Babble(run, count) => Fault::Babble {
+            run,
+            count,
+            word: 0,
+        },
     }
 }
 
@@ -65,6 +78,56 @@ const ADDED: &[(&str, u32, Flaw, Result<(), LineError>)] = &[
     ),
 ];
 
+/// Faults of a message each, and whether they are in range.
+const RANGES: &[(&str, u32, Flaw, Result<(), LineError>)] = &[
+    ("early from 21", 11, Early(21), Ok(())),
+    ("early to 39", 12, Early(39), Ok(())),
+    ("early at 20", 13, Early(20), Err(LineError::OutOfRange)),
+    ("early at 40", 13, Early(40), Err(LineError::OutOfRange)),
+    ("the least pause", 14, Pause(0, 1, 21), Ok(())),
+    ("the longest pause", 15, Pause(2, 39, 255), Ok(())),
+    (
+        "a pause before the first",
+        13,
+        Pause(0, 0, 21),
+        Err(LineError::OutOfRange),
+    ),
+    (
+        "a pause behind the last",
+        13,
+        Pause(0, 40, 21),
+        Err(LineError::OutOfRange),
+    ),
+    ("no pause", 13, Pause(1, 1, 20), Err(LineError::OutOfRange)),
+    (
+        "too long a pause",
+        13,
+        Pause(1, 1, 256),
+        Err(LineError::OutOfRange),
+    ),
+    (
+        "a pause in run 3",
+        13,
+        Pause(3, 1, 21),
+        Err(LineError::OutOfRange),
+    ),
+    ("one word more", 16, Babble(0, 1), Ok(())),
+    ("forty words more", 17, Babble(2, 40), Ok(())),
+    ("no word more", 13, Babble(0, 0), Err(LineError::OutOfRange)),
+    (
+        "too many words more",
+        13,
+        Babble(0, 41),
+        Err(LineError::OutOfRange),
+    ),
+    (
+        "words behind run 3",
+        13,
+        Babble(3, 1),
+        Err(LineError::OutOfRange),
+    ),
+];
+
 /// What a plan answers to one more fault of a message.
 fn answers(
     rt: &impl Abort,
@@ -87,6 +150,9 @@ fn fill(rt: &impl Abort, plan: &mut Plan) {
 /// The rows are answered as they should.
 fn are_answered(rt: &impl Abort, plan: &mut Plan) {
     for (row, number, flaw, wanted) in ADDED {
+        answers(rt, row, plan, *number, fault_of(*flaw), *wanted);
+    }
+    for (row, number, flaw, wanted) in RANGES {
         answers(rt, row, plan, *number, fault_of(*flaw), *wanted);
     }
 }

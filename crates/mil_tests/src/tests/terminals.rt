@@ -1,4 +1,6 @@
 //! Runs of a terminal, driven by calls: what is expected is worked out by hand from the rules.
+mod kinds;
+mod ramps;
 mod saves;
 mod wholes;
 

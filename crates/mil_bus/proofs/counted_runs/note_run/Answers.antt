@@ -90,7 +90,7 @@ returns-then-goes_on c =
     let same : c.args.from + (c.loop-i.i + 1) ≡ at + 1 = omega arith in
     let behind : c.args.run.now.commands ≤ c.loop-i.i + 1 = omega (arith, c.from.ensures, c.if-from-next.true) in
     let like : AreLike run more (drop (at + 1) xs) =
-    subst (λ n. AreLike run more (drop n xs)) same (data-like c.args.run.now c.args.own.now xs c.args.from (c.loop-i.i + 1) more behind (omega (arith, c.loop-i-test.true)) c.are_small.ensures c.requires.there) in
+    subst (λ n. AreLike run more (drop n xs)) same (data-like c.args.run.now c.args.own.now xs c.args.from (c.loop-i.i + 1) more behind (omega arith) (omega (arith, c.loop-i-test.true)) c.are_small.ensures c.requires.there) in
     let all : at + 1 + more ≡ c.args.from + length c.args.own.now = omega (arith, c.loop-i-test.true) in
     c.lengthen-then-goes_on.ensures ∙ ap (λ s. lengthened s run more) e
     ∙ sym (counts_of-like c.args.commands c.args.due c.requires.two xs (at + 1) run more (omega (arith, c.requires.within, c.loop-i-test.true)) on like)

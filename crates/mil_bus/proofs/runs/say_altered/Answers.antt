@@ -11,10 +11,11 @@ returns c =
     let r = c.args.run.now in
     let v = c.args.values.now in
     let waves = ap (λ (n : ℕ). take (40 - n) (altered c.args.faults.now r.number (value_waves v.commands v.words.items))) c.len-room.ensures.value in
-    let said : run_sent (40 - length c.args.sent.now.items) c.args.faults.now r.number (offer_in r v) ≡ words_of_run r.number r.source c.late_gap.result c.altered_waves-waves.result.items =
-    run_sent-some _ _ _ _ _ _ (c.altered_waves-waves.ensures ∙ waves) (c.late_gap.ensures ∙ ap (λ (n : ℕ). gap_of c.args.faults.now n r.gap) c.from.ensures) in
+    let said : run_sent (40 - length c.args.sent.now.items) c.args.faults.now r.number (offer_in r v) ≡ words_of_run r.number r.source c.reply_gap.result c.altered_words-given.result.items =
+    run_sent-some _ _ _ _ _ _ (c.altered_words-given.ensures ∙ waves) (c.reply_gap.ensures ∙ ap (λ (n : ℕ). gap_of c.args.faults.now n r.gap) c.from.ensures) in
+    let words : c.words_of_run-words.result.items ≡ run_sent (40 - length c.args.sent.now.items) c.args.faults.now r.number (offer_in r v) =
+    c.words_of_run-words.ensures ∙ ap (words_of_run r.number r.source c.reply_gap.result) c.as_slice.ensures.value ∙ sym said in
     record {
-      sent = c.put_each.ensures ∙ ap (λ ws. c.args.sent.now.items ++ words_of_run r.number r.source c.late_gap.result ws) c.as_slice.ensures.value ∙ ap (λ ws. c.args.sent.now.items ++ ws) (sym said);
-      stations = c.hear_each.ensures ∙ ap (λ ws. all_hearing c.args.line (words_of_run r.number r.source c.late_gap.result ws) c.args.terminals.now) c.as_slice-2.ensures.value
-          ∙ ap (λ ws. all_hearing c.args.line ws c.args.terminals.now) (sym said);
+      sent = c.put_each.ensures ∙ ap (λ ws. c.args.sent.now.items ++ ws) (c.as_slice-2.ensures.value ∙ words);
+      stations = c.hear_each.ensures ∙ ap (λ ws. all_hearing c.args.line ws c.args.terminals.now) (c.as_slice-3.ensures.value ∙ words);
     }

@@ -1,6 +1,6 @@
 use Rattle.std.proofs.Common.{◌≡◌, ◌-◌, ◌++◌, length, sym, ap, ◌∙◌, arith}
 use Rattle.std.proofs.lemmas.List.{take_all}
-use Rattle.mil_bus.specs.Exchange.{run_sent, words_of_run, all_hearing}
+use Rattle.mil_bus.specs.Exchange.{run_sent, contiguous_run, all_hearing}
 use Rattle.mil_bus.specs.Offers.{offer_in}
 use Rattle.mil_bus.specs.Wholes.{value_waves}
 use Rattle.mil_bus.proofs.KeptRuns.{value_waves-length}
@@ -15,9 +15,9 @@ returns-then-put_whole c =
     let v = c.args.values.now in
     let waves = value_waves v.commands v.words.items in
     let fit = c.put_whole.ensures.room c.if-put_whole.true in
-    let whole : run_sent room c.args.faults.now r.number (offer_in r v) ≡ words_of_run r.number r.source r.gap waves =
+    let whole : run_sent room c.args.faults.now r.number (offer_in r v) ≡ contiguous_run r.number r.source r.gap waves =
     run_sent-untouched room c.args.faults.now r.number (offer_in r v) (sym c.is_empty.ensures ∙ c.if-is_empty.true)
-    ∙ ap (words_of_run r.number r.source r.gap) (take_all room waves (omega (arith, fit, value_waves-length v.commands v.words.items))) in
+    ∙ ap (contiguous_run r.number r.source r.gap) (take_all room waves (omega (arith, fit, value_waves-length v.commands v.words.items))) in
     record {
       sent = c.put_whole.ensures.put c.if-put_whole.true ∙ ap (λ ws. c.args.sent.now.items ++ ws) (sym whole);
       stations = c.hear_whole.ensures ∙ ap (λ ws. all_hearing c.args.line ws c.args.terminals.now) (sym whole);

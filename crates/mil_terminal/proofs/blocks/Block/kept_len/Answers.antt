@@ -8,7 +8,7 @@ pub loop-count-preserved : goal.loop-count-preserved
 loop-count-preserved c =
     let at : ℕ = c.loop-count.count-index in
     let n : ℕ = get_or c.self.inside.counts at 0 in
-    let long : length c.args.self.now ≡ 96 = ap (λ (xs : List (List ℕ)). length xs) (sym c.self.view_is) ∙ length-slots c.self.inside.counts c.self.inside.words.items ∙ c.self.invariant.1 in
+    let long : length c.args.self.now ≡ 160 = ap (λ (xs : List (List ℕ)). length xs) (sym c.self.view_is) ∙ length-slots c.self.inside.counts c.self.inside.words.items ∙ c.self.invariant.1 in
     let few : n ≤ 32 = c.self.invariant.2 at (omega arith) in
     let same : length (get_or c.args.self.now at []) ≡ n =
     rw (← c.self.view_is) (length-slot c.self.inside.counts c.self.inside.words.items at (omega arith) (omega arith) few) in
@@ -25,5 +25,5 @@ loop-count-preserved c =
 
 pub returns : goal.returns
 returns c =
-    let long : length c.args.self.now ≡ 96 = ap (λ (xs : List (List ℕ)). length xs) (sym c.self.view_is) ∙ length-slots c.self.inside.counts c.self.inside.words.items ∙ c.self.invariant.1 in
+    let long : length c.args.self.now ≡ 160 = ap (λ (xs : List (List ℕ)). length xs) (sym c.self.view_is) ∙ length-slots c.self.inside.counts c.self.inside.words.items ∙ c.self.invariant.1 in
     len-all c.args.self.now c.loop-count.count-index c.loop-count.len (omega arith) c.loop-count.invariant.sum

@@ -6,10 +6,10 @@ use Rattle.mil_terminal.proofs.blocks.Block.restore.Goals as goal
 
 pub loop-head-init : goal.loop-head-init
 loop-head-init c =
-    let long : length c.args.saved.now ≡ 96 = ap (λ (lists : List (List ℕ)). length lists) (sym c.saved.view_is) ∙ c.saved.invariant.long in
+    let long : length c.args.saved.now ≡ 160 = ap (λ (lists : List (List ℕ)). length lists) (sym c.saved.view_is) ∙ c.saved.invariant.long in
     record {
       long = ap (λ (lists : List (List ℕ)). length lists) c.clear.ensures;
-      left = all-left c.as_slice-rest.result.now c.args.saved.now c.clear.new.self 96
+      left = all-left c.as_slice-rest.result.now c.args.saved.now c.clear.new.self 160
           (c.as_slice-rest.ensures.value ∙ c.saved.invariant.whole ∙ ap (λ (lists : List (List ℕ)). entries 0 lists) c.saved.view_is)
           c.clear.ensures long;
     }
@@ -24,7 +24,7 @@ pub store-requires : goal.store-requires
 store-requires c =
     let few : (i : ℕ) → length (get_or c.args.saved.now i []) ≤ 32 = rw (← c.saved.view_is) c.saved.invariant.few in
     let next = next-left c.loop-head.rest.now c.args.saved.now c.loop-head.self c.in-Some.head.now c.in-Some.behind.now few c.in-Some.ensures.cases.0 c.loop-head.invariant.left in
-    let long : length c.args.saved.now ≡ 96 = ap (λ (lists : List (List ℕ)). length lists) (sym c.saved.view_is) ∙ c.saved.invariant.long in
+    let long : length c.args.saved.now ≡ 160 = ap (λ (lists : List (List ℕ)). length lists) (sym c.saved.view_is) ∙ c.saved.invariant.long in
     record {
       slot = omega (arith, next.slot, c.from.ensures);
       few = omega (arith, next.few, c.from-count.ensures, c.split_at.ensures.front_len);

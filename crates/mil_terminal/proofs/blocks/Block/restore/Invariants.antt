@@ -4,7 +4,7 @@ use Rattle.mil_terminal.proofs.blocks.Block.restore.Given as goal
 
 abbrev pub invariant-loop-head : goal.invariant-loop-head
 invariant-loop-head l = record {
-  long : length l.self ≡ 96;
+  long : length l.self ≡ 160;
   left : IsLeft l.rest l.saved l.self;
 }
 

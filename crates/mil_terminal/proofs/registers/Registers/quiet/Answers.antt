@@ -26,7 +26,7 @@ returns-in-Some-take_quiet-clause-stands c = λ h is.
 
 pub returns-in-Some-take_quiet-clause-reply : goal.returns-in-Some-take_quiet-clause-reply
 returns-in-Some-take_quiet-clause-reply c = λ h is.
-    rw (c.settle.ensures.reply, c.settle.ensures.after, c.take.ensures.after)
+    rw (c.settle.ensures.reply, c.take.ensures.after)
     (quiet_settles c.args.self.now c.in-Some.pending c.take_quiet.new.self c.in-Some-take_quiet.shape c.args.line h (sym c.in-Some.ensures.value) (sym c.same_line.ensures ∙ c.if-same_line.true)
     c.take_quiet.ensures.line c.take_quiet.ensures.command c.take_quiet.ensures.words (λ items pending. c.in-Some-take_quiet.ensures.decided c.args.self.now.own items pending) is).1
 
@@ -37,4 +37,4 @@ pub returns-else-same_line-clause-reply : goal.returns-else-same_line-clause-rep
 returns-else-same_line-clause-reply c = λ h is. (quiet_silent c.args.self.now c.in-Some.pending c.args.line h (sym c.in-Some.ensures.value) (sym c.same_line.ensures ∙ c.if-same_line.false) is).silent
 
 pub returns-in-Some-take_quiet-clause-own : goal.returns-in-Some-take_quiet-clause-own
-returns-in-Some-take_quiet-clause-own c = rw c.settle.ensures.after (own_stays _ _ _ _ _)
+returns-in-Some-take_quiet-clause-own c = rw c.settle.ensures.after (own_stays _ _ _ _ _ _)

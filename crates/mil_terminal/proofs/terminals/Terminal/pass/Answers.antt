@@ -8,8 +8,8 @@ invariant_of-self c =
     rw c.put_before.ensures
     (passes_word c.self.inside.registers c.args.line c.args.wave c.args.gap c.self.inside.past (rw (← c.self.view_is) at c.requires.other) (rw (← c.self.view_is) at c.requires.closed) c.self.invariant)
 
-pub returns-clause-listening : goal.returns-clause-listening
-returns-clause-listening c =
+pub returns-then-not-is_off-clause-listening : goal.returns-then-not-is_off-clause-listening
+returns-then-not-is_off-clause-listening c =
     rw (c.put_before.ensures, ← c.self.view_is)
     (listening_stays c.self.inside.registers c.self.inside.past (Heard c.args.line c.args.wave c.args.gap ∷ c.self.inside.past) c.self.invariant
     (passes_word c.self.inside.registers c.args.line c.args.wave c.args.gap c.self.inside.past (rw (← c.self.view_is) at c.requires.other) (rw (← c.self.view_is) at c.requires.closed) c.self.invariant))
