@@ -39,6 +39,14 @@ action_more words rest (kept.Legal mark) is = refl
 action_more words rest (kept.Response gap) is = refl
 action_more words rest (kept.Deaf line on) is = refl
 action_more words rest (kept.Mute line on) is = refl
+action_more words rest (kept.IllegalMode mark) is = refl
+action_more words rest (kept.LegalMode mark) is = refl
+action_more words rest (kept.Broadcast on) is = refl
+action_more words rest (kept.Power on) is = refl
+action_more words rest (kept.BitWord word) is = refl
+action_more words rest kept.ServiceOnce is = refl
+action_more words rest (kept.Gap gap) is = refl
+action_more words rest (kept.Ramp ramp) is = refl
 
 kept_more : (m n : ℕ) (k : KeptAction) → m ≤ n → IsKeptAction m k → IsKeptAction n k
 kept_more m n (kept.Word sub word) le is = is
@@ -55,6 +63,14 @@ kept_more m n (kept.Legal mark) le is = is
 kept_more m n (kept.Response gap) le is = is
 kept_more m n (kept.Deaf line on) le is = is
 kept_more m n (kept.Mute line on) le is = is
+kept_more m n (kept.IllegalMode mark) le is = is
+kept_more m n (kept.LegalMode mark) le is = is
+kept_more m n (kept.Broadcast on) le is = is
+kept_more m n (kept.Power on) le is = is
+kept_more m n (kept.BitWord word) le is = is
+kept_more m n kept.ServiceOnce le is = is
+kept_more m n (kept.Gap gap) le is = is
+kept_more m n (kept.Ramp ramp) le is = is
 
 all_more : (words rest : List PutUp) (rows : List Row) → AllByRecursion (IsRow (length words)) rows → all_placed (words ++ rest) rows ≡ all_placed words rows
 all_more words rest [] all = refl

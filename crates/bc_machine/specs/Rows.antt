@@ -30,6 +30,14 @@ action_of words (kept.Legal mark) = host.Legal mark
 action_of words (kept.Response gap) = host.Response gap
 action_of words (kept.Deaf line on) = host.Deaf line on
 action_of words (kept.Mute line on) = host.Mute line on
+action_of words (kept.IllegalMode mark) = host.IllegalMode mark
+action_of words (kept.LegalMode mark) = host.LegalMode mark
+action_of words (kept.Broadcast on) = host.Broadcast on
+action_of words (kept.Power on) = host.Power on
+action_of words (kept.BitWord word) = host.BitWord word
+action_of words kept.ServiceOnce = host.ServiceOnce
+action_of words (kept.Gap gap) = host.Gap gap
+action_of words (kept.Ramp ramp) = host.Ramp ramp
 
 -- a subaddress that a host puts words up for, or a place below this one
 abbrev pub IsKeptAction : ℕ → KeptAction → Type 0

@@ -9,7 +9,7 @@ ghost use Rattle.std.specs.Prelude.{◌≡◌, ◌+◌, ◌<◌, ◌≤◌, leng
 use crate::Placed;
 use arrayvec::ArrayVec;
 use mil_bus::Bus;
-use mil_host::{Action, Mark, ResponseGap, TransmitWords};
+use mil_host::{Action, Mark, ModeMark, ReplyGap, ResponseGap, TransmitWords, WordRamp};
 use mil_word::Line;
 use std::alloc::{AllocError, Global};
 
@@ -32,6 +32,14 @@ pub enum KeptAction {
     Response(ResponseGap),
     Deaf { line: Line, on: bool },
     Mute { line: Line, on: bool },
+    IllegalMode(ModeMark),
+    LegalMode(ModeMark),
+    Broadcast(bool),
+    Power(bool),
+    BitWord(u16),
+    ServiceOnce,
+    Gap(ReplyGap),
+    Ramp(WordRamp),
 }
 
 /// A placed action.
@@ -85,6 +93,14 @@ fn kept_action(action: Action, words: &mut Vec<TransmitWords>) -> KeptAction
         Action::Response(gap) => KeptAction::Response(gap),
         Action::Deaf { line, on } => KeptAction::Deaf { line, on },
         Action::Mute { line, on } => KeptAction::Mute { line, on },
+        Action::IllegalMode(mark) => KeptAction::IllegalMode(mark),
+        Action::LegalMode(mark) => KeptAction::LegalMode(mark),
+        Action::Broadcast(on) => KeptAction::Broadcast(on),
+        Action::Power(on) => KeptAction::Power(on),
+        Action::BitWord(word) => KeptAction::BitWord(word),
+        Action::ServiceOnce => KeptAction::ServiceOnce,
+        Action::Gap(gap) => KeptAction::Gap(gap),
+        Action::Ramp(ramp) => KeptAction::Ramp(ramp),
     }
 }
 
@@ -119,6 +135,14 @@ impl KeptAction {
                 line: *line,
                 on: *on,
             },
+            KeptAction::IllegalMode(mark) => Action::IllegalMode(*mark),
+            KeptAction::LegalMode(mark) => Action::LegalMode(*mark),
+            KeptAction::Broadcast(on) => Action::Broadcast(*on),
+            KeptAction::Power(on) => Action::Power(*on),
+            KeptAction::BitWord(word) => Action::BitWord(*word),
+            KeptAction::ServiceOnce => Action::ServiceOnce,
+            KeptAction::Gap(gap) => Action::Gap(*gap),
+            KeptAction::Ramp(ramp) => Action::Ramp(*ramp),
         }
     }
 }
@@ -188,6 +212,7 @@ pub fn insert_row(rows: &mut Vec<Row>, place: usize, row: Row)
         address,
         kept,
     };
+    // There is room for it.
     let _ = rows.insert(place, row);
 }
 

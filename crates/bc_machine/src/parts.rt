@@ -67,6 +67,7 @@ impl Parts {
         ensures within { IsWithin program }
         ensures short { HasShortPeriods program }
     {
+        // A program fits its image by its type.
         let _image = program.image();
         let begun = begun_with(&bus);
         let place = program.main();
@@ -174,6 +175,7 @@ impl Parts {
             (leaves (world_in self.old) self.old.at.counters place self.old.at self.old.point) self.old }
         ensures answer { result ≡ Stepped.Ran }
     {
+        // What is left of the loop's count is no longer asked for.
         let _ = self.progress.counters.pop();
         self.go(place)
     }

@@ -5,11 +5,8 @@ use Rattle.std.proofs.lemmas.List.{length-replicate, length-set, get_or-replicat
 use Rattle.std.proofs.lemmas.List.Folds.{list_any-append}
 use Rattle.std.proofs.lemmas.Grind.{get_or-set_at}
 use Rattle.std.proofs.lemmas.Bool.Decides.{nat_tests}
-use Rattle.mil_host.specs.Values.{PutUp}
-use Rattle.mil_host.specs.declared.actions.Action.{Action}
-use Rattle.mil_host.specs.declared.actions.Action.TheVariants.{Transmit}
 use Rattle.bc_machine.specs.declared.placed.Placed.{Placed}
-use Rattle.bench_check.specs.Filling.{puts_up, fills, is_filled, is_reached, AreFirsts}
+use Rattle.bench_check.specs.Filling.{put_up_at, puts_up, fills, is_filled, is_reached, AreFirsts}
 
 or_no : (b : Bool) → (b || false) ≡ b
 or_no true = refl
@@ -41,13 +38,9 @@ none_more firsts before one off so_far = record {
   told = λ n a s la ls. so_far.told n a s la ls ∙ sym (more n a s before one ∙ ap (λ b. is_filled n a s before || b) (off n a s la ls) ∙ or_no (is_filled n a s before));
 }
 
-not_put : (s : ℕ) (action : Action) → ((words : PutUp) → action ≡ Transmit words → ⊥) → puts_up s action ≡ false
-not_put s (Transmit words) not = absurd (not words refl)
-not_put s _ not = refl
-
--- an action that is none with words puts none up
-pub no_words : (one : Placed) → ((words : PutUp) → one.action ≡ Transmit words → ⊥) → (n a s : ℕ) → a < 32 → s < 32 → fills n a s one ≡ false
-no_words one not n a s la ls = ap (λ b. nat_le one.number n && (nat_eq one.address a && b)) (not_put s one.action not) ∙ ap (λ b. nat_le one.number n && b) (and_no (nat_eq one.address a)) ∙ and_no (nat_le one.number n)
+-- an action that puts no words up
+pub no_words : (one : Placed) → put_up_at one.action ≡ None → (n a s : ℕ) → a < 32 → s < 32 → fills n a s one ≡ false
+no_words one none n a s la ls = rw none (ap (λ b. nat_le one.number n && b) (and_no (nat_eq one.address a)) ∙ and_no (nat_le one.number n))
 
 -- an action at no terminal's address puts none up at one
 pub no_terminal : (one : Placed) → 32 ≤ one.address → (n a s : ℕ) → a < 32 → s < 32 → fills n a s one ≡ false
@@ -63,22 +56,22 @@ apart x y a s ly ls off = λ e.
     cc
 
 -- of an action that puts words up the number is kept where it is the least so far
-pub one_more : (firsts : List (Option ℕ)) (before : List Placed) (one : Placed) (words : PutUp) (first : ℕ)
-    → one.action ≡ Transmit words → one.address < 32 → words.sub < 32
-    → ((n : ℕ) → nat_le first n ≡ (is_reached (get_or firsts (32 * one.address + words.sub) None) n || nat_le one.number n))
-    → AreFirsts firsts before → AreFirsts (set firsts (32 * one.address + words.sub) (Some first)) (before ++ one ∷ [])
-one_more firsts before one words first is low sub least so_far = record {
+pub one_more : (firsts : List (Option ℕ)) (before : List Placed) (one : Placed) (put : ℕ) (first : ℕ)
+    → put_up_at one.action ≡ Some put → one.address < 32 → put < 32
+    → ((n : ℕ) → nat_le first n ≡ (is_reached (get_or firsts (32 * one.address + put) None) n || nat_le one.number n))
+    → AreFirsts firsts before → AreFirsts (set firsts (32 * one.address + put) (Some first)) (before ++ one ∷ [])
+one_more firsts before one put first is low sub least so_far = record {
   all = length-set firsts place (Some first) ∙ so_far.all;
-  told = λ n a s la ls. at n a s la ls (nat_eq one.address a && nat_eq words.sub s) refl ∙ sym (more n a s before one);
+  told = λ n a s la ls. at n a s la ls (nat_eq one.address a && nat_eq put s) refl ∙ sym (more n a s before one);
 }
   where
     place : ℕ
-    place = 32 * one.address + words.sub
+    place = 32 * one.address + put
 
-    filled : (n a s : ℕ) → fills n a s one ≡ (nat_le one.number n && (nat_eq one.address a && nat_eq words.sub s))
+    filled : (n a s : ℕ) → fills n a s one ≡ (nat_le one.number n && (nat_eq one.address a && nat_eq put s))
     filled n a s = rw is refl
 
-    at : (n a s : ℕ) → a < 32 → s < 32 → (b : Bool) → (nat_eq one.address a && nat_eq words.sub s) ≡ b
+    at : (n a s : ℕ) → a < 32 → s < 32 → (b : Bool) → (nat_eq one.address a && nat_eq put s) ≡ b
         → is_reached (get_or (set firsts place (Some first)) (32 * a + s) None) n ≡ (is_filled n a s before || fills n a s one)
     at n a s la ls true on =
         let here : 32 * a + s ≡ place = grind (arith, nat_tests) in
@@ -86,6 +79,6 @@ one_more firsts before one words first is low sub least so_far = record {
         let one_is : fills n a s one ≡ nat_le one.number n = filled n a s ∙ ap (λ b. nat_le one.number n && b) on ∙ and_yes (nat_le one.number n) in
         ap (λ f. is_reached f n) (get_or-set_at firsts place (32 * a + s) (Some first) None here (omega (arith, so_far.all))) ∙ least n ∙ ap₂ (λ p q. p || q) old (sym one_is)
     at n a s la ls false off =
-        let elsewhere : 32 * a + s ≢ place = apart one.address words.sub a s sub ls off in
+        let elsewhere : 32 * a + s ≢ place = apart one.address put a s sub ls off in
         let one_is : fills n a s one ≡ false = filled n a s ∙ ap (λ b. nat_le one.number n && b) off ∙ and_no (nat_le one.number n) in
         ap (λ f. is_reached f n) (get_or-set_other firsts place (32 * a + s) (Some first) None elsewhere) ∙ so_far.told n a s la ls ∙ sym (ap (λ b. is_filled n a s before || b) one_is ∙ or_no (is_filled n a s before))

@@ -1,17 +1,26 @@
--- Whether a terminal has words to transmit (own choice): its host put some up, by an action that is placed at the
--- message or at one before it.
+-- Whether a terminal has words to transmit (own choice): its host put some up, words that stay or a ramp, by an action
+-- that is placed at the message or at one before it.
 use Rattle.std.specs.Prelude.{◌≡◌, ℕ, ◌+◌, ◌*◌, ◌<◌, ◌==◌, ◌&&◌, Bool, false, nat_le, List, length, slice_index_or}
 use Rattle.std.specs.Prelude.{Option, Some, None}
 use Rattle.std.specs.List.{list_any}
 use Rattle.mil_word.specs.Fields.{field_values}
 use Rattle.mil_host.specs.declared.actions.Action.{Action}
-use Rattle.mil_host.specs.declared.actions.Action.TheVariants.{Transmit}
+use Rattle.mil_host.specs.declared.actions.Action.TheVariants.{Transmit, Ramp}
 use Rattle.bc_machine.specs.declared.placed.Placed.{Placed}
+
+-- the subaddress at which an action puts words up, if it puts any up
+abbrev pub put_up_at : Action → Option ℕ
+put_up_at (Transmit words) = Some words.sub
+put_up_at (Ramp ramp) = Some ramp.sub
+put_up_at _ = None
+
+abbrev pub is_there : ℕ → Option ℕ → Bool
+is_there sub None = false
+is_there sub (Some at) = at == sub
 
 -- the action puts words up at this subaddress
 abbrev pub puts_up : ℕ → Action → Bool
-puts_up sub (Transmit words) = words.sub == sub
-puts_up sub _ = false
+puts_up sub action = is_there sub (put_up_at action)
 
 -- it is done at this terminal, before or at the message of a number
 abbrev pub fills : ℕ → ℕ → ℕ → Placed → Bool

@@ -3,7 +3,8 @@
 use Rattle.std.specs.Prelude.{ℕ, ◌==◌, Bool, nat_lt, List, [], length, Some}
 use Rattle.std.specs.List.{filter}
 use Rattle.mil_line.specs.declared.faults.Fault.{Fault}
-use Rattle.mil_line.specs.declared.faults.Fault.TheVariants.{Mask, Drop, Add, Late, Mute}
+use Rattle.mil_line.specs.declared.faults.Fault.TheVariants.{Mask, Drop, Add, Late, Mute, Early}
+use Rattle.mil_line.specs.declared.faults.Fault.TheVariants.{Pause, Babble}
 use Rattle.mil_bus.specs.declared.talks.Sent.{Sent}
 use Rattle.mil_bus.specs.declared.talks.Talk.{Talk}
 use Rattle.mil_bus.specs.Exchange.{BusState, controllers, most_runs, runs}
@@ -15,6 +16,9 @@ planned_run (Drop run index) = run
 planned_run (Add run index word) = run
 planned_run (Late run ticks) = run
 planned_run (Mute run) = run
+planned_run (Early run ticks) = run
+planned_run (Pause run index ticks) = run
+planned_run (Babble run count word) = run
 
 -- whether a fault is planned for a run before this one
 abbrev pub is_before : ℕ → Fault → Bool
@@ -31,6 +35,9 @@ is_there words (Drop run index) = nat_lt index words
 is_there words (Add run index word) = nat_lt index words
 is_there words (Late run ticks) = nat_lt 0 words
 is_there words (Mute run) = nat_lt 0 words
+is_there words (Early run ticks) = nat_lt 0 words
+is_there words (Pause run index ticks) = nat_lt index words
+is_there words (Babble run count word) = nat_lt 0 words
 
 -- the words of the message of a talk that starts when the talk does, on this bus, under these faults
 unfoldable pub sent_under : BusState → Talk → List Fault → List Sent

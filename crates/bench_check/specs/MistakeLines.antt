@@ -7,7 +7,8 @@ use Rattle.std.specs.Fmt.{digits, format_spec, padded_integral}
 use Rattle.text_lines.specs.Words.{Text}
 use Rattle.mil_host.specs.Printing.{action_text, data_text}
 use Rattle.mil_line.specs.declared.faults.Fault.{Fault}
-use Rattle.mil_line.specs.declared.faults.Fault.TheVariants.{Mask, Drop, Add, Late, Mute}
+use Rattle.mil_line.specs.declared.faults.Fault.TheVariants.{Mask, Drop, Add, Late, Mute, Early}
+use Rattle.mil_line.specs.declared.faults.Fault.TheVariants.{Pause, Babble}
 use Rattle.mil_word.specs.declared.Sync.{Sync}
 use Rattle.mil_word.specs.declared.Sync.TheVariants.{CommandSync, DataSync}
 use Rattle.bc_machine.specs.declared.placed.Placed.{Placed}
@@ -35,6 +36,11 @@ fault_text (Add run index word) = codes "add " ++ (decimal run ++ (codes " " ++ 
     ++ (codes " " ++ (sync_text word.sync ++ (codes " " ++ data_text word.value))))))
 fault_text (Late run ticks) = codes "late " ++ (decimal run ++ (codes " " ++ decimal ticks))
 fault_text (Mute run) = codes "mute " ++ decimal run
+fault_text (Early run ticks) = codes "early " ++ (decimal run ++ (codes " " ++ decimal ticks))
+fault_text (Pause run index ticks) =
+    codes "pause " ++ (decimal run ++ (codes " " ++ (decimal index ++ (codes " " ++ decimal ticks))))
+fault_text (Babble run count word) =
+    codes "babble " ++ (decimal run ++ (codes " " ++ (decimal count ++ (codes " " ++ data_text word))))
 
 abbrev pub planned_text : ℕ → Fault → Text
 planned_text number fault = codes "fault " ++ (decimal number ++ (codes " " ++ fault_text fault))

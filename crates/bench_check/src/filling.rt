@@ -2,7 +2,7 @@
 ghost use Rattle.bc_machine.specs.declared.placed.Placed.{Placed as PlacedAction};
 ghost use Rattle.bench_check.specs.Filling as spec;
 ghost use Rattle.mil_word.specs.Fields.{field_values};
-ghost use Rattle.std.specs.Prelude.{◌≡◌, ◌+◌, ◌*◌, ◌<◌, ◌++◌, ◌∷◌, [], ℕ, List, nat_le, ◌||◌};
+ghost use Rattle.std.specs.Prelude.{◌≡◌, ◌+◌, ◌*◌, ◌<◌, ◌++◌, ◌∷◌, [], ℕ, List, nat_le, ◌||◌, IfSome};
 
 use bc_machine::{Actions, Placed};
 use mil_host::Action;
@@ -86,15 +86,27 @@ fn earlier(first: Option<u32>, number: u32) -> u32
     }
 }
 
+/// The subaddress at which an action puts words up, if it puts any up.
+fn put_up_at(action: &Action) -> Option<u8>
+    ensures place { result ≡ spec.put_up_at action.now }
+    ensures range { IfSome result (λ sub. sub < field_values) }
+{
+    match action {
+        Action::Transmit(words) => Some(words.sub()),
+        Action::Ramp(ramp) => Some(ramp.sub()),
+        _ => None,
+    }
+}
+
 /// Notes where an action puts words up, and at which message. (What is done at an address above 31 is done at no
 /// terminal.)
 fn note(firsts: &mut [Option<u32>; PAIRS], one: &Placed)
     ensures { (before : List PlacedAction) → spec.AreFirsts firsts.old before
         → spec.AreFirsts firsts.new (before ++ one.now ∷ []) }
 {
-    if let Action::Transmit(words) = &one.action {
+    if let Some(sub) = put_up_at(&one.action) {
         if usize::from(one.address) < FIELD_VALUES {
-            let place = pair(one.address, words.sub());
+            let place = pair(one.address, sub);
             firsts[place] = Some(earlier(firsts[place], one.number));
         }
     }

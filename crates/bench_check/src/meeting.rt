@@ -20,6 +20,9 @@ fn run_of(fault: &Fault) -> u32
         Fault::Add { run, .. } => *run,
         Fault::Late { run, .. } => *run,
         Fault::Mute { run } => *run,
+        Fault::Early { run, .. } => *run,
+        Fault::Pause { run, .. } => *run,
+        Fault::Babble { run, .. } => *run,
     }
 }
 
@@ -33,6 +36,9 @@ fn is_there(words: usize, fault: &Fault) -> bool
         Fault::Add { index, .. } => (*index as usize) < words,
         Fault::Late { .. } => 0 < words,
         Fault::Mute { .. } => 0 < words,
+        Fault::Early { .. } => 0 < words,
+        Fault::Pause { index, .. } => (*index as usize) < words,
+        Fault::Babble { .. } => 0 < words,
     }
 }
 

@@ -36,6 +36,12 @@ fn put_kind(text: &mut String, fault: &Fault) -> Result<(), AllocError>
         }
         Fault::Late { run, ticks } => write!(text, "late {run} {ticks}"),
         Fault::Mute { run } => write!(text, "mute {run}"),
+        Fault::Early { run, ticks } => write!(text, "early {run} {ticks}"),
+        Fault::Pause { run, index, ticks } => write!(text, "pause {run} {index} {ticks}"),
+        Fault::Babble { run, count, word } => {
+            let value = DataWord(*word);
+            write!(text, "babble {run} {count} {value}")
+        }
     }
 }
 

@@ -199,6 +199,7 @@ impl Trial {
             → HasTold job.now self.old.machine before (W.contents out.old)
             → IsTold job.now before (W.contents out.new)) }
     {
+        // The laws of a job's records, for the proofs.
         job_runs();
         let _sound = job.program();
         close(alloc, &mut self.overruns, &self.machine, out)?;
@@ -215,6 +216,7 @@ impl Trial {
                     &mut self.told,
                 )?;
                 out.write_all(text.as_bytes())?;
+                // What the step makes was told as the message that comes.
                 let _ = self.machine.step();
                 Ok(true)
             }

@@ -81,8 +81,8 @@ pub(crate) static EXPLANATIONS: [Explanation; 14] = [
     Explanation {
         code: "L2",
         means: "a place or a value of a planned fault out of its range",
-        remedy: "Runs are 0 to 2 (1 or 2 for late and mute), places 0 to 39, late gaps 121 to 255 ticks, masks not all \
-            zero.",
+        remedy: "Runs are 0 to 2 (1 or 2 for late, mute and early), places 0 to 39 (1 to 39 for pause), late gaps 121 \
+            to 255 ticks, early ones 21 to 39, pauses 21 to 255, babbled words 1 to 40, masks not all zero.",
         example: "fault 1 late 1 500",
     },
     Explanation {

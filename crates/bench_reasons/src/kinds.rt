@@ -52,12 +52,26 @@ pub enum Kind {
     Sync,
     /// The response time of a late reply, in ticks.
     LateTicks,
+    /// The response time of an early reply, in ticks.
+    EarlyTicks,
+    /// The place of a word in its run, but the first.
+    LaterIndex,
+    /// The gap of a word behind a pause, in ticks.
+    PauseTicks,
+    /// How many words a sender babbles.
+    BabbleCount,
     /// The response time of a terminal, in ticks.
     ResponseTicks,
     /// A subaddress that a host puts words up for.
     TransmitSubaddress,
     /// Whether something is on.
     Switch,
+    /// Whether a service request is on, or is asked for once.
+    ServiceSwitch,
+    /// The gap that a host sets in front of replies, in ticks.
+    SetGap,
+    /// The place of a word among those that are put up.
+    WordPlace,
     /// The direction of a command.
     Direction,
     /// The address of a terminal in a selector, or `*`.
@@ -151,6 +165,7 @@ impl Kind {
             Kind::Line => word_slip(word, &["A", "B"]),
             Kind::Sync => word_slip(word, &["c", "d"]),
             Kind::Switch => word_slip(word, &["on", "off"]),
+            Kind::ServiceSwitch => word_slip(word, &["on", "off", "once"]),
             Kind::Direction => word_slip(word, &["receive", "transmit"]),
             Kind::DataWord | Kind::StatusWord => hexadecimal_slip(word, 4, false),
             Kind::Datum => datum_slip(word),
@@ -173,7 +188,7 @@ impl Kind {
         match self {
             Kind::Address | Kind::AnyAddress => (0, 30),
             Kind::Subaddress | Kind::AnySubaddress => (1, 30),
-            Kind::Count => (1, 32),
+            Kind::Count | Kind::WordPlace => (1, 32),
             Kind::ModeCode | Kind::AnyModeCode => (0, 31),
             Kind::Turns => (1, 10_000),
             Kind::Retries => (1, 8),
@@ -185,7 +200,12 @@ impl Kind {
             Kind::ReplyRun => (1, 2),
             Kind::Index => (0, 39),
             Kind::LateTicks => (121, 255),
+            Kind::EarlyTicks => (21, 39),
+            Kind::LaterIndex => (1, 39),
+            Kind::PauseTicks => (21, 255),
+            Kind::BabbleCount => (1, 40),
             Kind::ResponseTicks => (40, 120),
+            Kind::SetGap => (21, 255),
             Kind::TransmitSubaddress => (1, 29),
             Kind::ReplyTicks => (0, 255),
             _ => (0, 9_999_999),
@@ -230,9 +250,18 @@ impl Kind {
                 "a mask has ten hexadecimal digits, not all zero; docs/jobs.md has them ready",
             Kind::Sync => "a word has command sync, c, or data sync, d",
             Kind::LateTicks => "a late reply comes 121 to 255 ticks of 0.1 us behind the message",
+            Kind::EarlyTicks => "an early reply comes 21 to 39 ticks of 0.1 us behind the message",
+            Kind::LaterIndex =>
+                "a pause stands before the words 1 to 39 of a run, which count from 0",
+            Kind::PauseTicks =>
+                "a word behind a pause has a gap of 21 to 255 ticks of 0.1 us; without one it is 20",
+            Kind::BabbleCount => "a sender babbles 1 to 40 words",
             Kind::ResponseTicks => "a response time is 40 to 120 ticks of 0.1 us",
+            Kind::SetGap => "a gap that a host sets is 21 to 255 ticks of 0.1 us",
+            Kind::WordPlace => "the words that are put up have places 1 to 32",
             Kind::TransmitSubaddress => "a host puts words up for subaddresses 1 to 29",
             Kind::Switch => "on or off stands here",
+            Kind::ServiceSwitch => "on, off or once stands here",
             Kind::Direction => "receive or transmit stands here",
             _ => self.allowed_in_rules(),
         }

@@ -91,6 +91,7 @@ impl<W: Write + Drop, E: Eprint> Write for Explained<'_, W, E> {
         self.out.flush()?;
         if self.is_shown {
             if let Some(why) = self.reply.why() {
+                // Nothing else is lost where standard error takes no more.
                 let _ = eprintln!(self.errors; "  {why}");
             }
         }

@@ -3,13 +3,15 @@
 
 use crate::kinds::Kind;
 use crate::kinds::Kind::{
-    Address, Channel, Count, DataWord, Direction, Gap, HalfBits, Index, LateTicks, Line,
-    MessageNumber, ModeCode, Name, NewName, Period, ReplyRun, ResponseTicks, Retries, Run,
-    StartTick, StatusBit, Step, Subaddress, Switch, Sync, TransmitSubaddress, Turns,
+    Address, BabbleCount, Channel, Count, DataWord, Direction, EarlyTicks, Gap, HalfBits, Index,
+    LateTicks, LaterIndex, Line, MessageNumber, ModeCode, Name, NewName, PauseTicks, Period,
+    ReplyRun, ResponseTicks, Retries, Run, ServiceSwitch, SetGap, StartTick, StatusBit, Step,
+    Subaddress, Switch, Sync, TransmitSubaddress, Turns, WordPlace,
 };
 use crate::rule_symbols::{allowed_in_rules, behind_in_rules};
 use Symbol::{
-    Action, Block, Condition, Else, Message, One, OptionalWords, PlannedFault, Rest, Token, Words,
+    Action, Block, Condition, Else, Marked, Message, One, OptionalWords, PlannedFault, Rest, Token,
+    Words,
 };
 
 /// What may stand next.
@@ -43,6 +45,8 @@ pub enum Symbol {
     PlannedFault,
     /// An action of a host.
     Action,
+    /// The commands that a host marks as illegal, or as legal again.
+    Marked,
     /// A line of rules.
     Rule,
     /// The channel of a rule, or nothing.
@@ -147,6 +151,9 @@ fn behind_fault_word(word: &str) -> Option<&'static [Symbol]> {
         "add" => Some(&[One(Run), One(Index), One(Sync), One(DataWord)]),
         "late" => Some(&[One(ReplyRun), One(LateTicks)]),
         "mute" => Some(&[One(ReplyRun)]),
+        "early" => Some(&[One(ReplyRun), One(EarlyTicks)]),
+        "pause" => Some(&[One(Run), One(LaterIndex), One(PauseTicks)]),
+        "babble" => Some(&[One(Run), One(BabbleCount), One(DataWord)]),
         _ => None,
     }
 }
@@ -155,11 +162,30 @@ fn behind_fault_word(word: &str) -> Option<&'static [Symbol]> {
 fn behind_action_word(word: &str) -> Option<&'static [Symbol]> {
     match word {
         "transmit" => Some(&[One(TransmitSubaddress), One(DataWord), Rest(DataWord)]),
-        "busy" | "service" | "subsystem" | "fault" | "control" => { Some(&[One(Switch)]) }
+        "busy" | "subsystem" | "fault" | "control" | "broadcast" | "power" => {
+            Some(&[One(Switch)])
+        }
+        "service" => Some(&[One(ServiceSwitch)]),
+        "ramp" => Some(&[
+            One(TransmitSubaddress),
+            One(WordPlace),
+            One(DataWord),
+            One(DataWord),
+        ]),
         "deaf" | "mute" => Some(&[One(Line), One(Switch)]),
-        "vector" | "selftest" => Some(&[One(DataWord)]),
-        "illegal" | "legal" => Some(&[One(Direction), One(Subaddress), One(Count)]),
+        "vector" | "selftest" | "bit" => Some(&[One(DataWord)]),
+        "illegal" | "legal" => Some(&[Marked]),
         "response" => Some(&[One(ResponseTicks)]),
+        "gap" => Some(&[One(SetGap)]),
+        _ => None,
+    }
+}
+
+/// What follows the first word of the commands that are marked.
+fn behind_marked_word(word: &str) -> Option<&'static [Symbol]> {
+    match word {
+        "mode" => Some(&[One(Direction), One(ModeCode)]),
+        "receive" | "transmit" => Some(&[One(Subaddress), One(Count)]),
         _ => None,
     }
 }
@@ -183,6 +209,7 @@ impl Symbol {
             Symbol::Entry => behind_entry_word(token),
             Symbol::PlannedFault => behind_fault_word(token),
             Symbol::Action => behind_action_word(token),
+            Symbol::Marked => behind_marked_word(token),
             Symbol::Rule
             | Symbol::RuleChannel
             | Symbol::RuleLine
@@ -239,11 +266,14 @@ impl Symbol {
             Symbol::One(kind) | Symbol::Rest(kind) => kind.allowed(),
             Symbol::Entry =>
                 "a line begins with channel, start, terminal, at, fault, faults, series or script, or with #",
-            Symbol::PlannedFault => "a planned fault is mask, drop, add, late or mute",
+            Symbol::PlannedFault => {
+                "a planned fault is mask, drop, add, late, mute, early, pause or babble"
+            },
             Symbol::Action => {
-                "an action is transmit, busy, service, subsystem, fault, control, vector, selftest, \
-                 illegal, legal, response, deaf or mute"
+                "an action is transmit, ramp, busy, service, subsystem, fault, control, vector, selftest, \
+                 bit, illegal, legal, response, gap, deaf, mute, broadcast or power"
             }
+            Symbol::Marked => "mode, receive or transmit stands here",
             _ => allowed_in_rules(self),
         }
     }

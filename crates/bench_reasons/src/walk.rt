@@ -39,6 +39,7 @@ impl Walk {
                 Some(symbol) if symbol.may_be_missing() && symbol.behind(word).is_none() => {}
                 found => return found.copied(),
             }
+            // It is left out.
             let _ = self.ahead.pop();
         }
         None
@@ -53,6 +54,7 @@ impl Walk {
         let Some(behind) = symbol.behind(word) else {
             return Ok(false);
         };
+        // Its place is taken.
         let _ = self.ahead.pop();
         if let Some(still) = symbol.left(word) {
             self.ahead.push(still)?;
@@ -63,6 +65,7 @@ impl Walk {
         match word {
             "{" | "(" | "[" => self.open.push(left)?,
             "}" | ")" | "]" => {
+                // It is closed.
                 let _ = self.open.pop();
             }
             _ => {}

@@ -6,7 +6,8 @@ use Rattle.text_lines.specs.Words.{Text}
 use Rattle.mil_host.specs.Printing.{spaced_data}
 use Rattle.mil_word.specs.Fields.{highest_subaddress}
 use Rattle.mil_terminal.specs.Station.{Station}
-use Rattle.mil_terminal.specs.Registers.{received, received_from_all, transmit_words}
+use Rattle.mil_terminal.specs.Registers.{received, received_from_all}
+use Rattle.mil_terminal.specs.Replies.{transmit_words}
 
 -- words, each behind a space
 abbrev pub all_words : List ℕ → Text

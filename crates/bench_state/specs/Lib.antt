@@ -1,3 +1,4 @@
 pub mod Marks
 pub mod DataText
+pub mod RampText
 pub mod StateText

@@ -1,50 +1,78 @@
--- What the host of a terminal has set on or off by a message (own choice): the actions that were placed at it up to
--- there are the history of its host, and the terminal's own definitions say what is on by the end of that. The lines on
--- which it is deaf or mute are shown apart.
-use Rattle.std.specs.Prelude.{ℕ, Bool, not, ◌&&◌, ◌||◌, ◌==◌, nat_le, if◌then◌else◌, List, [], ◌∷◌, ◌++◌, codes}
-use Rattle.std.specs.Prelude.{decimal}
+-- What the host of a terminal has set on or off (own choice), by the terminal's own definitions.
+use Rattle.std.specs.Prelude.{ℕ, Bool, true, false, not, ◌||◌, if◌then◌else◌, List, [], ◌∷◌, ◌++◌, Option, Some, None}
+use Rattle.std.specs.Prelude.{codes, decimal}
+use Rattle.std.proofs.Common.{zero, suc}
 use Rattle.text_lines.specs.Words.{Text}
-use Rattle.mil_terminal.specs.declared.events.Event.{Event}
-use Rattle.mil_terminal.specs.declared.events.Event.TheVariants.{Host}
-use Rattle.mil_terminal.specs.History.{History}
-use Rattle.mil_terminal.specs.Host.{is_busy, requests_service, has_subsystem_fault, has_fault, accepts_control}
-use Rattle.bc_machine.specs.declared.placed.Placed.{Placed}
-use Rattle.bench_state.specs.declared.marks.Marks.{Marks}
-
--- an action that is placed at this terminal, at a message up to the one of this number
-abbrev pub is_met : ℕ → ℕ → Placed → Bool
-is_met address number p = p.address == address && nat_le p.number number
-
-abbrev pub met_of : ℕ → ℕ → Placed → List Event
-met_of address number p = if is_met address number p then Host p.action ∷ [] else []
-
--- all of them, the newest first; placed actions stand in the order in which they act
-abbrev pub host_history : ℕ → ℕ → List Placed → History
-host_history address number [] = []
-host_history address number (p ∷ ps) = host_history address number ps ++ met_of address number p
-
--- what is on by the end of a history
-abbrev pub marks_in : History → Marks
-marks_in h = record {
-  busy = is_busy h;
-  service = requests_service h;
-  subsystem = has_subsystem_fault h;
-  fault = has_fault h;
-  control = accepts_control h;
-}
+use Rattle.mil_word.specs.Fields.{field_values}
+use Rattle.mil_host.specs.Printing.{mode_mark_words, spaced}
+use Rattle.mil_host.specs.Values.{ModeMarked}
+use Rattle.mil_terminal.specs.Station.{Station}
+use Rattle.mil_terminal.specs.Host.{is_busy, has_subsystem_fault, has_fault, accepts_control, is_off, takes_broadcast}
+use Rattle.mil_terminal.specs.Host.{set_gap, is_mode_marked}
+use Rattle.mil_terminal.specs.Service.{requests_service, waits_once}
 
 abbrev pub name_if : Bool → Text → Text
 name_if on name = if on then name else []
 
--- a dash where nothing is on
-abbrev pub none_if : Marks → Text
-none_if m = name_if (not (m.busy || m.service || m.subsystem || m.fault || m.control)) (codes " -")
+abbrev pub is_any_on : Station → Bool
+is_any_on s = is_busy s.history || requests_service s.own s.history || has_subsystem_fault s.history
+    || has_fault s.history || accepts_control s.history
 
--- the line of a terminal's marks, each by the word of the action that sets it
-unfoldable pub marks_line : ℕ → Marks → Text
-marks_line address m =
-    codes "terminal " ++ (decimal address
-    ++ (codes " marks" ++ (none_if m
-    ++ (name_if m.busy (codes " busy")
-    ++ (name_if m.service (codes " service") ++ (name_if m.subsystem (codes " subsystem")
-    ++ (name_if m.fault (codes " fault") ++ (name_if m.control (codes " control") ++ codes "\n"))))))))
+-- the line of a terminal's marks, each by the word of the action that sets it, and a dash where nothing is on
+unfoldable pub marks_line : Station → Text
+marks_line s =
+    codes "terminal " ++ (decimal s.own
+    ++ (codes " marks" ++ (name_if (not (is_any_on s)) (codes " -")
+    ++ (name_if (is_busy s.history) (codes " busy")
+    ++ (name_if (requests_service s.own s.history) (codes " service")
+    ++ (name_if (has_subsystem_fault s.history) (codes " subsystem")
+    ++ (name_if (has_fault s.history) (codes " fault")
+    ++ (name_if (accepts_control s.history) (codes " control") ++ codes "\n"))))))))
+
+-- ---- what is not as at first, each by the action that sets it
+
+abbrev pub part_if : Bool → Text → List Text
+part_if on text = if on then text ∷ [] else []
+
+abbrev pub gap_part : Option ℕ → List Text
+gap_part None = []
+gap_part (Some ticks) = (codes "gap " ++ decimal ticks) ∷ []
+
+abbrev pub mark_text : ModeMarked → Text
+mark_text mark = codes "illegal " ++ spaced (mode_mark_words mark)
+
+abbrev pub mode_part : Station → Bool → ℕ → List Text
+mode_part s transmit code = part_if (is_mode_marked transmit code s.history)
+    (mark_text (record { transmit = transmit; code = code }))
+
+-- the marks of the mode codes below one
+abbrev pub modes_below : Station → Bool → ℕ → List Text
+modes_below s transmit zero = []
+modes_below s transmit (suc code) = modes_below s transmit code ++ mode_part s transmit code
+
+unfoldable pub host_parts : Station → List Text
+host_parts s =
+    part_if (is_off s.history) (codes "power off")
+    ++ (part_if (not (takes_broadcast s.history)) (codes "broadcast off")
+    ++ (part_if (waits_once s.own s.history) (codes "service once")
+    ++ (gap_part (set_gap s.history)
+    ++ (modes_below s true field_values ++ modes_below s false field_values))))
+
+-- what stands in front of a text: the terminal, or a comma where others stand before it
+abbrev pub lead : Bool → ℕ → Text
+lead begun address = if begun then codes ", " else codes "terminal " ++ (decimal address ++ codes " host ")
+
+abbrev pub listed : Bool → ℕ → List Text → Text
+listed begun address [] = []
+listed begun address (part ∷ parts) = (lead begun address ++ part) ++ listed true address parts
+
+abbrev pub is_some_part : List Text → Bool
+is_some_part [] = false
+is_some_part (part ∷ parts) = true
+
+abbrev pub end_if : Bool → Text
+end_if begun = name_if begun (codes "\n")
+
+-- the line of what is not as at first, if anything is
+unfoldable pub kinds_line : Station → Text
+kinds_line s = listed false s.own (host_parts s) ++ end_if (is_some_part (host_parts s))

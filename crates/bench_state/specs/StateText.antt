@@ -1,5 +1,5 @@
 -- The text of what the terminals of a channel hold (own choice): a line for the channel, and behind it one for each
--- terminal, or three where what its host set is asked for too, or the words of one terminal.
+-- terminal, and those of what its host set where these are asked for too, or the words of one terminal.
 use Rattle.std.specs.Prelude.{ℕ, Bool, true, false, not, List, [], ◌++◌, Option, Some, None, codes, decimal}
 use Rattle.std.proofs.Common.{zero, suc}
 use Rattle.text_lines.specs.Words.{Text}
@@ -12,10 +12,10 @@ use Rattle.mil_terminal.specs.Status.{status}
 use Rattle.mil_terminal.specs.Registers.{last_command, vector, bit_word, sync_word, is_transmitter_on}
 use Rattle.mil_bus.specs.Actions.{station_of}
 use Rattle.mil_bus.specs.Exchange.{BusState}
-use Rattle.bc_machine.specs.declared.placed.Placed.{Placed}
 use Rattle.bench_state.specs.declared.details.Detail.{Detail}
 use Rattle.bench_state.specs.declared.details.Detail.TheVariants.{Registers, Host, Data}
-use Rattle.bench_state.specs.Marks.{host_history, marks_in, marks_line}
+use Rattle.bench_state.specs.Marks.{marks_line, kinds_line}
+use Rattle.bench_state.specs.RampText.{ramp_lines}
 use Rattle.bench_state.specs.DataText.{data_shown}
 
 -- the lines for which something holds: whether for A, and whether for B
@@ -52,35 +52,35 @@ host_line s =
     ++ (codes " deaf " ++ (lines_text (is_deaf A s.history) (is_deaf B s.history)
     ++ (codes " mute " ++ (lines_text (is_mute A s.history) (is_mute B s.history) ++ codes "\n")))))
 
--- the two lines of what its host set by the message of a number, where these actions were placed
-abbrev pub set_lines : ℕ → List Placed → Station → Text
-set_lines number placed s = host_line s ++ marks_line s.own (marks_in (host_history s.own number placed))
+-- the lines of what its host set: two, and those of its ramps and of what else is not as at first
+abbrev pub set_lines : Station → Text
+set_lines s = host_line s ++ (marks_line s ++ (ramp_lines s ++ kinds_line s))
 
 -- what is shown of a terminal
-abbrev pub terminal_text : Detail → ℕ → List Placed → Station → Text
-terminal_text Registers number placed s = terminal_line s
-terminal_text Host number placed s = terminal_line s ++ set_lines number placed s
-terminal_text (Data address subaddress) number placed s = data_shown address subaddress s
+abbrev pub terminal_text : Detail → Station → Text
+terminal_text Registers s = terminal_line s
+terminal_text Host s = terminal_line s ++ set_lines s
+terminal_text (Data address subaddress) s = data_shown address subaddress s
 
 -- what is shown of the terminal at an address, if there is one
-abbrev pub station_text : Detail → ℕ → List Placed → Option Station → Text
-station_text detail number placed None = []
-station_text detail number placed (Some s) = terminal_text detail number placed s
+abbrev pub station_text : Detail → Option Station → Text
+station_text detail None = []
+station_text detail (Some s) = terminal_text detail s
 
 -- what is shown of the terminals below an address, in order of address
-abbrev pub lines_below : Detail → ℕ → List Placed → ℕ → BusState → Text
-lines_below detail number placed zero bus = []
-lines_below detail number placed (suc address) bus =
-    lines_below detail number placed address bus ++ station_text detail number placed (station_of address bus.stations)
+abbrev pub lines_below : Detail → ℕ → BusState → Text
+lines_below detail zero bus = []
+lines_below detail (suc address) bus =
+    lines_below detail address bus ++ station_text detail (station_of address bus.stations)
 
-unfoldable pub terminal_lines : Detail → ℕ → List Placed → BusState → Text
-terminal_lines detail number placed bus = lines_below detail number placed all_terminals bus
+unfoldable pub terminal_lines : Detail → BusState → Text
+terminal_lines detail bus = lines_below detail all_terminals bus
 
 -- a channel's line: its number, and that of the last message that its bus has met
 unfoldable pub channel_line : ℕ → ℕ → Text
 channel_line channel number = codes "channel "
     ++ (decimal channel ++ (codes " number " ++ (decimal number ++ codes "\n")))
 
--- a channel behind the message of a number, where these actions of hosts were placed
-abbrev pub channel_text : Detail → ℕ → ℕ → List Placed → BusState → Text
-channel_text detail channel number placed bus = channel_line channel number ++ terminal_lines detail number placed bus
+-- a channel behind the message of a number
+abbrev pub channel_text : Detail → ℕ → ℕ → BusState → Text
+channel_text detail channel number bus = channel_line channel number ++ terminal_lines detail bus

@@ -1,6 +1,6 @@
 //! What the terminals of a bus hold, as lines: their registers, what their hosts set, and their data words.
 //!
-//! It may know: words, host actions, terminals, the bus, placed actions, words of a text. It has no tests of its
+//! It may know: words, host actions, terminals, the bus, words of a text. It has no tests of its
 //! own: `command_tests` tries it by the lines of state and of data in sessions of `bench_step`. Its wrong bodies:
 //! `edits/`.
 #![tactic(auto)]
@@ -9,6 +9,7 @@ mod data;
 mod details;
 mod marks;
 mod printing;
+mod ramps;
 mod states;
 
 pub use details::Detail;

@@ -6,23 +6,14 @@ ghost use Rattle.std.specs.Prelude.{◌≡◌, ◌++◌, OnOk, codes};
 
 use crate::data::print_data;
 use crate::details::Detail;
-use crate::marks::Marks;
-use bc_machine::Actions;
+use crate::marks::{print_kinds, print_marks};
+use crate::ramps::print_ramps;
 use mil_bus::Bus;
 use mil_host::DataWord;
 use mil_terminal::Terminal;
 use mil_word::Line;
 use std::io;
 use std::io::Write;
-
-/// What is shown of each terminal: this detail, behind the message of a number, where these actions of hosts were
-/// placed.
-#[derive(Clone, Copy)]
-struct Shown<'a> {
-    detail: Detail,
-    number: u32,
-    placed: &'a Actions,
-}
 
 /// The lines for which something holds: whether for A, and whether for B.
 fn lines(a: bool, b: bool) -> &'static str
@@ -82,27 +73,25 @@ fn print_host<W: Write>(out: &mut W, terminal: &Terminal) -> io::Result<()>
     writeln!(out, "terminal {address} deaf {deaf} mute {mute}")
 }
 
-/// Prints the two lines of what its host set by the message of the number.
-fn print_set<W: Write>(out: &mut W, shown: &Shown<'_>, terminal: &Terminal) -> io::Result<()>
-    ensures { OnOk result (Appends (W.contents out.old) (W.contents out.new)
-        (set_lines shown.now.number shown.now.placed.now terminal.now)) }
+/// Prints the lines of what its host set.
+fn print_set<W: Write>(out: &mut W, terminal: &Terminal) -> io::Result<()>
+    ensures { OnOk result (Appends (W.contents out.old) (W.contents out.new) (set_lines terminal.now)) }
 {
     print_host(out, terminal)?;
-    let address = terminal.address();
-    let marks = Marks::by(shown.placed, address, shown.number);
-    marks.print(out, address)
+    print_marks(out, terminal)?;
+    print_ramps(out, terminal)?;
+    print_kinds(out, terminal)
 }
 
 /// Prints what is to be shown of a terminal.
-fn print_detail<W: Write>(out: &mut W, shown: &Shown<'_>, terminal: &Terminal) -> io::Result<()>
-    ensures { OnOk result (Appends (W.contents out.old) (W.contents out.new)
-        (terminal_text shown.now.detail shown.now.number shown.now.placed.now terminal.now)) }
+fn print_detail<W: Write>(out: &mut W, detail: Detail, terminal: &Terminal) -> io::Result<()>
+    ensures { OnOk result (Appends (W.contents out.old) (W.contents out.new) (terminal_text detail terminal.now)) }
 {
-    match shown.detail {
+    match detail {
         Detail::Registers => print_terminal(out, terminal),
         Detail::Host => {
             print_terminal(out, terminal)?;
-            print_set(out, shown, terminal)
+            print_set(out, terminal)
         }
         Detail::Data {
             address,
@@ -113,38 +102,30 @@ fn print_detail<W: Write>(out: &mut W, shown: &Shown<'_>, terminal: &Terminal) -
 
 /// Prints what is to be shown of each terminal of a bus, in order of address.
 #[tactic(auto, unfolding(crate::specs::StateText::terminal_lines))]
-fn print_terminals<W: Write>(out: &mut W, shown: &Shown<'_>, bus: &Bus) -> io::Result<()>
-    ensures { OnOk result (Appends (W.contents out.old) (W.contents out.new)
-        (terminal_lines shown.now.detail shown.now.number shown.now.placed.now bus.now)) }
+fn print_terminals<W: Write>(out: &mut W, detail: Detail, bus: &Bus) -> io::Result<()>
+    ensures { OnOk result (Appends (W.contents out.old) (W.contents out.new) (terminal_lines detail bus.now)) }
 {
     for address in 0..31u8 {
         if let Some(terminal) = bus.terminal(address) {
-            print_detail(out, shown, terminal)?;
+            print_detail(out, detail, terminal)?;
         }
     }
     Ok(())
 }
 
 /// Prints what the terminals of a channel hold: a line for the channel, with the number of the last message that its
-/// bus has met, and behind it what the detail shows of each terminal, where these actions of hosts were placed. It
-/// takes no memory.
+/// bus has met, and behind it what the detail shows of each terminal. It takes no memory.
 #[tactic(auto, unfolding(crate::specs::StateText::channel_line))]
 pub fn print_channel<W: Write>(
     out: &mut W,
     detail: Detail,
     channel: u16,
     number: u32,
-    placed: &Actions,
     bus: &Bus,
 ) -> io::Result<()>
     ensures { OnOk result (Appends (W.contents out.old) (W.contents out.new)
-        (channel_text detail channel number placed.now bus.now)) }
+        (channel_text detail channel number bus.now)) }
 {
-    let shown = Shown {
-        detail,
-        number,
-        placed,
-    };
     writeln!(out, "channel {channel} number {number}")?;
-    print_terminals(out, &shown, bus)
+    print_terminals(out, detail, bus)
 }

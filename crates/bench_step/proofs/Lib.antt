@@ -6,3 +6,4 @@ pub mod Lines
 pub mod Ending
 pub mod GoingOn
 pub mod Determined
+pub mod Telling

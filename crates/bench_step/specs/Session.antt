@@ -1,5 +1,6 @@
 -- A session (own choice): lines, and what is replied to each of them, from the state that those before it left.
 use Rattle.std.specs.Prelude.{◌≡◌, ◌≢◌, ℕ, ◌+◌, ◌-◌, ◌<◌, ◌≤◌, ◌==◌, ◌⊎◌, Bool, true, false, not, List, [], ◌∷◌, ◌++◌}
+use Rattle.std.specs.Prelude.{length}
 use Rattle.std.specs.Prelude.{Option, None, Some, codes, decimal}
 use Rattle.std.specs.List.{flat_map, zip, list_any}
 use Rattle.text_lines.specs.Words.{Text}
@@ -34,7 +35,7 @@ use Rattle.bench_step.specs.declared.replies.Reply.TheVariants as reply
 abbrev pub job_text : Detail → ReplayState → JobState → ChannelPart → Text
 job_text detail s job part =
     let number = latest_kept_number s.found s.place job part in
-    channel_text detail job.channel number part.placed (bus_after (job_in job) part.placed number)
+    channel_text detail job.channel number (bus_after (job_in job) part.placed number)
 
 -- the lines of all channels, in the order of the jobs
 unfoldable pub state_text : Detail → ReplayState → Text
@@ -124,8 +125,10 @@ tells_message manner (reply.Message n) = true
 tells_message Typed (reply.At n) = not (n == 0)
 tells_message manner _ = false
 
--- the text of a message is that of a decoder, of which nothing is said here; there is none where no message is shown
+-- The text of a message is that of a decoder, of which is said here that there is some where the message was asked for;
+-- behind a move it may be left out, for want of memory. There is none where no message is shown.
 abbrev pub MayTell : Manner → Reply → Text → Type 0
+MayTell manner (reply.Message n) told = 0 < length told
 MayTell manner r told = tells_message manner r ≡ false → told ≡ []
 
 -- memory was refused

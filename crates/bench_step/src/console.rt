@@ -19,6 +19,7 @@ impl<'a, R: Read + IsTerminal + Drop, E: Eprint + IsTerminal> Prompted<'a, R, E>
         let at_terminal = lines.is_terminal() && errors.is_terminal();
         if at_terminal {
             let lines = commands();
+            // Nothing else is lost where standard error takes no more.
             let _ = eprint!(errors; "{lines}");
         }
         Prompted {
@@ -41,10 +42,12 @@ impl<'a, R: Read + IsTerminal + Drop, E: Eprint + IsTerminal> Prompted<'a, R, E>
 impl<R: Read + Drop, E: Eprint> Read for Prompted<'_, R, E> {
     fn read(&mut self, buf: &mut [u8]) -> io::Result<usize> {
         if self.at_terminal {
+            // Nothing else is lost where standard error takes no more.
             let _ = eprint!(self.errors; "step> ");
         }
         let read = self.lines.read(buf);
         if self.at_terminal && matches!(&read, Ok(0)) {
+            // Nothing else is lost where standard error takes no more.
             let _ = eprintln!(self.errors; "");
         }
         read

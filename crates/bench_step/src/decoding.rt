@@ -1,5 +1,8 @@
 //! Messages as people read them, one at a time.
-ghost use Rattle.bench_step.specs.Session.{MayTell};
+ghost use Rattle.bench_step.specs.Commands.{Asked};
+ghost use Rattle.bench_step.specs.Session.{MayTell, Replies, after_reply};
+ghost use Rattle.bench_step.specs.declared.replies.Reply.TheVariants.{Message};
+ghost use Rattle.replay.specs.Moves.{ReplayState};
 ghost use Rattle.std.specs.Prelude.{◌≡◌, []};
 
 use crate::manners::Manner;
@@ -8,6 +11,7 @@ use bench_decode::{Place, Shown, TextLine, write_message};
 use bench_places::number_in_channel;
 use ch11_layout::View;
 use ch11_reader::Index;
+use replay::ReplayError;
 use std::alloc::{AllocError, Global};
 
 /// How many bytes there is room for at first: more than a message takes as people read it.
@@ -57,18 +61,43 @@ impl Decoder {
     }
 
     /// Keeps the text of the message that is shown behind a reply, and none where none is: that which was asked for is
-    /// there already, and behind a move it is the message at its place, where lines are typed.
-    pub(crate) fn tell(&mut self, manner: Manner, index: &Index<'_>, reply: &Reply)
-        ensures { MayTell manner reply.now self.new.text.items }
+    /// there already, and behind a move it is the message at its place, where lines are typed. Answers the reply: want
+    /// of memory in the place of a message without a text.
+    pub(crate) fn tell(&mut self, manner: Manner, index: &Index<'_>, reply: Reply) -> Reply
+        ensures told { MayTell manner result self.new.text.items }
+        ensures lawful { (s : ReplayState) (what : Asked) → Replies s what reply → Replies s what result }
+        ensures after { (s : ReplayState) → after_reply result s ≡ after_reply reply s }
     {
         match (reply, manner) {
-            (Reply::Message(_), _) => {}
-            (Reply::At(place), Manner::Typed) if *place != 0 => {
-                if self.decode(index, *place).is_err() {
+            (Reply::Message(number), _) => self.message_or_memory(number),
+            (Reply::At(place), Manner::Typed) if place != 0 => {
+                if self.decode(index, place).is_err() {
                     self.clear();
                 }
+                Reply::At(place)
             }
-            _ => self.clear(),
+            _ => self.without_text(reply),
         }
+    }
+
+    /// A reply that shows no message.
+    fn without_text(&mut self, reply: Reply) -> Reply
+        ensures text { self.new.text.items ≡ [] }
+        ensures same { result ≡ reply }
+    {
+        self.clear();
+        reply
+    }
+
+    /// That a message is shown, where there is a text of it, else want of memory.
+    fn message_or_memory(&self, number: u64) -> Reply
+        ensures told { (manner : Manner) → MayTell manner result self.now.text.items }
+        ensures lawful { (s : ReplayState) (what : Asked) → Replies s what (Message number) → Replies s what result }
+        ensures after { (s : ReplayState) → after_reply result s ≡ s }
+    {
+        if self.text.is_empty() {
+            return Reply::Refused(ReplayError::Memory);
+        }
+        Reply::Message(number)
     }
 }

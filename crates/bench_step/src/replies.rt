@@ -80,7 +80,7 @@ impl Reply {
     }
 }
 
-/// Prints what the terminals of a channel hold, with the actions that its part of the report has.
+/// Prints what the terminals of a channel hold.
 fn print_job<W: Write>(
     out: &mut W,
     detail: Detail,
@@ -104,7 +104,6 @@ fn print_job<W: Write>(
         detail,
         replay.channel(index),
         machine.number(),
-        parts[index].placed(),
         machine.bus(),
     )
 }

@@ -165,7 +165,7 @@ impl<'a> Session<'a> {
         ensures manner { self.new.manner ≡ self.old.manner }
     {
         let reply = self.reply_to(alloc, line);
-        self.decoder.tell(self.manner, self.replay.index(), &reply);
+        let reply = self.decoder.tell(self.manner, self.replay.index(), reply);
         print_answer(out, &reply, &self.replay, self.report, &self.decoder.text)?;
         Ok(Answered {
             refused: reply.is_memory(),

@@ -51,6 +51,9 @@ are_fault_words word.Drop ws = is_some (two ws)
 are_fault_words word.Add ws = there (four ws) (λ w. is_some (sync_of w.2))
 are_fault_words word.Late ws = is_some (two ws)
 are_fault_words word.Mute ws = is_some (one ws)
+are_fault_words word.Early ws = is_some (two ws)
+are_fault_words word.Pause ws = is_some (three ws)
+are_fault_words word.Babble ws = is_some (three ws)
 
 -- the words behind the first of a line, whatever numbers they spell; an action is judged behind all numbers
 abbrev pub are_words_behind : Keyword → List Text → Bool

@@ -6,7 +6,8 @@ use Rattle.mil_word.specs.Fields.{highest_address, highest_put_up}
 use Rattle.mil_word.specs.declared.Sync.{Sync}
 use Rattle.mil_word.specs.declared.Sync.TheVariants.{CommandSync, DataSync}
 use Rattle.mil_line.specs.declared.faults.Fault.{Fault}
-use Rattle.mil_line.specs.declared.faults.Fault.TheVariants.{Mask, Drop, Add, Late, Mute}
+use Rattle.mil_line.specs.declared.faults.Fault.TheVariants.{Mask, Drop, Add, Late, Mute, Early}
+use Rattle.mil_line.specs.declared.faults.Fault.TheVariants.{Pause, Babble}
 use Rattle.job_file.specs.Options.{◌>>=◌}
 use Rattle.numerals.specs.Numerals.{data_word_of}
 use Rattle.job_file.specs.Numbers.{number_of, number_within, start_of, half_bits_of}
@@ -53,6 +54,9 @@ fault_word_of w =
     else if bytes_eq w (codes "add") then Some word.Add
     else if bytes_eq w (codes "late") then Some word.Late
     else if bytes_eq w (codes "mute") then Some word.Mute
+    else if bytes_eq w (codes "early") then Some word.Early
+    else if bytes_eq w (codes "pause") then Some word.Pause
+    else if bytes_eq w (codes "babble") then Some word.Babble
     else None
 
 -- command or data sync
@@ -92,7 +96,8 @@ two_numbers ws =
 unfoldable pub front : List Text → Option ((Text × Text × Text) × List Text)
 front ws = first ws >>= (λ a. first a.1 >>= (λ b. first b.1 >>= (λ c. Some ((a.0, b.0, c.0), c.1))))
 
--- `mask RUN INDEX HALF_BITS`, `drop RUN INDEX`, `add RUN INDEX c|d WORD`, `late RUN TICKS` and `mute RUN`
+-- `mask RUN INDEX HALF_BITS`, `drop RUN INDEX`, `add RUN INDEX c|d WORD`, `late RUN TICKS`, `mute RUN`,
+-- `early RUN TICKS`, `pause RUN INDEX TICKS` and `babble RUN COUNT WORD`
 unfoldable pub mask_in : List Text → Option Fault
 mask_in ws = three ws >>= (λ w. number_of w.0 >>=
     (λ run. number_of w.1 >>= (λ index. half_bits_of w.2 >>= (λ half_bits. Some (Mask run index half_bits)))))
@@ -103,12 +108,23 @@ add_in ws =
     (λ sync. number_of w.0 >>= (λ run. number_of w.1 >>= (λ index. data_word_of w.3 >>= (λ value.
     Some (Add run index (record { sync = sync; value = value })))))))
 
+unfoldable pub pause_in : List Text → Option Fault
+pause_in ws = three ws >>= (λ w. number_of w.0 >>=
+    (λ run. number_of w.1 >>= (λ index. number_of w.2 >>= (λ ticks. Some (Pause run index ticks)))))
+
+unfoldable pub babble_in : List Text → Option Fault
+babble_in ws = three ws >>= (λ w. number_of w.0 >>=
+    (λ run. number_of w.1 >>= (λ count. data_word_of w.2 >>= (λ value. Some (Babble run count value)))))
+
 unfoldable pub fault_of : FaultWord → List Text → Option Fault
 fault_of word.Mask ws = mask_in ws
 fault_of word.Drop ws = two_numbers ws >>= (λ n. Some (Drop n.0 n.1))
 fault_of word.Add ws = add_in ws
 fault_of word.Late ws = two_numbers ws >>= (λ n. Some (Late n.0 n.1))
 fault_of word.Mute ws = one ws >>= (λ w. number_of w >>= (λ run. Some (Mute run)))
+fault_of word.Early ws = two_numbers ws >>= (λ n. Some (Early n.0 n.1))
+fault_of word.Pause ws = pause_in ws
+fault_of word.Babble ws = babble_in ws
 
 -- what stands behind the first word of a line
 

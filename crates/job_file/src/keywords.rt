@@ -5,7 +5,7 @@ ghost use Rattle.std.specs.Prelude.{◌≡◌, IfErr};
 ghost use Rattle.text_lines.specs.Readings.{IsOkOption};
 
 use crate::error::LineFault;
-use FaultWord::{Add, Drop, Late, Mask, Mute};
+use FaultWord::{Add, Babble, Drop, Early, Late, Mask, Mute, Pause};
 use Keyword::{At, Channel, Fault, Faults, Script, Series, Start, Terminal};
 use mil_word::Sync;
 use text_lines::meaning;
@@ -31,6 +31,9 @@ pub enum FaultWord {
     Add,
     Late,
     Mute,
+    Early,
+    Pause,
+    Babble,
 }
 
 /// The first words of lines.
@@ -46,12 +49,15 @@ const KEYWORDS: [(&[u8], Keyword); 8] = [
 ];
 
 /// The words for kinds of planned faults.
-const FAULT_WORDS: [(&[u8], FaultWord); 5] = [
+const FAULT_WORDS: [(&[u8], FaultWord); 8] = [
     (b"mask", Mask),
     (b"drop", Drop),
     (b"add", Add),
     (b"late", Late),
     (b"mute", Mute),
+    (b"early", Early),
+    (b"pause", Pause),
+    (b"babble", Babble),
 ];
 
 /// The letters of the syncs.

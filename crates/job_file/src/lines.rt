@@ -175,6 +175,32 @@ fn added(text: &[u8]) -> Result<Fault, LineFault>
     })
 }
 
+#[tactic(auto, unfolding(crate::specs::Lines::pause_in))]
+fn pause(text: &[u8]) -> Result<Fault, LineFault>
+    ensures value { IsOkOption (λ f. f) result (lines.pause_in (words text.now)) }
+    ensures words { IsFaultOfWords result (are_fault_words kinds.Pause (words text.now)) }
+{
+    let (run, index, ticks) = three_words(text)?;
+    Ok(Fault::Pause {
+        run: number(run)?,
+        index: number(index)?,
+        ticks: number(ticks)?,
+    })
+}
+
+#[tactic(auto, unfolding(crate::specs::Lines::babble_in))]
+fn babble(text: &[u8]) -> Result<Fault, LineFault>
+    ensures value { IsOkOption (λ f. f) result (lines.babble_in (words text.now)) }
+    ensures words { IsFaultOfWords result (are_fault_words kinds.Babble (words text.now)) }
+{
+    let (run, count, word) = three_words(text)?;
+    Ok(Fault::Babble {
+        run: number(run)?,
+        count: number(count)?,
+        word: data_word(word)?,
+    })
+}
+
 #[tactic(auto, unfolding(crate::specs::Lines::fault_of))]
 fn fault_named(kind: FaultWord, text: &[u8]) -> Result<Fault, LineFault>
     ensures value { IsOkOption (λ f. f) result (lines.fault_of kind (words text.now)) }
@@ -195,6 +221,12 @@ fn fault_named(kind: FaultWord, text: &[u8]) -> Result<Fault, LineFault>
             let run = number(one_word(text)?)?;
             Ok(Fault::Mute { run })
         }
+        FaultWord::Early => {
+            let (run, ticks) = two_numbers(text)?;
+            Ok(Fault::Early { run, ticks })
+        }
+        FaultWord::Pause => pause(text),
+        FaultWord::Babble => babble(text),
     }
 }
 

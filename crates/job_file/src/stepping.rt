@@ -37,6 +37,7 @@ pub fn next_record(machine: &mut Machine) -> Option<Record>
     ensures same { IfNone result (machine.new.point.number ≡ machine.old.point.number) }
     ensures halted { IfNone result (turn_of machine.new ≡ halted) }
 {
+    // The laws of a job's records, for the proofs.
     job_runs();
     'steps: loop {
         match machine.step() {

@@ -14,7 +14,7 @@ use Rattle.ch11_reader.specs.Listing.{listing, listing_behind}
 use Rattle.bench_report.specs.Reports.{ChannelPart}
 use Rattle.replay.specs.declared.error.ReplayError.{ReplayError}
 use Rattle.replay.specs.declared.error.ReplayError.TheVariants as error
-use Rattle.replay.specs.Accord.{is_one, AreOfChannels, AgreesOn}
+use Rattle.replay.specs.Accord.{reported, is_one, AreOfChannels, AgreesOn}
 use Rattle.replay.specs.Differences.{IsWrongChannel, IsStranger}
 use Rattle.replay.specs.Places.{heard_channels}
 use Rattle.replay.specs.Tracks.{Pair, jobs_in, parts_in}
@@ -151,6 +151,14 @@ pub jobs_next : (jobs : List JobState) (i : ℕ) (job : JobState) (pairs more : 
 jobs_next jobs i job pairs more p is less job_is pushed same =
     ap jobs_in pushed ∙ map-append (λ (q : Pair). q.job) pairs (p ∷ [])
     ∙ ap (λ (js : List JobState). js ++ p.job ∷ []) is ∙ ap (λ (j : JobState). take i jobs ++ j ∷ []) (same ∙ job_is) ∙ sym (take_more jobs i job less)
+
+-- the channels of parts, one more
+pub reported_next : (parts : List ChannelPart) (i : ℕ) (part : ChannelPart) (channels more : List ℕ) (channel : ℕ) → channels ≡ reported (take i parts) → i < length parts → part ≡ get_or parts i part
+    → more ≡ channels ++ channel ∷ [] → channel ≡ part.channel → more ≡ reported (take (i + 1) parts)
+reported_next parts i part channels more channel is less part_is pushed same =
+    pushed ∙ ap (λ (cs : List ℕ). cs ++ channel ∷ []) is ∙ ap (λ (k : ℕ). reported (take i parts) ++ k ∷ []) same
+    ∙ sym (map-append (λ (p : ChannelPart). p.channel) (take i parts) (part ∷ []))
+    ∙ ap reported (ap (λ (v : ChannelPart). take i parts ++ v ∷ []) part_is ∙ sym (take_more parts i part less))
 
 pub parts_next : (parts : List ChannelPart) (i : ℕ) (part : ChannelPart) (pairs more : List Pair) (p : Pair) → parts_in pairs ≡ take i parts → i < length parts → part ≡ get_or parts i part
     → more ≡ pairs ++ p ∷ [] → p.part ≡ part → parts_in more ≡ take (i + 1) parts

@@ -35,7 +35,11 @@ fn channels_of(alloc: Global, jobs: &[Job]) -> Result<Vec<u16>, AllocError>
 fn reported(alloc: Global, parts: &[ChannelReport]) -> Result<Vec<u16>, AllocError>
     ensures { IfOk result (λ v. v.items ≡ reported parts.now) }
 {
-    parts.iter().map(|part| part.channel()).collect(alloc)
+    let mut channels = Vec::with_capacity(alloc, parts.len())?;
+    for part in parts {
+        channels.push(part.channel())?;
+    }
+    Ok(channels)
 }
 
 /// Where the channels of jobs and report differ first: the job's, or the report's where no job is left.

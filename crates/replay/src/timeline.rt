@@ -64,6 +64,7 @@ fn turn(recent: &mut HeapCircularBuffer<Stop>, place: usize, found: Option<Stop>
     if stop.place == place {
         return Some(stop);
     }
+    // Where there are 32 the oldest goes.
     let _ = recent.push_back(stop);
     found
 }
@@ -79,6 +80,7 @@ fn renew(recent: &mut HeapCircularBuffer<Stop>, place: usize)
         found = turn(recent, place, found);
     }
     if let Some(stop) = found {
+        // Where there are 32 the oldest goes.
         let _ = recent.push_back(stop);
     }
 }
@@ -106,6 +108,7 @@ fn note(recent: &mut HeapCircularBuffer<Stop>, place: usize, saved: Option<Stop>
 {
     match saved {
         Some(stop) => {
+            // Where there are 32 the oldest goes.
             let _ = recent.push_back(stop);
         }
         None => renew(recent, place),

@@ -91,6 +91,7 @@ impl Track {
         ensures { IsLast self.now.job self.now.part
             (last_number (take heard (kept_in self.now.job self.now.part))) result }
     {
+        // The laws of a job's records, for the proofs.
         job_runs();
         self.marks[heard].last
     }
@@ -103,8 +104,10 @@ impl Track {
         requires made { number ≤ length (played self.now.job self.now.part) }
         ensures { IsThere self.now.job self.now.part number machine.new }
     {
+        // A job's script is sound by its type.
         let _sound = self.channel;
         for _number in machine.number()..number {
+            // Its record was compared before.
             let _ = next_record(machine);
         }
     }
@@ -128,7 +131,9 @@ impl Track {
         ensures { (number : ℕ) → IsThere self.now.job self.now.part number standing.now.machine
             → IsAfter self.now.job self.now.part number result.now }
     {
+        // The laws of a job's records, for the proofs.
         job_runs();
+        // A job's script is sound by its type.
         let _sound = self.channel;
         &standing.machine
     }

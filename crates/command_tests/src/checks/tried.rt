@@ -72,6 +72,36 @@ nothing looks like a mistake
 queue 4: with room for so many nothing of this job is refused
 ";
 
+/// An early reply, a pause before a word that comes and before one that does not, and a sender that goes on. A message
+/// has three words, 2.0 µs behind the one before, or 16.0 where that failed; the first reply comes 5.0 µs sooner than
+/// at first, the pause is 0.1 long, and three words more take 60.0.
+const IRREGULAR: &str = "channel 1
+terminal 5
+fault 1 early 1 30
+fault 2 pause 1 1 21
+fault 3 babble 1 3 00ab
+fault 4 pause 0 2 30
+script
+repeat 4 { send A tx 5 1 1 }
+";
+
+const IRREGULAR_LINES: &str = "message 1 at 0.0 us: send A tx 5 1 1
+  fault 1 early 1 30
+  status 2800, block clear
+message 2 at 63.0 us: send A tx 5 1 1
+  fault 2 pause 1 1 21
+  status 2800, block message_error format_error
+message 3 at 145.1 us: send A tx 5 1 1
+  fault 3 babble 1 3 00AB
+  status 2800, block message_error word_count_error
+message 4 at 287.1 us: send A tx 5 1 1
+  fault 4 pause 0 2 30 meets nothing
+  status 2800, block clear
+probably a mistake:
+  fault 4 pause 0 2 30 meets nothing: message 4 has no such run or word
+queue 5: with room for so many nothing of this job is refused
+";
+
 /// A subaddress that was never filled, one that wraps around and one that is filled in time; and an illegal command,
 /// which is answered with the message error bit and not sent again.
 const ODD: &str = "channel 1
@@ -263,10 +293,11 @@ const STRICT_SUMMARY: Way = Way {
 /// A job, how it is checked, what is printed, how much room it needs and whether anything is probably a mistake.
 type Row = (&'static str, Way, &'static str, u64, bool);
 
-const ROWS: [Row; 8] = [
+const ROWS: [Row; 9] = [
     (MISTAKEN, DIGITS, MISTAKES, 3, true),
     (TRANSFER, DIGITS, TRANSFERRED, 3, false),
     (FAULTY, DIGITS, FAULTED, 4, false),
+    (IRREGULAR, DIGITS, IRREGULAR_LINES, 5, true),
     (ODD, SUMMARY, ODDITIES, 6, true),
     (REPEATED, NAMES, REPEATED_NAMES, 3, false),
     (REPEATED, SUMMARY, REPEATED_SUMMARY, 3, false),

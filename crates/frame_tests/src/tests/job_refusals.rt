@@ -69,6 +69,38 @@ const ACTIONS: &[Told] = &[
     ),
 ];
 
+/// Faults of planned early replies, pauses and senders that go on.
+const IRREGULAR: &[Told] = &[
+    ("fault 1 early 1", "J1 line 1"),
+    ("fault 1 early 1 30 30", "J1 line 1"),
+    ("fault 1 early 1 x", "J2 line 1"),
+    ("fault 1 early 0 30", "J6 line 1 L2"),
+    ("fault 1 early 3 30", "J6 line 1 L2"),
+    ("fault 1 early 1 20", "J6 line 1 L2"),
+    ("fault 1 early 1 40", "J6 line 1 L2"),
+    ("fault 1 early 2 21\nfault 1 early 1 39", "J3 line 3"),
+    ("fault 1 pause 0 1", "J1 line 1"),
+    ("fault 1 pause 0 1 60 1", "J1 line 1"),
+    ("fault 1 pause 0 x 60", "J2 line 1"),
+    ("fault 1 pause 0 0 60", "J6 line 1 L2"),
+    ("fault 1 pause 0 40 60", "J6 line 1 L2"),
+    ("fault 1 pause 3 1 60", "J6 line 1 L2"),
+    ("fault 1 pause 0 1 20", "J6 line 1 L2"),
+    ("fault 1 pause 0 1 256", "J6 line 1 L2"),
+    ("fault 1 pause 0 1 21\nfault 1 pause 2 39 255", "J3 line 3"),
+    ("fault 1 babble 1 3", "J1 line 1"),
+    ("fault 1 babble 1 3 d 0000", "J1 line 1"),
+    ("fault 1 babble 1 3 000", "J2 line 1"),
+    ("fault 1 babble 1 0 0000", "J6 line 1 L2"),
+    ("fault 1 babble 1 41 0000", "J6 line 1 L2"),
+    ("fault 1 babble 3 1 0000", "J6 line 1 L2"),
+    (
+        "fault 1 babble 0 1 ffff\nfault 1 babble 2 40 0000",
+        "J3 line 3",
+    ),
+    ("faults 1 9 2 pause 0 0 60", "J6 line 1 L2"),
+];
+
 /// Faults of scripts.
 const SCRIPTS: &[Told] = &[
     (
@@ -106,7 +138,7 @@ fn each_fault(rt: &impl Abort, alloc: Global, table: &[Told]) {
 
 #[test]
 fn texts_at_fault(rt: HostRuntime) {
-    for table in [LINES, ACTIONS, SCRIPTS, REFUSED] {
+    for table in [LINES, ACTIONS, IRREGULAR, SCRIPTS, REFUSED] {
         each_fault(&rt, rt.alloc(), table);
     }
 }

@@ -1,9 +1,6 @@
 use Rattle.std.proofs.Common.{◌≡◌, ℕ, zero, suc, List, ◌++◌, refl, ap, sym, ◌∙◌, subst, arith, length}
-use Rattle.std.specs.Prelude.{slice_get, Some}
 use Rattle.mil_bus.specs.Actions.{station_of}
 use Rattle.mil_bus.specs.Exchange.{BusState, played}
-use Rattle.bc_machine.specs.declared.placed.Placed.{Placed}
-use Rattle.bench_report.specs.Reports.{ChannelPart}
 use Rattle.replay.specs.Places.{latest_kept_number}
 use Rattle.bench_state.specs.declared.details.Detail.{Detail}
 use Rattle.bench_state.specs.StateText.{channel_text, channel_line, terminal_lines, lines_below, station_text}
@@ -11,17 +8,17 @@ use Rattle.bench_step.proofs.Pairs.{read_part, no_part}
 use Rattle.bench_step.proofs.replies.print_job.Goals as goal
 
 -- what is told of a bus is of what was played on it
-module _ (detail : Detail) (number : ℕ) (placed : List Placed) (b : BusState) where
-  below_played : (address : ℕ) → lines_below detail number placed address b ≡ lines_below detail number placed address (played b)
+module _ (detail : Detail) (b : BusState) where
+  below_played : (address : ℕ) → lines_below detail address b ≡ lines_below detail address (played b)
   below_played zero = refl
-  below_played (suc address) = ap (λ lines. lines ++ station_text detail number placed (station_of address b.stations)) (below_played address)
+  below_played (suc address) = ap (λ lines. lines ++ station_text detail (station_of address b.stations)) (below_played address)
 
-  lines_played : terminal_lines detail number placed b ≡ terminal_lines detail number placed (played b)
+  lines_played : terminal_lines detail b ≡ terminal_lines detail (played b)
   unfolding terminal_lines
   lines_played = below_played 31
 
-  played_text : (channel : ℕ) → channel_text detail channel number placed b ≡ channel_text detail channel number placed (played b)
-  played_text channel = ap (λ lines. channel_line channel number ++ lines) lines_played
+  played_text : (channel number : ℕ) → channel_text detail channel number b ≡ channel_text detail channel number (played b)
+  played_text channel number = ap (λ lines. channel_line channel number ++ lines) lines_played
 
 pub returns-then-index-parts : goal.returns-then-index-parts
 returns-then-index-parts g c job part job_there part_there =
@@ -29,18 +26,12 @@ returns-then-index-parts g c job part job_there part_there =
 
 pub returns : goal.returns
 returns g c job part job_there part_there =
-    let is : c.index-parts-index.result ≡ part =
-    c.index-parts-index.is
-    ∙ read_part c.channels-parts.result.now c.args.index c.index-parts-index.result part
-    (ap (λ (ps : List ChannelPart). slice_get ps c.args.index) (c.channels-parts.ensures.value ∙ c.requires.report) ∙ part_there) in
     let s = c.args.replay.now.state in
     let number : ℕ = latest_kept_number s.found s.place job part in
     rw (
       c.number.ensures.value,
       c.bus.ensures.value,
-      c.placed.ensures.value,
-      is,
       c.channel.ensures job job_there,
       c.state-machine.ensures.number job part job_there part_there,
-      played_text c.args.detail number part.placed c.state-machine.result.now.point.state job.channel ∙ ap (channel_text c.args.detail job.channel number part.placed) (c.state-machine.ensures.bus job part job_there part_there),
+      played_text c.args.detail c.state-machine.result.now.point.state job.channel number ∙ ap (channel_text c.args.detail job.channel number) (c.state-machine.ensures.bus job part job_there part_there),
     ) at c.print_channel.ensures
