@@ -1,3 +1,4 @@
 pub mod Lines
+pub mod Paces
 pub mod Posting
 pub mod Telling

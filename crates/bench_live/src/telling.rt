@@ -49,10 +49,12 @@ pub(crate) fn post_all<R: Wait + Clock, E: Eprint, B: BufRead + Drop>(
     for _ in rt.forever() {
         match next_fault(rt, alloc, desk, &mut hands, &mut input, &mut number) {
             Ok(Some(told)) => {
+                // Nothing else is lost where standard error takes no more.
                 let _ = eprintln!(errors; "bench: {told}");
             }
             Ok(None) => return,
             Err(error) => {
+                // Nothing else is lost where standard error takes no more.
                 let _ = eprintln!(errors; "bench: reading the standard input: {error}");
                 return;
             }

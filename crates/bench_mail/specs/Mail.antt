@@ -32,6 +32,10 @@ posted p = sent p.ticket
 abbrev pub received_by : Inbox → List Post
 received_by i = received i.taker
 
+-- how often nothing was there to receive with the inbox; the count stops at 2^64 - 1
+abbrev pub times_empty : Inbox → ℕ
+times_empty i = i.empty
+
 -- the poster is one of this mailbox
 abbrev pub IsPosterOf : Mailbox → Poster → Type 0
 IsPosterOf box p = IsTicketOf box.trunk p.ticket

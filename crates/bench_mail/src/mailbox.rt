@@ -1,12 +1,13 @@
 //! Mailboxes: while a channel runs, hosts post actions for its terminals.
 ghost use Rattle.bench_mail.specs.Mail.{hosts_of, limits_of, posted, received_by, IsPosterOf, IsInboxOf, room_of};
-ghost use Rattle.bench_mail.specs.Mail.{stands_in, IsMadeFor, Returns};
+ghost use Rattle.bench_mail.specs.Mail.{stands_in, times_empty, IsMadeFor, Returns};
 ghost use Rattle.bench_mail.specs.Posts.{host_of};
 ghost use Rattle.mil_trunk.specs.Ends.{IsCapacity};
 ghost use Rattle.mil_trunk.specs.Tags.{has, bound_of, Includes};
 ghost use Rattle.mil_trunk.specs.Views.{with_tag, inside, outside};
 ghost use Rattle.std.specs.Prelude.{IfOk, OnOk, IfErr, IfSome, IfNone, IsTrue};
-ghost use Rattle.std.specs.Prelude.{◌≡◌, ◌<◌, ◌+◌, ◌^◌, ◌↔◌, ◌⊎◌, ◌++◌, ◌∷◌, [], ℕ, true, length, not, ◌&&◌, ◌||◌, Err};
+ghost use Rattle.std.specs.Prelude.{◌≡◌, ◌<◌, ◌+◌, ◌-◌, ◌^◌, ◌↔◌, ◌⊎◌, ◌++◌, ◌∷◌, [], ℕ, true, length, min};
+ghost use Rattle.std.specs.Prelude.{not, ◌&&◌, ◌||◌, Err};
 
 use crate::error::{MailError, PostError};
 use job_file::Job;
@@ -52,11 +53,12 @@ pub struct Poster {
     ticket: Ticket<Post>,
 }
 
-/// The right to receive what is posted. It has no bytes: the list of what was received with it is known to contracts
-/// alone.
+/// The right to receive what is posted, and how often nothing was there to receive. The list of what was received with
+/// it is known to contracts alone.
 #[derive(Drop)]
 pub struct Inbox {
     taker: Taker<Post>,
+    empty: u64,
 }
 
 /// Each host posts at most 2^55 actions (own choice), far more than any run takes.
@@ -97,7 +99,7 @@ impl Mailbox {
                     addresses,
                 },
                 Poster { ticket },
-                Inbox { taker },
+                Inbox { taker, empty: 0 },
             )),
             Err(TrunkError::Capacity | TrunkError::Memory) => Err(MailError::Memory),
         }
@@ -169,14 +171,20 @@ impl Mailbox {
         }
     }
 
-    /// Receives the post at the front, if there is one.
+    /// Receives the post at the front, if there is one; where there is none, the inbox counts once more.
     pub fn take<R: Wait>(&self, rt: &R, inbox: &mut Inbox) -> Option<Post>
         requires inbox { IsInboxOf self.now inbox.old }
         ensures inbox { IsInboxOf self.now inbox.new }
         ensures taken { IfSome result (λ post. received_by inbox.new ≡ received_by inbox.old ++ post ∷ []) }
         ensures none { IfNone result (received_by inbox.new ≡ received_by inbox.old) }
+        ensures counted { IfNone result (times_empty inbox.new ≡ min (times_empty inbox.old + 1) (2 ^ 64 - 1)) }
+        ensures not_counted { IfSome result (λ _. times_empty inbox.new ≡ times_empty inbox.old) }
     {
-        self.trunk.take(rt, &mut inbox.taker)
+        let taken = self.trunk.take(rt, &mut inbox.taker);
+        if taken.is_none() {
+            inbox.empty = inbox.empty.saturating_add(1);
+        }
+        taken
     }
 
     /// Whether it was made for the channel and the terminals of a job.
@@ -202,13 +210,14 @@ impl Mailbox {
         ensures posted { posted result.0 ≡ posted poster }
         ensures taken { IfSome result.2 (λ post. received_by result.1 ≡ received_by inbox ++ post ∷ []) }
         ensures none { IfNone result.2 (received_by result.1 ≡ received_by inbox) }
+        ensures not_counted { times_empty result.1 ≡ times_empty inbox }
         ensures settled { IfNone result.2
             ((host : ℕ) → host < 64
             → with_tag host_of host (posted result.0) ≡ with_tag host_of host (received_by result.1)) }
     {
         let Poster { ticket } = poster;
-        let Inbox { taker } = inbox;
+        let Inbox { taker, empty } = inbox;
         let (ticket, taker, post) = self.trunk.settle(rt, ticket, taker);
-        (Poster { ticket }, Inbox { taker }, post)
+        (Poster { ticket }, Inbox { taker, empty }, post)
     }
 }

@@ -19,7 +19,7 @@ use Rattle.bench_run.specs.declared.threads.Joined.{Joined}
 use Rattle.bench_run.specs.Entries.{index_of, entries_to_the_end}
 use Rattle.bench_run.specs.Runs.{ArePairs, records_of, most_in_all, others_than}
 use Rattle.job_file.specs.Rooms.{most_items}
-use Rattle.bench_mail.specs.Mail.{received_by, IsInboxOf}
+use Rattle.bench_mail.specs.Mail.{IsInboxOf}
 use Rattle.bench_run.specs.Live.{with_posts, LiveChannel, live_job, ArePlaced, AreLive, AreInboxesOf}
 use Rattle.bench_run.specs.Threads.{IsThreadReport, IsCountedIn, AreEnded}
 use Rattle.bench_run.specs.Ending.{IsAll, IsAllLive}
@@ -120,7 +120,7 @@ row_at P (c ∷ rows) (suc k) live part at at' each = row_at P rows k live part 
 module _ (capacity queue most : ℕ) (jobs : List JobState) (boxes : List Mailbox) (before : List Inbox) (joined : List Joined) (sent got : List Entry) (bounds : List ℕ) where
   abbrev IsOfRow : ℕ → LiveChannel → Type 0
   IsOfRow k c =
-      ArePlaced most c.part.made (received_by c.before) (received_by c.after) c.posts × IsThreadReport capacity (most_in_all (others_than c.job.channel jobs)) (live_job c) c.part
+      ArePlaced most c.part.made c.before c.after c.posts × IsThreadReport capacity (most_in_all (others_than c.job.channel jobs)) (live_job c) c.part
       × (with_tag index_of k sent ≡ entries_to_the_end k (kept_records c.part.refused (records_of (live_job c))))
 
   pub all_live : capacity ≡ queue → length jobs ≤ 32 → bounds ≡ map most_items jobs → length boxes ≡ length jobs → length before ≡ length jobs → length joined ≡ length jobs
@@ -151,7 +151,7 @@ module _ (capacity queue most : ℕ) (jobs : List JobState) (boxes : List Mailbo
           after_are = has.after_are;
           parts_are = has.parts_are;
           lives_are = refl;
-          placed = all_of (λ (c : LiveChannel). ArePlaced most c.part.made (received_by c.before) (received_by c.after) c.posts) has.rows (λ k c at. (has.each k c at).0);
+          placed = all_of (λ (c : LiveChannel). ArePlaced most c.part.made c.before c.after c.posts) has.rows (λ k c at. (has.each k c at).0);
         };
         all = subst (λ (ps : List ChannelPart). IsAll queue lives ps got) has.parts_are all;
       }
@@ -200,7 +200,7 @@ module _ (most : ℕ) (jobs : List JobState) (before after : List Inbox) (parts 
   }
 
 -- where no post may be taken, they are the jobs
-no_posts_in : (c : LiveChannel) → ArePlaced 0 c.part.made (received_by c.before) (received_by c.after) c.posts → live_job c ≡ c.job
+no_posts_in : (c : LiveChannel) → ArePlaced 0 c.part.made c.before c.after c.posts → live_job c ≡ c.job
 no_posts_in c is =
     let none : c.posts ≡ [] = empty c.posts (few_placed c.posts is.got is.first) is.few in
     ap (λ ps. with_posts c.job ps) none ∙ ap (λ acts. record { channel = c.job.channel; start = c.job.start; addresses = c.job.addresses; actions = acts; plan = c.job.plan; script = c.job.script }) (append-nil c.job.actions)
@@ -209,7 +209,7 @@ no_posts_in c is =
     empty [] low none = refl
     empty (p ∷ ps) low none = absurd (omega (arith, low, none))
 
-same_rows : (rows : List LiveChannel) → AllByRecursion (λ (c : LiveChannel). ArePlaced 0 c.part.made (received_by c.before) (received_by c.after) c.posts) rows → lives_in rows ≡ jobs_in rows
+same_rows : (rows : List LiveChannel) → AllByRecursion (λ (c : LiveChannel). ArePlaced 0 c.part.made c.before c.after c.posts) rows → lives_in rows ≡ jobs_in rows
 same_rows [] all = refl
 same_rows (c ∷ rows) all = cong_cons (no_posts_in c all.0) (same_rows rows all.1)
   where

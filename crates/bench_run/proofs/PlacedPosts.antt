@@ -1,5 +1,5 @@
 -- Posts that a channel's thread places, one more at a time.
-use Rattle.std.proofs.Common.{◌≡◌, ℕ, zero, suc, ◌+◌, ◌<◌, ◌≤◌, List, [], ◌∷◌, ◌++◌, length, map, take, append-nil, refl, sym, ap, ◌∙◌, subst, arith}
+use Rattle.std.proofs.Common.{◌≡◌, ℕ, zero, suc, ◌+◌, ◌-◌, ◌^◌, ◌<◌, ◌≤◌, List, [], ◌∷◌, ◌++◌, length, map, take, append-nil, refl, sym, ap, ◌∙◌, subst, arith}
 use Rattle.std.specs.List.{AllByRecursion}
 use Rattle.std.proofs.lemmas.List.{map-append, length-append, length-map, append_assoc}
 use Rattle.bc_machine.specs.declared.placed.Placed.{Placed}
@@ -13,7 +13,8 @@ use Rattle.bench_report.specs.Reports.{NeverFalls}
 use Rattle.bench_settings.specs.Placing.{placed_up_to}
 use Rattle.bench_mail.specs.declared.mailbox.Post.{Post}
 use Rattle.bench_run.specs.declared.posting.Posts.{Posts}
-use Rattle.bench_mail.specs.Mail.{received_by}
+use Rattle.bench_mail.specs.declared.mailbox.Inbox.{Inbox}
+use Rattle.bench_mail.specs.Mail.{received_by, times_empty}
 use Rattle.bench_run.specs.Live.{asked_by, asked_at, ArePlaced}
 use Rattle.bench_run.specs.Posted.{IsPosted}
 use Rattle.bench_run.proofs.Offering.{all_more}
@@ -59,14 +60,14 @@ with_more_room job placed m x count is under_way of = record {
   under_way = under_way;
 }
 
-module _ (most : ℕ) (before : List Post) (job : JobState) where
+module _ (most : ℕ) (before : Inbox) (job : JobState) where
   -- a post was received and placed at the next message
   pub one_placed : (m m' : MachineState) (p p' : Posts) (x : Post) → IsPosted most before job m p → 0 < p.left → p'.left + 1 ≡ p.left
-      → received_by p'.inbox ≡ received_by p.inbox ++ x ∷ []
+      → received_by p'.inbox ≡ received_by p.inbox ++ x ∷ [] → times_empty p'.inbox ≡ times_empty p.inbox
       → m' ≡ with_placed m (m.placed ++ at_next m x.address x.action ∷ []) → IsUnderWay m'
       → ((actions : List Placed) → p.ordered.actions ≡ placed_up_to 1000000 actions → p'.ordered.actions ≡ placed_up_to 1000000 (actions ++ at_next m x.address x.action ∷ []))
       → IsPosted most before job m' p'
-  one_placed m m' p p' x is some less received moved under_way listed =
+  one_placed m m' p p' x is some less received times moved under_way listed =
       let y : Placed = at_next m x.address x.action in
       let same = is.all some in
       let grown : (job.actions ++ is.posts) ++ y ∷ [] ≡ job.actions ++ (is.posts ++ y ∷ []) = append_assoc job.actions is.posts (y ∷ []) in
@@ -78,11 +79,14 @@ module _ (most : ℕ) (before : List Post) (job : JobState) where
       record {
         posts = is.posts ++ y ∷ [];
         got = is.got ++ x ∷ [];
-        received = received ∙ ap (λ l. l ++ x ∷ []) is.received ∙ append_assoc before is.got (x ∷ []);
+        received = received ∙ ap (λ l. l ++ x ∷ []) is.received ∙ append_assoc (received_by before) is.got (x ∷ []);
         few = omega (arith, is.few, less, length-append is.got (x ∷ []));
         first = map-append asked_at is.posts (y ∷ []) ∙ ap (λ l. l ++ asked_at y ∷ []) all_asked ∙ sym (map-append asked_by is.got (x ∷ []))
             ∙ sym (take_length (length (is.posts ++ y ∷ [])) (map asked_by (is.got ++ x ∷ [])) (sym more));
         all = λ left. omega (arith, same, length-append is.posts (y ∷ []), length-append is.got (x ∷ []));
+        rest = λ _. omega (arith, is.rest same, less, length-append is.got (x ∷ []));
+        nearly_all = omega (arith, same, length-append is.posts (y ∷ []), length-append is.got (x ∷ []));
+        emptied = λ _ low. let before_that = is.emptied some (omega (arith, low, times)) in omega (arith, before_that, number, times);
         order = order_more 1 is.posts y (omega arith) is.order is.latest;
         latest = subst (λ n. AllByRecursion (λ q. q.number ≤ n + 1) (is.posts ++ y ∷ [])) (sym number) (all_more (λ q. q.number ≤ m.point.number + 1) is.posts y is.latest (omega arith));
         of = record {
@@ -101,11 +105,14 @@ module _ (most : ℕ) (before : List Post) (job : JobState) where
   one_lost m m' p p' x is some none received same listed = subst (λ (z : MachineState). IsPosted most before job z p') (sym same) (record {
     posts = is.posts;
     got = is.got ++ x ∷ [];
-    received = received ∙ ap (λ l. l ++ x ∷ []) is.received ∙ append_assoc before is.got (x ∷ []);
+    received = received ∙ ap (λ l. l ++ x ∷ []) is.received ∙ append_assoc (received_by before) is.got (x ∷ []);
     few = omega (arith, is.few, some, none, length-append is.got (x ∷ []));
     first = is.first ∙ sym (ap (take (length is.posts)) (map-append asked_by is.got (x ∷ []))
         ∙ take_within (length is.posts) (map asked_by is.got) (asked_by x ∷ []) (omega (arith, few_placed is.posts is.got is.first, length-map is.got asked_by)));
     all = λ left. absurd (omega (arith, left, none));
+    rest = λ even. absurd (omega (arith, even, is.all some, length-append is.got (x ∷ [])));
+    nearly_all = omega (arith, is.all some, length-append is.got (x ∷ []));
+    emptied = λ left low. absurd (omega (arith, left, none));
     order = is.order;
     latest = is.latest;
     of = is.of;
@@ -114,14 +121,17 @@ module _ (most : ℕ) (before : List Post) (job : JobState) where
 
   -- nothing was received
   pub none_received : (m : MachineState) (p p' : Posts) → IsPosted most before job m p → p'.left ≡ p.left → received_by p'.inbox ≡ received_by p.inbox
-      → p'.ordered.actions ≡ p.ordered.actions → IsPosted most before job m p'
-  none_received m p p' is left received listed = record {
+      → times_empty p.inbox ≤ times_empty p'.inbox → p'.ordered.actions ≡ p.ordered.actions → IsPosted most before job m p'
+  none_received m p p' is left received times listed = record {
     posts = is.posts;
     got = is.got;
     received = received ∙ is.received;
     few = omega (arith, is.few, left);
     first = is.first;
     all = λ some. is.all (omega (arith, some, left));
+    rest = λ even. omega (arith, is.rest even, left);
+    nearly_all = is.nearly_all;
+    emptied = λ some low. let before_that = is.emptied (omega (arith, some, left)) (omega (arith, low, times)) in omega (arith, before_that, times);
     order = is.order;
     latest = is.latest;
     of = is.of;
@@ -130,14 +140,17 @@ module _ (most : ℕ) (before : List Post) (job : JobState) where
 
   -- the controller went on
   unfoldable pub posted_on : (m m' : MachineState) (p : Posts) (is : IsPosted most before job m p) → m.point.number ≤ m'.point.number → IsOf (job_in job) (job.actions ++ is.posts) m'
-      → IsPosted most before job m' p
-  posted_on m m' p is up of = record {
+      → (0 < p.left → times_empty p.inbox < 2 ^ 64 - 1 → times_empty before + m'.point.number ≤ times_empty p.inbox) → IsPosted most before job m' p
+  posted_on m m' p is up of emptied = record {
     posts = is.posts;
     got = is.got;
     received = is.received;
     few = is.few;
     first = is.first;
     all = is.all;
+    rest = is.rest;
+    nearly_all = is.nearly_all;
+    emptied = emptied;
     order = is.order;
     latest = later (m.point.number + 1) (m'.point.number + 1) is.posts (omega (arith, up)) is.latest;
     of = of;
@@ -145,27 +158,35 @@ module _ (most : ℕ) (before : List Post) (job : JobState) where
   }
 
   -- what became of the posts, once all messages were made
-  pub placed_all : (made : ℕ) (m : MachineState) (p : Posts) (after : List Post) (is : IsPosted most before job m p) → m.point.number ≡ made → after ≡ received_by p.inbox
+  pub placed_all : (made : ℕ) (m : MachineState) (p : Posts) (after : Inbox) (is : IsPosted most before job m p) → m.point.number ≡ made → after ≡ p.inbox
       → ArePlaced most made before after is.posts
-  placed_all made m p after is same received = record {
+  placed_all made m p after is same inbox = record {
     got = is.got;
-    received = received ∙ is.received;
+    received = ap received_by inbox ∙ is.received;
     few = omega (arith, is.few);
     first = is.first;
+    nearly_all = is.nearly_all;
+    emptied = λ even few low.
+        let times = ap times_empty inbox in
+        let before_that = is.emptied (omega (arith, is.rest even, few)) (omega (arith, low, times)) in
+        omega (arith, before_that, times, same);
     order = is.order;
     latest = subst (λ n. AllByRecursion (λ q. q.number ≤ n + 1) is.posts) same is.latest;
   }
 
 -- before any message
-unfoldable pub nothing_placed : (most : ℕ) (before : List Post) (job : JobState) (m : MachineState) (p : Posts) → p.left ≡ most → received_by p.inbox ≡ before
+unfoldable pub nothing_placed : (most : ℕ) (before : Inbox) (job : JobState) (m : MachineState) (p : Posts) → p.left ≡ most → p.inbox ≡ before → m.point.number ≡ 0
     → IsOf (job_in job) job.actions m → p.ordered.actions ≡ placed_up_to 1000000 job.actions → IsPosted most before job m p
-nothing_placed most before job m p left received of ordered = record {
+nothing_placed most before job m p left inbox first of ordered = record {
   posts = [];
   got = [];
-  received = received ∙ sym (append-nil before);
+  received = ap received_by inbox ∙ sym (append-nil (received_by before));
   few = omega (arith, left);
   first = refl;
   all = λ some. refl;
+  rest = λ _. omega (arith, left);
+  nearly_all = omega arith;
+  emptied = λ some low. omega (arith, first, ap times_empty inbox);
   order = tt;
   latest = tt;
   of = subst (λ (ps : List Placed). IsOf (job_in job) ps m) (sym (append-nil job.actions)) of;

@@ -16,6 +16,7 @@ use Rattle.mil_bus.specs.contracts.buses.Bus as bus
 use Rattle.bc_machine.specs.contracts.actions.Actions as actions
 use Rattle.bc_machine.specs.contracts.action_rows.Row as row
 use Rattle.bc_machine.specs.contracts.schedule.Schedule as schedule
+use Rattle.bc_machine.specs.contracts.schedule.Schedule.TheInside as schedule_inside
 use Rattle.bc_machine.specs.contracts.stack.Stack as stack
 use Rattle.bc_machine.specs.contracts.stack.Stack.TheInside as inside
 use Rattle.mil_bus.specs.contracts.outcomes.Outcome as outcome
@@ -59,8 +60,11 @@ terminals_send = search (terminal_send, sendable, crosses) depth 40 fits 10000
 bus_send : IsSend bus.the_row
 bus_send = search (terminals_send, sendable, crosses) depth 40 fits 10000
 
+row_send : IsSend row.the_row
+row_send = search (sendable, crosses) depth 40 fits 10000
+
 schedule_send : IsSend schedule.the_row
-schedule_send = search (sendable, crosses) depth 40 fits 10000
+schedule_send = view_send schedule_inside.the_row _ _ _ _ (declared_send schedule_inside.the_type ((search (row_send, sendable, crosses) depth 40 fits 20000), ((search (row_send, sendable, crosses) depth 40 fits 20000), ((search (row_send, sendable, crosses) depth 40 fits 20000), ((search (row_send, sendable, crosses) depth 40 fits 20000), tt)))))
 
 -- a stack, where what is in it may go
 stack_send : (T N : RattleType) (given : Ghosts T.Denot) → IsSend T → IsSend (stack.the_row T N given)
@@ -102,10 +106,10 @@ taker_send : IsSend (taker.the_row post.the_row)
 taker_send = search (post_send, seat.the_send, sendable, crosses) depth 40 fits 10000
 
 inbox_send : IsSend inbox.the_row
-inbox_send = declared_send inbox.the_type (taker_send, tt)
+inbox_send = declared_send inbox.the_type (taker_send, (search (sendable, crosses) depth 40 fits 10000, tt))
 
 posts_send : IsSend posts.the_row
-posts_send = declared_send posts.the_type (inbox_send, (search (sendable, crosses) depth 40 fits 10000, (search (sendable, crosses) depth 40 fits 10000, tt)))
+posts_send = declared_send posts.the_type (inbox_send, (search (sendable, crosses) depth 40 fits 10000, (search (schedule_send, sendable, crosses) depth 40 fits 10000, tt)))
 
 pub room_send : IsSend room.the_row
 room_send = declared_send room.the_type (machine_send, (search (sendable, crosses) depth 40 fits 10000, (posts_send, tt)))

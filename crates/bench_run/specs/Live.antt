@@ -1,7 +1,8 @@
 -- Runs while which hosts post actions (own choice). Before each message a channel's thread takes posts from its
 -- mailbox, and places each at that message, behind what is placed there. A live run is a run of the jobs with these
 -- actions besides their own.
-use Rattle.std.specs.Prelude.{◌≡◌, ℕ, ◌+◌, ◌<◌, ◌≤◌, List, [], ◌++◌, length, map, take, slice_get, Option, Some}
+use Rattle.std.specs.Prelude.{◌≡◌, ℕ, ◌+◌, ◌-◌, ◌^◌, ◌<◌, ◌≤◌, List, [], ◌++◌, length, map, take, slice_get}
+use Rattle.std.specs.Prelude.{Option, Some}
 use Rattle.std.specs.Prelude.{Result, IfOk, IfErr}
 use Rattle.std.specs.Global.{Vec}
 use Rattle.std.specs.List.{AllByRecursion}
@@ -17,7 +18,7 @@ use Rattle.bench_mail.specs.declared.mailbox.Inbox.{Inbox}
 use Rattle.bench_run.specs.declared.error.LiveError.{LiveError}
 use Rattle.bench_run.specs.declared.error.RunError.{RunError}
 use Rattle.bench_run.specs.declared.error.RunError.TheVariants as fault
-use Rattle.bench_mail.specs.Mail.{received_by, IsInboxOf, IsMadeFor}
+use Rattle.bench_mail.specs.Mail.{received_by, times_empty, IsInboxOf, IsMadeFor}
 use Rattle.bench_run.specs.Runs.{ArePairs, Ran, RefusesNoneWithRoom, IsCut, LeavesMemory, LeavesRunInSink}
 
 -- a job with actions besides its own; at one number its own come first
@@ -39,15 +40,20 @@ abbrev pub asked_at : Placed → ℕ × Action
 asked_at p = (p.address, p.action)
 
 -- What became of the posts of a channel that made so many messages, where at most `most` are taken: those that were
--- received in the run were placed, in that order and each once, from the first on, at numbers that never fall. One
--- placed above `made` came too late: no message meets it.
-pub record ArePlaced (most made : ℕ) (before after : List Post) (posts : List Placed) : Type 0 where
+-- received in the run were placed, in that order and each once, from the first on, all but the last at most, at numbers
+-- that never fall. One placed above `made` came too late: no message meets it. Where all that were received were
+-- placed, and more might have been taken, the mailbox was found empty once more for each message: what stood in it was
+-- taken first. The count of that stops at 2^64 - 1.
+pub record ArePlaced (most made : ℕ) (before after : Inbox) (posts : List Placed) : Type 0 where
   pub got : List Post
-  pub received : after ≡ before ++ got
+  pub received : received_by after ≡ received_by before ++ got
   pub few : length got ≤ most
   pub first : map asked_at posts ≡ take (length posts) (map asked_by got)
+  pub nearly_all : length got ≤ length posts + 1
   pub order : NeverFalls 1 posts
   pub latest : AllByRecursion (λ p. p.number ≤ made + 1) posts
+  pub emptied : length posts ≡ length got → length got < most → times_empty after < 2 ^ 64 - 1
+      → times_empty before + made ≤ times_empty after
 
 -- a channel of a live run: its job, its inbox before and after, its part of the report, and the posts that were placed
 pub record LiveChannel : Type 0 where
@@ -69,8 +75,7 @@ pub record AreLive (most : ℕ) (jobs : List JobState) (before after : List Inbo
   pub after_are : map (λ (c : LiveChannel). c.after) rows ≡ after
   pub parts_are : map (λ (c : LiveChannel). c.part) rows ≡ parts
   pub lives_are : map live_job rows ≡ lives
-  pub placed : AllByRecursion (λ (c : LiveChannel). ArePlaced most c.part.made (received_by c.before)
-      (received_by c.after) c.posts) rows
+  pub placed : AllByRecursion (λ (c : LiveChannel). ArePlaced most c.part.made c.before c.after c.posts) rows
 
 -- each inbox is that of the mailbox at its place
 abbrev pub AreInboxesOf : List Mailbox → List Inbox → Type 0

@@ -23,12 +23,11 @@ use Rattle.bench_run.specs.declared.entry.Entry.{Entry}
 use Rattle.bench_run.specs.declared.channel.Ended.{Ended}
 use Rattle.bench_run.specs.declared.threads.Offers.{Offers}
 use Rattle.bench_run.specs.declared.channel.Room.{Room}
-use Rattle.bench_mail.specs.declared.mailbox.Post.{Post}
 use Rattle.bench_mail.specs.declared.mailbox.Mailbox.{Mailbox}
 use Rattle.bench_mail.specs.declared.mailbox.Inbox.{Inbox}
 use Rattle.bench_run.specs.declared.posting.Posts.{Posts}
 use Rattle.bench_run.specs.declared.threads.Joined.{Joined}
-use Rattle.bench_mail.specs.Mail.{received_by, IsInboxOf}
+use Rattle.bench_mail.specs.Mail.{IsInboxOf}
 use Rattle.bench_run.specs.Live.{with_posts, ArePlaced}
 use Rattle.bench_run.specs.Posted.{IsPosted}
 use Rattle.bench_run.specs.Entries.{index_of, entry_of, entries_to_the_end}
@@ -69,7 +68,7 @@ pub record Offered (trunk : Trunk Entry) (given : Ticket Entry) (index : ℕ) (j
     (most : ℕ) (before : Inbox) (r : Ended) : Type 0 where
   pub posts : List Placed
   pub inbox : IsInboxOf box r.inbox
-  pub placed : ArePlaced most r.part.made (received_by before) (received_by r.inbox) posts
+  pub placed : ArePlaced most r.part.made before r.inbox posts
   pub offered : AllOffered trunk given index (with_posts job posts) r.ticket r.part
 
 -- The same of the first `made` records, where these are the tags and bounds of the thread's ticket.
@@ -85,7 +84,7 @@ pub record RecordsOfferedSoFar (trunk : Trunk Entry) (own : ℕ) (limits : List 
   pub recorded : AllByRecursion (λ m. IsRecorded (numbered 0 m)) (take made (records_of job))
 
 -- The same of the job with the posts that were placed so far, where the controller stands behind as many messages.
-pub record IsThreadStage (trunk : Trunk Entry) (own : ℕ) (limits : List ℕ) (index : ℕ) (most : ℕ) (before : List Post)
+pub record IsThreadStage (trunk : Trunk Entry) (own : ℕ) (limits : List ℕ) (index : ℕ) (most : ℕ) (before : Inbox)
     (job : JobState) (m : MachineState) (t : Ticket Entry) (refused : List ℕ) (p : Posts) : Type 0 where
   pub posted : IsPosted most before job m p
   pub so_far : RecordsOfferedSoFar trunk own limits index (with_posts job posted.posts) m.point.number t refused
@@ -150,7 +149,7 @@ pub record IsThreadEnded (capacity others index : ℕ) (job : JobState) (box : M
     (j : Joined) (own : List Entry) : Type 0 where
   pub posts : List Placed
   pub inbox : IsInboxOf box j.inbox
-  pub placed : ArePlaced most j.part.made (received_by before) (received_by j.inbox) posts
+  pub placed : ArePlaced most j.part.made before j.inbox posts
   pub own_are : own ≡ entries_to_the_end index (kept_records j.part.refused (records_of (with_posts job posts)))
   pub counted : IsThreadReport capacity others (with_posts job posts) j.part
 

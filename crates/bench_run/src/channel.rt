@@ -70,7 +70,9 @@ pub(crate) fn channel<R: Wait, G: Gate>(
     } = room;
     let mut ticket = ticket;
     let (rt, gate) = (context.rt, context.gate);
+    // A job's script is sound by its type.
     let _sound = job.program();
+    // The laws of a job's records, for the proofs.
     job_runs();
     'messages: loop {
         gate.before_tick(job.channel(), machine.bus().now());

@@ -3,11 +3,11 @@ ghost use Rattle.bc_machine.specs.Posting.{with_placed, at_next};
 ghost use Rattle.bc_machine.specs.UnderWay.{IsUnderWay};
 ghost use Rattle.bc_machine.specs.declared.placed.Placed.{Placed};
 ghost use Rattle.bench_settings.specs.Placing.{placed_up_to, IsOrdered};
-ghost use Rattle.bench_mail.specs.Mail.{IsInboxOf};
-ghost use Rattle.bench_mail.specs.declared.mailbox.Post.{Post};
+ghost use Rattle.bench_mail.specs.Mail.{IsInboxOf, times_empty};
+ghost use Rattle.bench_mail.specs.declared.mailbox.Inbox.{Inbox};
 ghost use Rattle.bench_run.specs.Posted.{IsPosted};
 ghost use Rattle.job_file.specs.Jobs.{JobState};
-ghost use Rattle.std.specs.Prelude.{◌≡◌, ◌<◌, ◌++◌, ◌∷◌, [], ℕ, List, IsTrue, IsFalse};
+ghost use Rattle.std.specs.Prelude.{◌≡◌, ◌<◌, ◌≤◌, ◌+◌, ◌-◌, ◌^◌, min, ◌++◌, ◌∷◌, [], ℕ, List, IsTrue, IsFalse};
 
 use bc_machine::{Machine, Placed, Schedule};
 use bench_mail::{Inbox, Mailbox, Post};
@@ -37,7 +37,10 @@ impl Posts {
         ensures inbox { IsInboxOf mailbox.now self.new.inbox }
         ensures ordered { IsOrdered self.new.ordered.actions }
         ensures point { machine.new.point ≡ machine.old.point }
-        ensures posted { (most : ℕ) (before : List Post) (job : JobState)
+        ensures left { self.new.left ≤ self.old.left }
+        ensures emptied { machine.old.point.number < 1000000 → 0 < self.new.left
+            → times_empty self.new.inbox ≡ min (times_empty self.old.inbox + 1) (2 ^ 64 - 1) }
+        ensures posted { (most : ℕ) (before : Inbox) (job : JobState)
             → IsPosted most before job machine.old self.old → IsPosted most before job machine.new self.new }
     {
         if machine.number() >= LAST {

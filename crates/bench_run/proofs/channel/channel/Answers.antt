@@ -6,7 +6,6 @@ use Rattle.mil_trunk.specs.Tags.{has, bound_of}
 use Rattle.mil_trunk.specs.Ends.{tags_of, bounds_of}
 use Rattle.job_file.specs.Jobs.{tree_in, job_in}
 use Rattle.bench_report.specs.Reports.{Rises}
-use Rattle.bench_mail.specs.Mail.{received_by}
 use Rattle.bench_run.specs.Live.{with_posts}
 use Rattle.bench_run.specs.Runs.{records_of}
 use Rattle.job_file.specs.Rooms.{most_items}
@@ -20,7 +19,7 @@ pub messages-init : goal.messages-init
 messages-init g c =
     let room = c.args.room in
     record {
-      stage = stage_first c.args.context.now.trunk.now (tags_of c.args.ticket) (bounds_of c.args.ticket) c.args.index room.posts.left (received_by room.posts.inbox) c.args.job.now room.machine c.args.ticket room.refused.items room.posts refl refl c.requires.fits.machine c.requires.fits.ordered
+      stage = stage_first c.args.context.now.trunk.now (tags_of c.args.ticket) (bounds_of c.args.ticket) c.args.index room.posts.left room.posts.inbox c.args.job.now room.machine c.args.ticket room.refused.items room.posts refl refl c.requires.fits.first c.requires.fits.machine c.requires.fits.ordered
           (first_stage c.args.context.now.trunk.now (tags_of c.args.ticket) (bounds_of c.args.ticket) c.args.index (with_posts c.args.job.now []) room.machine.point.number c.args.ticket room.refused.items c.requires.fits.first c.requires.fits.empty c.requires.ours refl refl c.requires.unsent);
       inbox = c.requires.inbox;
       ordered = c.requires.fits.fit;
@@ -31,8 +30,8 @@ pub offer_message-requires-clause-so_far : goal.offer_message-requires-clause-so
 offer_message-requires-clause-so_far g c κs within =
     let job = c.args.job.now in
     let room = c.args.room in
-    let posted = c.place_all.ensures.posted room.posts.left (received_by room.posts.inbox) job c.messages.invariant.stage.posted in
-    let st = so_far_placed c.args.context.now.trunk.now (tags_of c.args.ticket) (bounds_of c.args.ticket) c.args.index room.posts.left (received_by room.posts.inbox) job c.messages.machine c.place_all.new.machine c.messages.ticket c.messages.refused.items c.messages.posts c.place_all.new.self
+    let posted = c.place_all.ensures.posted room.posts.left room.posts.inbox job c.messages.invariant.stage.posted in
+    let st = so_far_placed c.args.context.now.trunk.now (tags_of c.args.ticket) (bounds_of c.args.ticket) c.args.index room.posts.left room.posts.inbox job c.messages.machine c.place_all.new.machine c.messages.ticket c.messages.refused.items c.messages.posts c.place_all.new.self
     (λ placed m of. c.job_runs.ensures.so_far (job_in job) placed m c.program-sound.ensures.sound of) c.place_all.ensures.point c.messages.invariant.stage posted in
     let is = c.number-number.ensures.value ∙ c.in-Some.ensures.number in (
       with_posts job posted.posts,
@@ -47,7 +46,7 @@ offer_message-requires-clause-bound g c κs within =
     let job = c.args.job.now in
     let room = c.args.room in
     let new = c.next_record.new.machine in
-    let posted = c.place_all.ensures.posted room.posts.left (received_by room.posts.inbox) job c.messages.invariant.stage.posted in
+    let posted = c.place_all.ensures.posted room.posts.left room.posts.inbox job c.messages.invariant.stage.posted in
     let of = c.next_record.ensures.of_job (job_in job) (job.actions ++ posted.posts) posted.of in
     let top : new.point.number ≤ worst_messages (code_of_tree (tree_in job)).operations = subst (λ code. new.point.number ≤ worst_messages code.operations) of.code of.under_way.messages in
     let bound : bound_of (bounds_of c.messages.ticket) c.args.index ≡ most_items job = ap (λ l. bound_of l c.args.index) c.messages.invariant.stage.so_far.bounds ∙ c.requires.bound in
@@ -58,7 +57,7 @@ offer_message-requires-clause-room g c κs within =
     let job = c.args.job.now in
     let room = c.args.room in
     let new = c.next_record.new.machine in
-    let posted = c.place_all.ensures.posted room.posts.left (received_by room.posts.inbox) job c.messages.invariant.stage.posted in
+    let posted = c.place_all.ensures.posted room.posts.left room.posts.inbox job c.messages.invariant.stage.posted in
     let of = c.next_record.ensures.of_job (job_in job) (job.actions ++ posted.posts) posted.of in
     let top : new.point.number ≤ worst_messages (code_of_tree (tree_in job)).operations = subst (λ code. new.point.number ≤ worst_messages code.operations) of.code of.under_way.messages in
     omega (arith, top, c.requires.fits.capacity, c.messages.invariant.room, c.number-number.ensures.value)
@@ -71,8 +70,8 @@ messages-preserved g c =
     let job = c.args.job.now in
     let room = c.args.room in
     let n = c.place_all.new.machine.point.number in
-    let posted = c.place_all.ensures.posted room.posts.left (received_by room.posts.inbox) job c.messages.invariant.stage.posted in
-    let st = so_far_placed c.args.context.now.trunk.now (tags_of c.args.ticket) (bounds_of c.args.ticket) c.args.index room.posts.left (received_by room.posts.inbox) job c.messages.machine c.place_all.new.machine c.messages.ticket c.messages.refused.items c.messages.posts c.place_all.new.self
+    let posted = c.place_all.ensures.posted room.posts.left room.posts.inbox job c.messages.invariant.stage.posted in
+    let st = so_far_placed c.args.context.now.trunk.now (tags_of c.args.ticket) (bounds_of c.args.ticket) c.args.index room.posts.left room.posts.inbox job c.messages.machine c.place_all.new.machine c.messages.ticket c.messages.refused.items c.messages.posts c.place_all.new.self
     (λ placed m of. c.job_runs.ensures.so_far (job_in job) placed m c.program-sound.ensures.sound of) c.place_all.ensures.point c.messages.invariant.stage posted in
     let live = with_posts job posted.posts in
     let of = c.next_record.ensures.of_job (job_in job) (job.actions ++ posted.posts) posted.of in
@@ -83,8 +82,13 @@ messages-preserved g c =
     let old = by_ticket c.args.context.now.trunk.now (tags_of c.args.ticket) (bounds_of c.args.ticket) c.args.index live n c.number-number.result c.messages.ticket c.messages.refused.items is st in
     let next = by_given c.args.context.now.trunk.now (tags_of c.args.ticket) (bounds_of c.args.ticket) c.args.index live c.number-number.result c.messages.ticket c.offer_message.new.ticket c.offer_message.new.refused.items st.tags st.bounds (c.offer_message.ensures.so_far live old message) in
     record {
-      stage = stage_on c.args.context.now.trunk.now (tags_of c.args.ticket) (bounds_of c.args.ticket) c.args.index room.posts.left (received_by room.posts.inbox) job c.place_all.new.machine c.next_record.new.machine c.offer_message.new.ticket c.offer_message.new.refused.items c.place_all.new.self
+      stage = stage_on c.args.context.now.trunk.now (tags_of c.args.ticket) (bounds_of c.args.ticket) c.args.index room.posts.left room.posts.inbox job c.place_all.new.machine c.next_record.new.machine c.offer_message.new.ticket c.offer_message.new.refused.items c.place_all.new.self
           posted (omega (arith, c.in-Some.ensures.number)) of
+          (λ some low.
+          let same = ap (λ z. z.number) c.place_all.ensures.point in
+          let once = c.place_all.ensures.emptied (omega (arith, same, is, c.number-number.ensures.range)) some in
+          let earlier = c.messages.invariant.stage.posted.emptied (omega (arith, some, c.place_all.ensures.left)) (omega (arith, low, once)) in
+          omega (arith, earlier, once, low, same, c.in-Some.ensures.number))
           (subst (λ k. RecordsOfferedSoFar c.args.context.now.trunk.now (tags_of c.args.ticket) (bounds_of c.args.ticket) c.args.index live k c.offer_message.new.ticket c.offer_message.new.refused.items) c.number-number.ensures.value next);
       inbox = c.place_all.ensures.inbox;
       ordered = c.place_all.ensures.ordered;
@@ -117,8 +121,8 @@ returns g c =
     let room = c.args.room in
     let m = c.place_all.new.machine in
     let n = m.point.number in
-    let posted = c.place_all.ensures.posted room.posts.left (received_by room.posts.inbox) job c.messages.invariant.stage.posted in
-    let st = so_far_placed c.args.context.now.trunk.now (tags_of c.args.ticket) (bounds_of c.args.ticket) c.args.index room.posts.left (received_by room.posts.inbox) job c.messages.machine m c.messages.ticket c.messages.refused.items c.messages.posts c.place_all.new.self
+    let posted = c.place_all.ensures.posted room.posts.left room.posts.inbox job c.messages.invariant.stage.posted in
+    let st = so_far_placed c.args.context.now.trunk.now (tags_of c.args.ticket) (bounds_of c.args.ticket) c.args.index room.posts.left room.posts.inbox job c.messages.machine m c.messages.ticket c.messages.refused.items c.messages.posts c.place_all.new.self
     (λ placed m of. c.job_runs.ensures.so_far (job_in job) placed m c.program-sound.ensures.sound of) c.place_all.ensures.point c.messages.invariant.stage posted in
     let live = with_posts job posted.posts in
     let of = posted.of in
@@ -130,7 +134,7 @@ returns g c =
     record {
       posts = posted.posts;
       inbox = c.place_all.ensures.inbox;
-      placed = placed_all room.posts.left (received_by room.posts.inbox) job c.channel_report.result.made m c.place_all.new.self (received_by c.place_all.new.self.inbox) posted (sym made ∙ sym part.made) refl;
+      placed = placed_all room.posts.left room.posts.inbox job c.channel_report.result.made m c.place_all.new.self c.place_all.new.self.inbox posted (sym made ∙ sym part.made) refl;
       offered = last_stage c.args.context.now.trunk.now c.args.ticket c.args.index live c.number-2.result c.messages.ticket c.offer_end.new.ticket c.messages.refused.items c.channel_report.result
           (subst (λ k. RecordsOfferedSoFar c.args.context.now.trunk.now (tags_of c.args.ticket) (bounds_of c.args.ticket) c.args.index live k c.messages.ticket c.messages.refused.items) (sym made) st) (made ∙ whole) end.ticket end.tags end.bounds end.sent
           (part.channel ∙ c.channel-3.ensures.value) part.made part.refused (part.placed live.actions (c.of-ordered.ensures ∙ posted.ordered))

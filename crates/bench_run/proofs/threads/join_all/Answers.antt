@@ -12,7 +12,6 @@ use Rattle.bench_settings.specs.Kept.{kept_records}
 use Rattle.bench_run.specs.declared.entry.Entry.{Entry}
 use Rattle.bench_mail.specs.declared.mailbox.Mailbox.{Mailbox}
 use Rattle.bench_mail.specs.declared.mailbox.Inbox.{Inbox}
-use Rattle.bench_mail.specs.Mail.{received_by}
 use Rattle.bench_run.specs.Live.{with_posts, ArePlaced}
 use Rattle.bench_run.specs.Entries.{index_of, entries_to_the_end}
 use Rattle.bench_run.specs.Runs.{records_of, most_in_all, others_than}
@@ -83,7 +82,7 @@ loop-handle-preserved g c =
     let mine_ended : IsThreadEnded capacity (most_in_all (others_than p.job.now.channel jobs)) n p.job.now p.mailbox.now most p.inbox.value new (with_tag index_of n now) = record {
       posts = e.posts;
       inbox = e.inbox;
-      placed = subst (λ m. ArePlaced m new.part.made (received_by p.inbox.value) (received_by new.inbox) e.posts) here.most_is e.placed;
+      placed = subst (λ m. ArePlaced m new.part.made p.inbox.value new.inbox e.posts) here.most_is e.placed;
       own_are = own;
       counted = subst (λ m. IsThreadReport capacity m (with_posts p.job.now e.posts) new.part) others e.counted;
     } in

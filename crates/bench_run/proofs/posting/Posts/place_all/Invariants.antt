@@ -1,8 +1,8 @@
-use Rattle.std.proofs.Common.{◌≡◌, ◌<◌, ℕ, List}
+use Rattle.std.proofs.Common.{◌≡◌, ◌<◌, ◌≤◌, ℕ}
 use Rattle.job_file.specs.Jobs.{JobState}
 use Rattle.bench_settings.specs.Placing.{IsOrdered}
-use Rattle.bench_mail.specs.declared.mailbox.Post.{Post}
-use Rattle.bench_mail.specs.Mail.{IsInboxOf}
+use Rattle.bench_mail.specs.declared.mailbox.Inbox.{Inbox}
+use Rattle.bench_mail.specs.Mail.{IsInboxOf, times_empty}
 use Rattle.bench_run.specs.Posted.{IsPosted}
 use Rattle.bench_run.proofs.posting.Posts.place_all.Given as goal
 
@@ -12,7 +12,9 @@ invariant-taking g l = record {
   ordered : IsOrdered l.self.ordered.actions;
   point : l.machine.point ≡ l.fn.machine.point;
   low : l.fn.machine.point.number < 1000000;
-  posted : (most : ℕ) (before : List Post) (job : JobState) → IsPosted most before job l.fn.machine l.fn.self → IsPosted most before job l.machine l.self;
+  left : l.self.left ≤ l.fn.self.left;
+  times : times_empty l.self.inbox ≡ times_empty l.fn.self.inbox;
+  posted : (most : ℕ) (before : Inbox) (job : JobState) → IsPosted most before job l.fn.machine l.fn.self → IsPosted most before job l.machine l.self;
 }
 
 abbrev pub decreases-taking : goal.decreases-taking
