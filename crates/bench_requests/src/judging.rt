@@ -3,8 +3,9 @@
 ghost use Rattle.bench_requests.specs.Judging as spec;
 ghost use Rattle.bench_requests.specs.Requests.{IsRefusedText};
 ghost use Rattle.bench_requests.specs.declared.fault.Fault.TheVariants.{NotHeld};
+ghost use Rattle.judge_rules.specs.Parts.{parts_of};
 ghost use Rattle.judge_rules.specs.Rules.{rules_in};
-ghost use Rattle.std.specs.Prelude.{◌≡◌, None, Ok, IfOk, IfErr, if◌then◌else◌, option_map};
+ghost use Rattle.std.specs.Prelude.{◌≡◌, None, Ok, IfOk, IfErr, if◌then◌else◌, map, option_map};
 
 use crate::fault::Fault;
 use crate::rules::rules_of;
@@ -30,7 +31,7 @@ pub fn rules_text<'a>(given: Option<&'a [u8]>) -> &'a [u8]
 /// message has to be clean. Want of memory is answered only for a text without a fault.
 pub fn rules_asked<'a>(alloc: Global, given: Option<&[u8]>) -> Result<Vec<Rule>, Fault<'a>>
     ensures rules { IfOk result (λ rules. rules_in (spec.text_of_rules (option_map (λ text. text.now) given.entry))
-        ≡ Ok rules.items) }
+        ≡ Ok (map parts_of rules.items)) }
     ensures refused { IfErr result (IsRefusedText (rules_in (spec.text_of_rules
         (option_map (λ text. text.now) given.entry)))) }
 {

@@ -1,7 +1,8 @@
 //! Rules, judged once their file is read.
 ghost use Rattle.bench_requests.specs.Requests.{IsRefusedText, fault_of_rules};
+ghost use Rattle.judge_rules.specs.Parts.{parts_of};
 ghost use Rattle.judge_rules.specs.Rules.{rules_in};
-ghost use Rattle.std.specs.Prelude.{◌≡◌, Ok, IfOk, IfErr};
+ghost use Rattle.std.specs.Prelude.{◌≡◌, Ok, IfOk, IfErr, map};
 
 use crate::fault::Fault;
 use judge_rules::{Rule, RuleError, RuleFault, read_rules};
@@ -19,7 +20,7 @@ fn fault_of<'a>(error: RuleError) -> Fault<'a>
 
 /// The rules that a text spells, or its first fault. Memory is answered only for a text without a fault.
 pub fn rules_of<'a>(alloc: Global, text: &[u8]) -> Result<Vec<Rule>, Fault<'a>>
-    ensures rules { IfOk result (λ rules. rules_in text.now ≡ Ok rules.items) }
+    ensures rules { IfOk result (λ rules. rules_in text.now ≡ Ok (map parts_of rules.items)) }
     ensures refused { IfErr result (IsRefusedText (rules_in text.now)) }
 {
     match read_rules(alloc, text) {

@@ -1,13 +1,12 @@
 -- The numbers of the rules that a text spells are in their ranges.
-use Rattle.std.proofs.Common.{◌≡◌, ℕ, zero, suc, ◌+◌, ◌≤◌, Bool, true, false, List, [], ◌∷◌, length, drop, refl, subst, arith}
-use Rattle.std.specs.Prelude.{Option, Some, None, Result, Ok, Err, IfOk, IfSome, ◌==◌, ◌&&◌, nat_le, if◌then◌else◌, codes}
+use Rattle.std.proofs.Common.{◌≡◌, ℕ, zero, suc, ◌≤◌, Bool, true, false, List, [], ◌∷◌, length, drop, refl, subst, arith}
+use Rattle.std.specs.Prelude.{Option, Some, None, Result, Ok, Err, IfOk, ◌&&◌, nat_le, if◌then◌else◌, codes}
 use Rattle.std.specs.List.{AllByRecursion}
 use Rattle.std.specs.Str.{bytes_eq}
 use Rattle.std.proofs.lemmas.Bool.{and_parts}
 use Rattle.std.proofs.lemmas.Bool.Decides.{nat_tests}
 use Rattle.numerals.specs.Numerals as numerals
-use Rattle.text_lines.specs.Lines.{text_lines}
-use Rattle.text_lines.specs.Words.{Text, words, begins_with}
+use Rattle.text_lines.specs.Words.{Text, begins_with}
 use Rattle.mil_mode.specs.Codes.{last_code}
 use Rattle.mil_word.specs.Fields.{highest_address, highest_subaddress, most_words}
 use Rattle.judge_rules.specs.declared.fault.RuleFault.{RuleFault}
@@ -22,9 +21,9 @@ use Rattle.judge_rules.specs.declared.rules.Selector.{Selector}
 use Rattle.judge_rules.specs.declared.rules.Selector.TheVariants.{Any, ReceiveAll, ModeAll}
 use Rattle.judge_rules.specs.Checks.{check_in, only_bounds, status_in}
 use Rattle.judge_rules.specs.Faults.{Read, both, ended, made}
-use Rattle.judge_rules.specs.Lines.{behind_bus, behind_channel, bus_in, channel_in, is_passed_over, rule_behind, rule_in, said}
-use Rattle.judge_rules.specs.Ranges.{AreBounds, IsCheck, IsChoice, IsFrom, IsInRange, IsSelector, IsAddress, IsSubaddress, IsCode}
-use Rattle.judge_rules.specs.Rules.{AllRules, fault_at, in_front, rules_from, rules_in, taken}
+use Rattle.judge_rules.specs.Lines.{Expected, behind_bus, behind_channel, bus_in, channel_in, expected_in}
+use Rattle.judge_rules.specs.Ranges.{AreBounds, IsCheck, IsChoice, IsFrom, AreInRange, IsSelector, IsAddress, IsSubaddress, IsCode}
+use Rattle.judge_rules.specs.Parts.{IsInRange}
 use Rattle.judge_rules.specs.Selectors.{address_in, behind_selector, between_all_in, between_in, code_in, end_in, mode_all_in, mode_in, receive_all_in, receive_in, selector_in, subaddress_in, transmit_in}
 use Rattle.judge_rules.specs.Values.{all_data, and_then, bounds_in, bounds_of, choice_in, data_in, datum_of, number_in, number_of, within}
 
@@ -170,42 +169,28 @@ any_bus : (read : Read (Option Line)) → IfOk read (λ (b : Option Line). Unit 
 any_bus (Ok b) = tt
 any_bus (Err f) = tt
 
-range_behind : (line : ℕ) (rest : List Text) → IfOk (rule_behind line rest) IsInRange
-range_behind line rest =
+abbrev IsExpectedInRange : Expected → Type 0
+IsExpectedInRange x = AreInRange x.0.0 x.1.0 x.1.1
+
+if_more : {X : Type 0} (P Q : X → Type 0) (read : Read X) → ((x : X) → P x → Q x) → IfOk read P → IfOk read Q
+if_more P Q (Ok x) on is = on x is
+if_more P Q (Err f) on is = tt
+
+range_expected : (rest : List Text) → IfOk (expected_in rest) IsExpectedInRange
+unfolding expected_in
+range_expected rest =
     let behind = behind_bus (behind_channel rest) in
-    if_made (λ (x : (Option ℕ × Option Line) × (Selector × Check)). (IsChoice 1 65535 x.0.0 × Unit {0}) × (IsSelector x.1.0 × IsCheck x.1.1)) IsInRange _ (both (both (channel_in rest) (bus_in (behind_channel rest))) (both (selector_in behind) (check_in (behind_selector behind))))
+    if_more (λ (x : Expected). (IsChoice 1 65535 x.0.0 × Unit {0}) × (IsSelector x.1.0 × IsCheck x.1.1)) IsExpectedInRange (both (both (channel_in rest) (bus_in (behind_channel rest))) (both (selector_in behind) (check_in (behind_selector behind))))
     (λ x is. (is.0.0, is.1))
     (if_both (λ (x : Option ℕ × Option Line). IsChoice 1 65535 x.0 × Unit {0}) (λ (x : Selector × Check). IsSelector x.0 × IsCheck x.1) (both (channel_in rest) (bus_in (behind_channel rest))) (both (selector_in behind) (check_in (behind_selector behind)))
     (if_both (IsChoice 1 65535) (λ (b : Option Line). Unit {0}) (channel_in rest) (bus_in (behind_channel rest)) (range_channel rest) (any_bus (bus_in (behind_channel rest))))
     (if_both IsSelector IsCheck (selector_in behind) (check_in (behind_selector behind)) (range_selector behind) (range_check (behind_selector behind))))
 
-range_rule : (line : ℕ) (rest : List Text) → IfOk (rule_in line rest) IsInRange
-unfolding rule_in
-range_rule line rest = if_either IsInRange (begins_with (codes "expect") rest) (rule_behind line (drop 1 rest)) (Err Word) (range_behind line (drop 1 rest)) tt
+-- what is read of a text is in its ranges where the rule of its parts is made
+pub made_in_range : (rest : List Text) (channel : Option ℕ) (bus : Option Line) (selector : Selector) (check : Check) → expected_in rest ≡ Ok ((channel, bus), (selector, check)) → AreInRange channel selector check
+made_in_range rest channel bus selector check is = subst (λ (r : Read Expected). IfOk r IsExpectedInRange) is (range_expected rest)
 
-range_said : (line : ℕ) (text : Text) → IfSome (said line text) (λ (read : Read Rule). IfOk read IsInRange)
-unfolding said
-range_said line text = go (is_passed_over text)
-  where
-    go : (b : Bool) → IfSome (if b then None else Some (rule_in line (words text))) (λ (read : Read Rule). IfOk read IsInRange)
-    go true = tt
-    go false = range_rule line (words text)
-
-range_front : (rule : Rule) (more : AllRules) → IsInRange rule → IfOk more (AllByRecursion IsInRange) → IfOk (in_front rule more) (AllByRecursion IsInRange)
-range_front rule (Ok rules) is are = (is, are)
-range_front rule (Err e) is are = tt
-
-range_taken : (before line : ℕ) (what : Option (Read Rule)) (same more : AllRules) → IfSome what (λ (read : Read Rule). IfOk read IsInRange) → IfOk same (AllByRecursion IsInRange) → IfOk more (AllByRecursion IsInRange) → IfOk (taken before line what same more) (AllByRecursion IsInRange)
-range_taken before line None same more is s m = s
-range_taken before line (Some (Err f)) same more is s m = tt
-range_taken before line (Some (Ok rule)) same more is s m = if_either (AllByRecursion IsInRange) (before == 10000) (fault_at line Range) (in_front rule more) tt (range_front rule more is m)
-
-range_from : (before line : ℕ) (texts : List Text) → IfOk (rules_from before line texts) (AllByRecursion IsInRange)
-range_from before line [] = if_either (AllByRecursion IsInRange) (before == 0) (fault_at line Word) (Ok []) tt tt
-range_from before line (text ∷ rest) =
-    range_taken before line (said line text) (rules_from before (line + 1) rest) (rules_from (before + 1) (line + 1) rest) (range_said line text) (range_from before (line + 1) rest) (range_from (before + 1) (line + 1) rest)
-
--- the rules of a text are in their ranges
-pub in_range : (text : Text) (rules : List Rule) → rules_in text ≡ Ok rules → AllByRecursion IsInRange rules
-unfolding rules_in
-in_range text rules is = subst (λ (r : AllRules). IfOk r (AllByRecursion IsInRange)) is (range_from 0 1 (text_lines text))
+-- all rules are
+pub all_in_range : (rules : List Rule) → AllByRecursion IsInRange rules
+all_in_range [] = tt
+all_in_range (rule ∷ rules) = (rule.in_range, all_in_range rules)

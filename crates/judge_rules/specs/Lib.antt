@@ -7,3 +7,4 @@ pub mod Lines
 pub mod Rules
 pub mod Standard
 pub mod Ranges
+pub mod Parts

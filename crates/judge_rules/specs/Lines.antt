@@ -7,8 +7,8 @@ use Rattle.mil_word.specs.declared.Line.{Line}
 use Rattle.mil_word.specs.declared.Line.TheVariants as line
 use Rattle.judge_rules.specs.declared.rules.Selector.{Selector}
 use Rattle.judge_rules.specs.declared.rules.Check.{Check}
-use Rattle.judge_rules.specs.declared.rules.Rule.{Rule}
 use Rattle.judge_rules.specs.Faults.{Read, both, made}
+use Rattle.judge_rules.specs.Parts.{Parts, of_these}
 use Rattle.judge_rules.specs.Values.{number_in}
 use Rattle.text_lines.specs.Words.{Text, words, begins_with, is_comment}
 use Rattle.judge_rules.specs.Selectors.{selector_in, behind_selector}
@@ -38,19 +38,25 @@ bus_in rest = if begins_with (codes "line") rest then first_bus (drop 1 rest) el
 abbrev pub behind_bus : List Text → List Text
 behind_bus rest = if begins_with (codes "line") rest then drop 2 rest else rest
 
-abbrev pub with_parts : ℕ → Read ((Option ℕ × Option Line) × (Selector × Check)) → Read Rule
-with_parts line read =
-    made (λ (place, asked). record
-    { line = line; channel = place.0; bus = place.1; selector = asked.0; check = asked.1 }) read
+-- a channel and a line of the bus, a selector and a check
+abbrev pub Expected : Type 0
+Expected = (Option ℕ × Option Line) × (Selector × Check)
 
--- the rule of the words behind `expect`, in a line of this number
-abbrev pub rule_behind : ℕ → List Text → Read Rule
-rule_behind line rest =
+-- what the words behind `expect` spell
+unfoldable pub expected_in : List Text → Read Expected
+expected_in rest =
     let behind = behind_bus (behind_channel rest) in
-    with_parts line (both (both (channel_in rest) (bus_in (behind_channel rest)))
-    (both (selector_in behind) (check_in (behind_selector behind))))
+    both (both (channel_in rest) (bus_in (behind_channel rest)))
+    (both (selector_in behind) (check_in (behind_selector behind)))
 
-unfoldable pub rule_in : ℕ → List Text → Read Rule
+-- the parts of the rule of a line of this number
+abbrev pub with_line : ℕ → Expected → Parts
+with_line line ((channel, bus), (selector, check)) = of_these line channel bus selector check
+
+abbrev pub rule_behind : ℕ → List Text → Read Parts
+rule_behind line rest = made (with_line line) (expected_in rest)
+
+unfoldable pub rule_in : ℕ → List Text → Read Parts
 rule_in line rest = if begins_with (codes "expect") rest then rule_behind line (drop 1 rest) else Err Word
 
 -- a line without words, or one whose first begins with `#`
@@ -62,5 +68,5 @@ abbrev pub is_passed_over : Text → Bool
 is_passed_over text = has_no_rule (words text)
 
 -- what a line of this number says, if it isn't passed over
-unfoldable pub said : ℕ → Text → Option (Read Rule)
+unfoldable pub said : ℕ → Text → Option (Read Parts)
 said line text = if is_passed_over text then None else Some (rule_in line (words text))

@@ -1,11 +1,12 @@
 -- The ranges of the numbers of a rule (own choice).
-use Rattle.std.specs.Prelude.{ℕ, ◌≤◌, length, Option, IfSome, ⊤}
+use Rattle.std.specs.Prelude.{ℕ, ◌≤◌, length, Option, None, Some, IfSome, ⊤}
+use Rattle.std.specs.Coded.{×_prop, Unit-prop, le_prop}
 use Rattle.mil_mode.specs.Codes.{last_code}
 use Rattle.mil_word.specs.Fields.{highest_address, highest_subaddress, most_words}
 use Rattle.judge_rules.specs.declared.rules.Bounds.{Bounds}
 use Rattle.judge_rules.specs.declared.rules.Check.{Check}
-use Rattle.judge_rules.specs.declared.rules.Check.TheVariants.{Sound, Failed, Clean, Status, Data, Response, Period, Count}
-use Rattle.judge_rules.specs.declared.rules.Rule.{Rule}
+use Rattle.judge_rules.specs.declared.rules.Check.TheVariants.{Sound, Failed, Clean, Status, Data, Response, Period}
+use Rattle.judge_rules.specs.declared.rules.Check.TheVariants.{Count}
 use Rattle.judge_rules.specs.declared.rules.Selector.{Selector}
 use Rattle.judge_rules.specs.declared.rules.Selector.TheVariants.{Any, Receive, Transmit, Between, Mode, ReceiveAll}
 use Rattle.judge_rules.specs.declared.rules.Selector.TheVariants.{BetweenAll, ModeAll}
@@ -55,6 +56,44 @@ IsCheck (Response bounds) = AreBounds 255 bounds
 IsCheck (Period bounds) = AreBounds 9999999 bounds
 IsCheck (Count bounds) = AreBounds 9999999 bounds
 
--- a rule whose numbers are in their ranges
-abbrev pub IsInRange : Rule → Type 0
-IsInRange rule = (IsChoice 1 65535 rule.channel) × (IsSelector rule.selector × IsCheck rule.check)
+-- the numbers of a rule: its channel, and those of its selector and its check
+abbrev pub AreInRange : Option ℕ → Selector → Check → Type 0
+AreInRange channel selector check = IsChoice 1 65535 channel × (IsSelector selector × IsCheck check)
+
+-- ---- each of these has one proof at most
+
+IsChoice-prop : (low high : ℕ) (choice : Option ℕ) → IsProp (IsChoice low high choice)
+IsChoice-prop low high None = Unit-prop
+IsChoice-prop low high (Some n) = ×_prop le_prop le_prop
+
+IsEnd-prop : (address subaddress : Option ℕ) → IsProp (IsAddress address × IsSubaddress subaddress)
+IsEnd-prop address subaddress =
+    ×_prop (IsChoice-prop 0 highest_address address) (IsChoice-prop 1 highest_subaddress subaddress)
+
+IsSelector-prop : (selector : Selector) → IsProp (IsSelector selector)
+IsSelector-prop Any = Unit-prop
+IsSelector-prop (Receive address subaddress) = IsEnd-prop address subaddress
+IsSelector-prop (Transmit address subaddress) = IsEnd-prop address subaddress
+IsSelector-prop (Between from from_subaddress to to_subaddress) =
+    ×_prop (IsEnd-prop from from_subaddress) (IsEnd-prop to to_subaddress)
+IsSelector-prop (Mode address code) =
+    ×_prop (IsChoice-prop 0 highest_address address) (IsChoice-prop 0 last_code code)
+IsSelector-prop (ReceiveAll subaddress) = IsChoice-prop 1 highest_subaddress subaddress
+IsSelector-prop (BetweenAll from from_subaddress to_subaddress) =
+    ×_prop (IsEnd-prop from from_subaddress) (IsChoice-prop 1 highest_subaddress to_subaddress)
+IsSelector-prop (ModeAll code) = IsChoice-prop 0 last_code code
+
+IsCheck-prop : (check : Check) → IsProp (IsCheck check)
+IsCheck-prop Sound = Unit-prop
+IsCheck-prop Failed = Unit-prop
+IsCheck-prop Clean = Unit-prop
+IsCheck-prop (Status datum) = Unit-prop
+IsCheck-prop (Data found) = le_prop
+IsCheck-prop (Response bounds) = ×_prop le_prop le_prop
+IsCheck-prop (Period bounds) = ×_prop le_prop le_prop
+IsCheck-prop (Count bounds) = ×_prop le_prop le_prop
+
+pub AreInRange-prop : (channel : Option ℕ) (selector : Selector) (check : Check)
+    → IsProp (AreInRange channel selector check)
+AreInRange-prop channel selector check =
+    ×_prop (IsChoice-prop 1 65535 channel) (×_prop (IsSelector-prop selector) (IsCheck-prop check))

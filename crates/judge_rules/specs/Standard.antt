@@ -1,8 +1,8 @@
 -- The rule by which a recording is judged where no other is given: each message is clean (own choice).
 use Rattle.std.specs.Prelude.{None}
-use Rattle.judge_rules.specs.declared.rules.Rule.{Rule}
+use Rattle.judge_rules.specs.Parts.{Parts}
 use Rattle.judge_rules.specs.declared.rules.Selector.TheVariants.{Any}
 use Rattle.judge_rules.specs.declared.rules.Check.TheVariants.{Clean}
 
-abbrev pub standard_rule : Rule
+abbrev pub standard_rule : Parts
 standard_rule = record { line = 1; channel = None; bus = None; selector = Any; check = Clean }

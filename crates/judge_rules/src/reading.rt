@@ -1,8 +1,8 @@
 //! The rules that a text spells.
-ghost use Rattle.judge_rules.specs.Ranges.{IsInRange};
+ghost use Rattle.judge_rules.specs.Parts.{IsInRange, parts_of};
 ghost use Rattle.judge_rules.specs.Rules.{rules_in, rules_from, IsRuleError, FitsAt};
 ghost use Rattle.std.specs.List.{AllByRecursion};
-ghost use Rattle.std.specs.Prelude.{◌≡◌, ◌+◌, ◌≤◌, ◌<◌, ◌^◌, Ok, Err, IfOk, IfErr, length};
+ghost use Rattle.std.specs.Prelude.{◌≡◌, ◌+◌, ◌≤◌, ◌<◌, ◌^◌, Ok, Err, IfOk, IfErr, length, map};
 ghost use Rattle.text_lines.specs.Lines.{text_lines};
 
 use crate::fault::{RuleError, RuleFault};
@@ -20,7 +20,7 @@ pub(crate) const MOST_RULES: usize = 10_000;
 /// a rule is I1 at the line behind its last. I4, want of memory, is answered only for a text without a fault, at the
 /// line of the rule for which it was refused.
 pub fn read_rules(alloc: Global, text: &[u8]) -> Result<Vec<Rule>, RuleError>
-    ensures rules { IfOk result (λ rules. rules_in text.now ≡ Ok rules.items) }
+    ensures rules { IfOk result (λ rules. rules_in text.now ≡ Ok (map parts_of rules.items)) }
     ensures ranges { IfOk result (λ rules. AllByRecursion IsInRange rules.items) }
     ensures fault { IfErr result (λ e. IsRuleError e (rules_in text.now)) }
 {

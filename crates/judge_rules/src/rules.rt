@@ -1,4 +1,6 @@
 //! What a rule asks of the messages of a recording (own choice).
+ghost use Rattle.judge_rules.specs.Ranges.{AreInRange, AreInRange-prop};
+
 use arrayvec::ArrayVec;
 use mil_word::Line;
 
@@ -82,7 +84,7 @@ pub enum Check {
     Count(Bounds),
 }
 
-/// A rule.
+/// A rule. None is made whose numbers are out of their ranges.
 #[derive(Debug, Drop, PartialEq, Eq)]
 pub struct Rule {
     /// The line of the text that it stands in, counted from 1.
@@ -93,4 +95,6 @@ pub struct Rule {
     pub bus: Option<Line>,
     pub selector: Selector,
     pub check: Check,
+    /// The numbers of the channel, the selector and the check are in their ranges.
+    pub ghost in_range: { AreInRange channel selector check } by { AreInRange-prop channel selector check },
 }
