@@ -13,7 +13,8 @@ use Rattle.mil_message.specs.declared.forms.Form.{Form}
 use Rattle.mil_message.specs.Forms.{controller_waves}
 use Rattle.mil_terminal.specs.declared.events.Event.TheVariants.{Heard, Quiet}
 use Rattle.mil_terminal.specs.History.{History}
-use Rattle.mil_terminal.specs.Host.{told_deaf, is_deaf, is_busy, response_gap}
+use Rattle.mil_terminal.specs.Host.{told_deaf, told_off, is_deaf, is_off, is_busy, response_gap}
+use Rattle.mil_terminal.proofs.Passing.{words_on, words_off, quiet_on}
 use Rattle.mil_terminal.specs.Station.{Station, after}
 use Rattle.mil_terminal.specs.Status.{status}
 use Rattle.mil_terminal.specs.Verdicts.{words_due}
@@ -24,7 +25,7 @@ use Rattle.mil_bus.specs.declared.talks.Source.TheVariants.{Controller, Terminal
 use Rattle.mil_bus.specs.declared.talks.Sent.{Sent}
 use Rattle.mil_bus.specs.declared.talk_runs.Run.{Run}
 use Rattle.mil_bus.specs.Actions.{station_of}
-use Rattle.mil_bus.specs.Exchange.{BusState, Offer, words_of_run, quieted, answer, first_reply, next_offer, all_hearing, quiet_after, controllers, last_on, gap_since, talk_start, exchange_of, talk_of}
+use Rattle.mil_bus.specs.Exchange.{BusState, Offer, contiguous_run, quieted, answer, first_reply, next_offer, all_hearing, quiet_after, controllers, last_on, gap_since, talk_start, exchange_of, talk_of}
 use Rattle.mil_bus.specs.DataRuns.{hearing_all}
 use Rattle.mil_bus.specs.Index.{IsClosed}
 use Rattle.mil_bus.proofs.Answering.{answer-none}
@@ -41,15 +42,21 @@ use Rattle.judge_laws.proofs.OneReply.{other-called, or-first, turned, each, of-
 
 -- the two commands of a transfer, as a run of the controller
 abbrev pub commands_run : ℕ → ℕ → ℕ → List Sent
-commands_run g c1 c2 = words_of_run 0 Controller g (command_wave c1 ∷ command_wave c2 ∷ [])
+commands_run g c1 c2 = contiguous_run 0 Controller g (command_wave c1 ∷ command_wave c2 ∷ [])
 
 abbrev pub after_commands : Line → ℕ → ℕ → ℕ → History → History
 after_commands line g c1 c2 h = Heard line (command_wave c2) 20 ∷ Heard line (command_wave c1) g ∷ h
 
-pub hears-commands : (line : Line) (g c1 c2 : ℕ) (s : Station) → is_deaf line s.history ≡ false → hearing_all line (commands_run g c1 c2) s ≡ record { own = s.own; history = after_commands line g c1 c2 s.history }
-hears-commands line g c1 c2 s hears =
+pub hears-commands : (line : Line) (g c1 c2 : ℕ) (s : Station) → is_off s.history ≡ false → is_deaf line s.history ≡ false → hearing_all line (commands_run g c1 c2) s ≡ record { own = s.own; history = after_commands line g c1 c2 s.history }
+hears-commands line g c1 c2 s on hears =
     let r : Run = record { number = 0; source = Controller; gap = g } in
-    sym (run-heard line r (command_wave c1 ∷ command_wave c2 ∷ []) s hears)
+    sym (run-heard line r (command_wave c1 ∷ command_wave c2 ∷ []) s hears) ∙ words_on s line g (command_wave c1 ∷ command_wave c2 ∷ []) on
+
+-- a terminal that is off hears neither
+pub off-commands : (line : Line) (g c1 c2 : ℕ) (s : Station) → is_off s.history ≡ true → is_deaf line s.history ≡ false → hearing_all line (commands_run g c1 c2) s ≡ s
+off-commands line g c1 c2 s off hears =
+    let r : Run = record { number = 0; source = Controller; gap = g } in
+    sym (run-heard line r (command_wave c1 ∷ command_wave c2 ∷ []) s hears) ∙ words_off s line g (command_wave c1 ∷ command_wave c2 ∷ []) off
 
 -- a station that neither command calls
 idle-commands : (line : Line) (g c1 c2 : ℕ) (s : Station) → c1 < 2 ^ 16 → c2 < 2 ^ 16 → (address_of c1 == s.own || is_broadcast c1) ≡ false → (address_of c2 == s.own || is_broadcast c2) ≡ false → Idle s
@@ -64,14 +71,18 @@ idle-commands line g c1 c2 s small1 small2 other1 other2 is = go (is_deaf line s
 
     go : (b : Bool) → is_deaf line s.history ≡ b → Idle (hearing_all line (commands_run g c1 c2) s)
     go true deaf = later s (run-missed line r (command_wave c1 ∷ command_wave c2 ∷ []) s deaf) is
-    go false hears =
-        later (record { own = s.own; history = after_commands line g c1 c2 s.history }) (sym (hears-commands line g c1 c2 s hears))
-        (rests-word s.own line (command_wave c2) 20 (Heard line (command_wave c1) g ∷ s.history) (opens-other s.own line c2 20 small2 other2)
-        (rests-word s.own line (command_wave c1) g s.history (opens-other s.own line c1 g small1 other1) is))
+    go false hears = when (is_off s.history) refl
+      where
+        when : (b : Bool) → is_off s.history ≡ b → Idle (hearing_all line (commands_run g c1 c2) s)
+        when true off = later s (sym (off-commands line g c1 c2 s off hears)) is
+        when false on =
+            later (record { own = s.own; history = after_commands line g c1 c2 s.history }) (sym (hears-commands line g c1 c2 s on hears))
+            (rests-word s.own line (command_wave c2) 20 (Heard line (command_wave c1) g ∷ s.history) (opens-other s.own line c2 20 (Heard line (command_wave c1) g ∷ s.history) small2 other2)
+            (rests-word s.own line (command_wave c1) g s.history (opens-other s.own line c1 g s.history small1 other1) is))
 
 -- a reply heard by a station at rest, in any run
 heard-idle : (line : Line) (run address gap status : ℕ) (values : List ℕ) (s : Station) → status < 2 ^ 16 → AreSmall values → address_of status ≡ address → address ≤ 30 → Idle s
-    → Idle (hearing_all line (words_of_run run (Terminal address) gap (command_wave status ∷ map data_wave values)) s)
+    → Idle (hearing_all line (contiguous_run run (Terminal address) gap (command_wave status ∷ map data_wave values)) s)
 heard-idle line run address gap status values s small words mine low idle =
     idle-run line run (Terminal address) gap status values s small words
     (λ heard. other-called status address s.own mine low (turned address s.own (or-first (address == s.own) (is_deaf line s.history) heard))) idle
@@ -110,7 +121,7 @@ module _ (line : Line) (g c1 c2 sender receiver count : ℕ) (s r : Station) (e 
   sender_status = status s.own (Quiet line ∷ sender_heard)
 
   abbrev pub sender_words : List ℕ
-  sender_words = low_words (data_sent s.own c2 (Quiet line ∷ sender_heard))
+  sender_words = low_words (data_sent s.own c2 sender_heard)
 
   abbrev pub sender_time : ℕ
   sender_time = response_gap s.history
@@ -134,10 +145,10 @@ module _ (line : Line) (g c1 c2 sender receiver count : ℕ) (s r : Station) (e 
   sender-not-receiver = ap (λ n. n == receiver) e.sender_own ∙ e.apart
 
   rests-first : Rests s.own (Heard line (command_wave c1) g ∷ s.history)
-  rests-first = rests-word s.own line (command_wave c1) g s.history (opens-other s.own line c1 g e.small_first (first-other s.own sender-not-receiver)) e.sender_idle
+  rests-first = rests-word s.own line (command_wave c1) g s.history (opens-other s.own line c1 g s.history e.small_first (first-other s.own sender-not-receiver)) e.sender_idle
 
   sends-first : is_transmitter_on s.own line (Heard line (command_wave c1) g ∷ s.history) ≡ true
-  sends-first = on-stays s.own line (Heard line (command_wave c1) g) s.history (nothing_open s.own (Heard line (command_wave c1) g) s.history e.sender_idle) ∙ e.sender_can.sends
+  sends-first = on-stays s.own line (Heard line (command_wave c1) g) s.history refl (nothing_open s.own (Heard line (command_wave c1) g) s.history e.sender_idle) ∙ e.sender_can.sends
 
   pub sender-is : IsStatus s.own sender_status
   sender-is = status-is s.own (Quiet line ∷ sender_heard) (omega (arith, e.sender_own, e.low_sender))
@@ -147,14 +158,14 @@ module _ (line : Line) (g c1 c2 sender receiver count : ℕ) (s r : Station) (e 
 
   pub words-many : length sender_words ≡ count
   words-many =
-      length-map (data_sent s.own c2 (Quiet line ∷ sender_heard)) (λ v. v % 2 ^ 16)
-      ∙ e.many (Quiet line ∷ sender_heard) (free-then s.own line c2 20 [] (Heard line (command_wave c1) g ∷ s.history) e.small_second tt mine e.sender_can.free)
+      length-map (data_sent s.own c2 sender_heard) (λ v. v % 2 ^ 16)
+      ∙ e.many sender_heard (free-then s.own line c2 20 [] (Heard line (command_wave c1) g ∷ s.history) e.small_second tt mine e.sender_can.free)
 
   -- the sender's reply
   pub sender-offers : answer line (hearing_all line (commands_run g c1 c2) s) ≡ Some (record { source = Terminal sender; gap = sender_time; waves = command_wave sender_status ∷ map data_wave sender_words })
   sender-offers =
-      ap (answer line) (hears-commands line g c1 c2 s e.sender_can.hears)
-      ∙ gives s.own line c2 20 [] (Heard line (command_wave c1) g ∷ s.history) e.small_second tt mine rests-first e.sender_can.legal e.none_due sends-first e.sender_can.hears e.sender_can.speaks
+      ap (answer line) (hears-commands line g c1 c2 s e.sender_can.on e.sender_can.hears)
+      ∙ gives s.own line c2 20 [] (Heard line (command_wave c1) g ∷ s.history) e.small_second tt mine rests-first e.sender_can.on e.sender_can.legal e.none_due sends-first e.sender_can.hears e.sender_can.speaks
       ∙ ap (λ n. let x : Offer = record { source = Terminal n; gap = sender_time; waves = command_wave sender_status ∷ map data_wave sender_words } in Some x) e.sender_own
 
   transfer : IsTransfer r.own c1 c2 sender_time sender_status sender_words
@@ -162,7 +173,7 @@ module _ (line : Line) (g c1 c2 sender receiver count : ℕ) (s r : Station) (e 
     small_first = e.small_first;
     small_second = e.small_second;
     small_status = sender-is.below;
-    words = low-small (data_sent s.own c2 (Quiet line ∷ sender_heard));
+    words = low-small (data_sent s.own c2 sender_heard);
     mine = e.first_is ∙ sym e.receiver_own;
     receives = e.receives;
     no_transmit = e.no_transmit;
@@ -181,7 +192,7 @@ module _ (line : Line) (g c1 c2 sender receiver count : ℕ) (s r : Station) (e 
   -- the receiver waits for the sender
   pub receiver-waits : answer line (hearing_all line (commands_run g c1 c2) r) ≡ None
   receiver-waits =
-      ap (answer line) (hears-commands line g c1 c2 r e.receiver_can.hears)
+      ap (answer line) (hears-commands line g c1 c2 r e.receiver_can.on e.receiver_can.hears)
       ∙ answer-none line (record { own = r.own; history = after_commands line g c1 c2 r.history }) (waits r.own line c1 c2 g sender_time sender_status sender_words r.history transfer)
 
   -- all stations, one by one: the sender, the receiver, and the others
@@ -209,17 +220,18 @@ module _ (line : Line) (g c1 c2 sender receiver count : ℕ) (s r : Station) (e 
       ∙ sym (ap (λ k. if k then Some (record { source = Terminal sender; gap = sender_time; waves = command_wave sender_status ∷ map data_wave sender_words }) else None) a)
 
   abbrev second_run : List Sent
-  second_run = words_of_run 1 (Terminal sender) sender_time (command_wave sender_status ∷ map data_wave sender_words)
+  second_run = contiguous_run 1 (Terminal sender) sender_time (command_wave sender_status ∷ map data_wave sender_words)
 
   abbrev then_heard : Station → Station
   then_heard x = hearing_all line second_run (quieted line (hearing_all line (commands_run g c1 c2) x))
 
-  quiet-hears : (x y : Station) → hearing_all line (commands_run g c1 c2) x ≡ y → is_deaf line y.history ≡ false → quieted line (hearing_all line (commands_run g c1 c2) x) ≡ after y (Quiet line)
-  quiet-hears x y is hears = rw (is, hears) refl
+  quiet-hears : (x y : Station) → hearing_all line (commands_run g c1 c2) x ≡ y → is_off y.history ≡ false → is_deaf line y.history ≡ false
+      → quieted line (hearing_all line (commands_run g c1 c2) x) ≡ record { own = y.own; history = Quiet line ∷ y.history }
+  quiet-hears x y is on hears = rw (is, hears) (quiet_on y line on)
 
   sender-idle-then : Idle (quieted line (hearing_all line (commands_run g c1 c2) s))
   sender-idle-then =
-      subst Idle (sym (quiet-hears s (record { own = s.own; history = sender_heard }) (hears-commands line g c1 c2 s e.sender_can.hears) e.sender_can.hears))
+      subst Idle (sym (quiet-hears s (record { own = s.own; history = sender_heard }) (hears-commands line g c1 c2 s e.sender_can.on e.sender_can.hears) e.sender_can.on e.sender_can.hears))
       (rests-then s.own line c2 20 [] (Heard line (command_wave c1) g ∷ s.history) e.small_second tt mine)
 
   other-idle-then : (x : Station) → (x.own == sender) ≡ false → (x.own == receiver) ≡ false → Idle x → Idle (quieted line (hearing_all line (commands_run g c1 c2) x))
@@ -227,15 +239,16 @@ module _ (line : Line) (g c1 c2 sender receiver count : ℕ) (s r : Station) (e 
 
   then-idle : (x : Station) → Idle (quieted line (hearing_all line (commands_run g c1 c2) x)) → Idle (then_heard x)
   then-idle x idle =
-      heard-idle line 1 sender sender_time sender_status sender_words (quieted line (hearing_all line (commands_run g c1 c2) x)) sender-is.below (low-small (data_sent s.own c2 (Quiet line ∷ sender_heard)))
+      heard-idle line 1 sender sender_time sender_status sender_words (quieted line (hearing_all line (commands_run g c1 c2) x)) sender-is.below (low-small (data_sent s.own c2 sender_heard))
       (sender-is.address ∙ e.sender_own) e.low_sender idle
 
   receiver-then : then_heard r ≡ record { own = r.own; history = receiver_heard }
   receiver-then =
       let waiting : Station = record { own = r.own; history = waiting_past r.own line c1 c2 g sender_time sender_status sender_words r.history } in
       let run : Run = record { number = 1; source = Terminal sender; gap = sender_time } in
-      ap (hearing_all line second_run) (quiet-hears r (record { own = r.own; history = after_commands line g c1 c2 r.history }) (hears-commands line g c1 c2 r e.receiver_can.hears) e.receiver_can.hears)
+      ap (hearing_all line second_run) (quiet-hears r (record { own = r.own; history = after_commands line g c1 c2 r.history }) (hears-commands line g c1 c2 r e.receiver_can.on e.receiver_can.hears) e.receiver_can.on e.receiver_can.hears)
       ∙ sym (run-heard line run (command_wave sender_status ∷ map data_wave sender_words) waiting (or-none (sender == r.own) (is_deaf line r.history) (ap (λ n. sender == n) e.receiver_own ∙ e.apart) e.receiver_can.hears))
+      ∙ words_on waiting line sender_time (command_wave sender_status ∷ map data_wave sender_words) e.receiver_can.on
     where
       or-none : (a b : Bool) → a ≡ false → b ≡ false → (a || b) ≡ false
       or-none a b x y = rw (x, y) refl
@@ -247,7 +260,7 @@ module _ (line : Line) (g c1 c2 sender receiver count : ℕ) (s r : Station) (e 
       ∙ sym (ap (λ b. if b then Some (record { source = Terminal receiver; gap = response_gap r.history; waves = command_wave receiver_status ∷ [] }) else None) sender-not-receiver))
   second-answers x (is_receiver same) idle =
       rw same (ap (answer line) receiver-then
-      ∙ answers-last r.own line c1 c2 g sender_time sender_status sender_words r.history transfer e.receiver_idle e.receiver_can.legal e.receiver_can.sends e.receiver_can.hears e.receiver_can.speaks
+      ∙ answers-last r.own line c1 c2 g sender_time sender_status sender_words r.history transfer e.receiver_idle e.receiver_can.on e.receiver_can.legal e.receiver_can.sends e.receiver_can.hears e.receiver_can.speaks
       ∙ ap (λ n. let o : Offer = record { source = Terminal n; gap = response_gap r.history; waves = command_wave receiver_status ∷ [] } in Some o) e.receiver_own
       ∙ sym (ap (λ b. if b then Some (record { source = Terminal receiver; gap = response_gap r.history; waves = command_wave receiver_status ∷ [] }) else None) (eq-eqb r.own receiver e.receiver_own)))
   second-answers x (is_other a b) idle =
@@ -263,8 +276,11 @@ module _ (line : Line) (g c1 c2 sender receiver count : ℕ) (s r : Station) (e 
       deaf : is_deaf line receiver_heard ≡ false
       deaf = set-stays (told_deaf line) false line sender_time (command_wave sender_status ∷ map data_wave sender_words) (waiting_past r.own line c1 c2 g sender_time sender_status sender_words r.history) ∙ e.receiver_can.hears
 
+      on : is_off receiver_heard ≡ false
+      on = set-stays told_off false line sender_time (command_wave sender_status ∷ map data_wave sender_words) (waiting_past r.own line c1 c2 g sender_time sender_status sender_words r.history) ∙ e.receiver_can.on
+
       quiet-rests : (b : Bool) → is_deaf line receiver_heard ≡ b → Idle (quieted line (record { own = r.own; history = receiver_heard }))
-      quiet-rests b is = rw deaf (rests-after r.own line c1 c2 g sender_time sender_status sender_words r.history transfer)
+      quiet-rests b is = rw (deaf, on) (rests-after r.own line c1 c2 g sender_time sender_status sender_words r.history transfer)
   at-end x (is_other a b) idle = idle-quiet line (then_heard x) (then-idle x (other-idle-then x a b idle))
 
 -- ---- the whole exchange
@@ -295,12 +311,12 @@ both-reply b line form gap c1 c2 count first second s r is no_words words few re
     let s_is = sender-is line g c1 c2 sender receiver count s r e in
     let r_is = receiver-is line g c1 c2 sender receiver count s r e in
     let many = words-many line g c1 c2 sender receiver count s r e in
-    let vs_small = low-small (data_sent s.own c2 (Quiet line ∷ after_commands line g c1 c2 s.history)) in
+    let vs_small = low-small (data_sent s.own c2 (after_commands line g c1 c2 s.history)) in
     let one : Offer = record { source = Terminal sender; gap = time; waves = command_wave st ∷ map data_wave vs } in
     let two : Offer = record { source = Terminal receiver; gap = last_time; waves = command_wave last_st ∷ [] } in
     let run0 = commands_run g c1 c2 in
-    let run1 = words_of_run 1 (Terminal sender) time (command_wave st ∷ map data_wave vs) in
-    let run2 = words_of_run 2 (Terminal receiver) last_time (command_wave last_st ∷ []) in
+    let run1 = contiguous_run 1 (Terminal sender) time (command_wave st ∷ map data_wave vs) in
+    let run2 = contiguous_run 2 (Terminal receiver) last_time (command_wave last_st ∷ []) in
     let all : AllByRecursion (λ (x : Station). Idle x × ((x.own == sender) ≡ true → x ≡ s) × ((x.own == receiver) ≡ true → x ≡ r)) b.stations =
     two-in-one Idle (λ (x : Station). (x.own == sender) ≡ true → x ≡ s) (λ (x : Station). (x.own == receiver) ≡ true → x ≡ r) b.stations idle fs.one fr.one in
     let offers : AllByRecursion (λ (x : Station). answer line (hearing_all line run0 x) ≡ (if x.own == sender then Some one else None)) b.stations =
@@ -310,8 +326,8 @@ both-reply b line form gap c1 c2 count first second s r is no_words words few re
     let more : AllByRecursion (λ (x : Station). answer line (f x) ≡ (if x.own == receiver then Some two else None)) b.stations =
     each (λ (x : Station). Idle x × ((x.own == sender) ≡ true → x ≡ s) × ((x.own == receiver) ≡ true → x ≡ r)) (λ (x : Station). answer line (f x) ≡ (if x.own == receiver then Some two else None))
     (λ x p. second-answers line g c1 c2 sender receiver count s r e x (part-of line g c1 c2 sender receiver count s r e x p.1 p.2) p.0) b.stations all in
-    let sent = words_of_run 0 Controller g (controller_waves form) in
-    let same : sent ≡ run0 = ap (words_of_run 0 Controller g) is in
+    let sent = contiguous_run 0 Controller g (controller_waves form) in
+    let same : sent ≡ run0 = ap (contiguous_run 0 Controller g) is in
     let next : next_offer line sent (all_hearing line sent b.stations) ≡ Some one =
     ap (λ ws. next_offer line ws (all_hearing line ws b.stations)) same
     ∙ ap (first_reply line) (sym (all-hear line run0 b.stations)) ∙ finds-offer line sender one (hearing_all line run0) b.stations offers fs.there in

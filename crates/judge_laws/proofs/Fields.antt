@@ -12,7 +12,7 @@ use Rattle.mil_message.specs.Forms.{command_word, mode_subaddress}
 use Rattle.mil_message.proofs.ReadBack.{sub_of-command_word}
 use Rattle.mil_terminal.specs.History.{History}
 use Rattle.mil_terminal.specs.Host.{is_busy}
-use Rattle.mil_terminal.specs.Registers.{transmit_words}
+use Rattle.mil_terminal.specs.Replies.{transmit_words}
 use Rattle.mil_terminal.specs.Verdicts.{words_due, is_unknown}
 use Rattle.mil_terminal.specs.Replies.{exactly, mode_data, data_sent}
 

@@ -4,6 +4,7 @@ pub mod Openings
 pub mod ToAll
 pub mod AllForms
 pub mod Rest
+pub mod Items
 pub mod Shapes
 pub mod Statuses
 pub mod Stations

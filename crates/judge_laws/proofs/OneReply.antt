@@ -12,7 +12,8 @@ use Rattle.mil_message.specs.declared.forms.Form.{Form}
 use Rattle.mil_message.specs.Forms.{controller_waves}
 use Rattle.mil_terminal.specs.declared.events.Event.TheVariants.{Quiet}
 use Rattle.mil_terminal.specs.History.{History}
-use Rattle.mil_terminal.specs.Host.{told_deaf, is_deaf, is_busy, response_gap}
+use Rattle.mil_terminal.specs.Host.{told_deaf, told_off, is_deaf, is_off, is_busy, response_gap}
+use Rattle.mil_terminal.proofs.Passing.{words_on, quiet_on}
 use Rattle.mil_terminal.specs.Station.{Station, after}
 use Rattle.mil_terminal.specs.Status.{status}
 use Rattle.mil_terminal.specs.Verdicts.{words_due}
@@ -22,7 +23,7 @@ use Rattle.mil_bus.specs.declared.talks.Source.TheVariants.{Controller, Terminal
 use Rattle.mil_bus.specs.declared.talks.Sent.{Sent}
 use Rattle.mil_bus.specs.declared.talk_runs.Run.{Run}
 use Rattle.mil_bus.specs.Actions.{station_of}
-use Rattle.mil_bus.specs.Exchange.{BusState, Offer, words_of_run, quieted, answer, first_reply, next_offer, all_hearing, quiet_after, controllers, last_on, gap_since, talk_start, exchange_of, talk_of}
+use Rattle.mil_bus.specs.Exchange.{BusState, Offer, contiguous_run, quieted, answer, first_reply, next_offer, all_hearing, quiet_after, controllers, last_on, gap_since, talk_start, exchange_of, talk_of}
 use Rattle.mil_bus.specs.DataRuns.{hearing_all}
 use Rattle.mil_bus.specs.Index.{IsClosed}
 use Rattle.mil_bus.proofs.DataRuns.{run-heard}
@@ -47,14 +48,14 @@ other-called c address own mine low other =
     or-false (address_of c == own) (is_broadcast c) (ap (λ n. n == own) mine ∙ no) (ap (λ n. n == 31) mine ∙ not-to-all address low)
 
 abbrev controllers_words : ℕ → ℕ → List ℕ → List Sent
-controllers_words c g values = words_of_run 0 Controller g (command_wave c ∷ map data_wave values)
+controllers_words c g values = contiguous_run 0 Controller g (command_wave c ∷ map data_wave values)
 
 module _ (line : Line) (c g : ℕ) (values : List ℕ) (small : c < 2 ^ 16) (words : AreSmall values) where
   -- a terminal that hears the command
-  takes : (t : Station) → is_deaf line t.history ≡ false → hearing_all line (controllers_words c g values) t ≡ record { own = t.own; history = past t.own line c g values t.history }
-  takes t hears =
+  takes : (t : Station) → is_off t.history ≡ false → is_deaf line t.history ≡ false → hearing_all line (controllers_words c g values) t ≡ record { own = t.own; history = past t.own line c g values t.history }
+  takes t on hears =
       let r : Run = record { number = 0; source = Controller; gap = g } in
-      sym (run-heard line r (command_wave c ∷ map data_wave values) t hears)
+      sym (run-heard line r (command_wave c ∷ map data_wave values) t hears) ∙ words_on t line g (command_wave c ∷ map data_wave values) on
 
   -- each station's answer
   answers : (address : ℕ) (o : Offer) (t s : Station) → address_of c ≡ address → address ≤ 30 → answer line (hearing_all line (controllers_words c g values) t) ≡ Some o
@@ -68,9 +69,9 @@ module _ (line : Line) (c g : ℕ) (values : List ℕ) (small : c < 2 ^ 16) (wor
           ∙ sym (ap (λ b. if b then Some o else None) other)
 
   -- after the quiet no window is open
-  then-idle : (address : ℕ) (t s : Station) → address_of c ≡ address → address ≤ 30 → t.own ≡ address → is_deaf line t.history ≡ false
+  then-idle : (address : ℕ) (t s : Station) → address_of c ≡ address → address ≤ 30 → t.own ≡ address → is_off t.history ≡ false → is_deaf line t.history ≡ false
       → ((s.own == address) ≡ true → s ≡ t) → Idle s → Idle (quieted line (hearing_all line (controllers_words c g values) s))
-  then-idle address t s mine low own hears one idle = go (s.own == address) refl
+  then-idle address t s mine low own on hears one idle = go (s.own == address) refl
     where
       after-quiet : (x : Station) → hearing_all line (controllers_words c g values) t ≡ x → is_deaf line x.history ≡ false → Idle (after x (Quiet line)) → Idle (quieted line (hearing_all line (controllers_words c g values) t))
       after-quiet x is deaf idle_then = subst (λ (y : Station). Idle (quieted line y)) (sym is) (rw deaf idle_then)
@@ -78,10 +79,14 @@ module _ (line : Line) (c g : ℕ) (values : List ℕ) (small : c < 2 ^ 16) (wor
       deaf-still : (x : Station) → is_deaf line x.history ≡ false → is_deaf line (past x.own line c g values x.history) ≡ false
       deaf-still x is = set-stays (told_deaf line) false line g (command_wave c ∷ map data_wave values) x.history ∙ is
 
+      on-still : (x : Station) → is_off x.history ≡ false → is_off (past x.own line c g values x.history) ≡ false
+      on-still x is = set-stays told_off false line g (command_wave c ∷ map data_wave values) x.history ∙ is
+
       go : (b : Bool) → (s.own == address) ≡ b → Idle (quieted line (hearing_all line (controllers_words c g values) s))
       go true same =
           let is = one same in
-          rw is (after-quiet (record { own = t.own; history = past t.own line c g values t.history }) (takes t hears) (deaf-still t hears) (rests-then t.own line c g values t.history small words (mine ∙ sym own)))
+          let x : Station = record { own = t.own; history = past t.own line c g values t.history } in
+          rw is (after-quiet x (takes t on hears) (deaf-still t hears) (subst Idle (sym (quiet_on x line (on-still t on))) (rests-then t.own line c g values t.history small words (mine ∙ sym own))))
       go false other = idle-quiet line (hearing_all line (controllers_words c g values) s) (idle-run line 0 Controller g c values s small words (λ _. other-called c address s.own mine low other) idle)
 
 pub or-first : (a b : Bool) → (a || b) ≡ false → a ≡ false
@@ -93,7 +98,7 @@ turned m n is = grind (arith, nat_tests)
 
 -- a reply heard by a station at rest
 heard-idle : (line : Line) (address gap status : ℕ) (values : List ℕ) (s : Station) → status < 2 ^ 16 → AreSmall values → address_of status ≡ address → address ≤ 30 → Idle s
-    → Idle (hearing_all line (words_of_run 1 (Terminal address) gap (command_wave status ∷ map data_wave values)) s)
+    → Idle (hearing_all line (contiguous_run 1 (Terminal address) gap (command_wave status ∷ map data_wave values)) s)
 heard-idle line address gap status values s small words mine low idle =
     idle-run line 1 (Terminal address) gap status values s small words
     (λ heard. other-called status address s.own mine low (turned address s.own (or-first (address == s.own) (is_deaf line s.history) heard))) idle
@@ -116,7 +121,7 @@ of-one P address t (s ∷ ss) all one there = go (λ found. of-one P address t s
     go rest true here = let is : s ≡ t = one.0 here in rw (← is) all.0
     go rest false other = rest (ap (λ b. b || list_any (λ (x : Station). x.own == address) ss) (sym other) ∙ there)
 
-pub words-long : (run : ℕ) (source : Source) (gap : ℕ) (waves : List ℕ) → length (words_of_run run source gap waves) ≡ length waves
+pub words-long : (run : ℕ) (source : Source) (gap : ℕ) (waves : List ℕ) → length (contiguous_run run source gap waves) ≡ length waves
 words-long run source gap [] = refl
 words-long run source gap (w ∷ ws) = ap suc (words-long run source 20 ws)
 
@@ -135,23 +140,23 @@ one-reply b line form gap c values due t is small words mine low announced fits 
     let low_own : t.own ≤ 30 = omega (arith, f.own, low) in
     let h = past t.own line c g values t.history in
     let st = status t.own (Quiet line ∷ h) in
-    let vs = low_words (data_sent t.own c (Quiet line ∷ h)) in
-    let vs_small = low-small (data_sent t.own c (Quiet line ∷ h)) in
+    let vs = low_words (data_sent t.own c h) in
+    let vs_small = low-small (data_sent t.own c h) in
     let s_is = status-is t.own (Quiet line ∷ h) low_own in
     let st_mine : address_of st ≡ a = s_is.address ∙ f.own in
     let reply = command_wave st ∷ map data_wave vs in
     let o : Offer = record { source = Terminal a; gap = response_gap t.history; waves = reply } in
     let first = controllers_words c g values in
     let given : answer line (hearing_all line first t) ≡ Some o =
-    ap (answer line) (takes line c g values small words t can.hears)
-    ∙ gives t.own line c g values t.history small words own idle_one can.legal announced can.sends can.hears can.speaks
+    ap (answer line) (takes line c g values small words t can.on can.hears)
+    ∙ gives t.own line c g values t.history small words own idle_one can.on can.legal announced can.sends can.hears can.speaks
     ∙ ap (λ n. let x : Offer = record { source = Terminal n; gap = response_gap t.history; waves = reply } in Some x) f.own in
     let both = zip Idle (λ (s : Station). (s.own == a) ≡ true → s ≡ t) b.stations idle f.one in
     let offers : AllByRecursion (λ (s : Station). answer line (hearing_all line first s) ≡ (if s.own == a then Some o else None)) b.stations =
     each (λ (s : Station). Idle s × ((s.own == a) ≡ true → s ≡ t)) (λ (s : Station). answer line (hearing_all line first s) ≡ (if s.own == a then Some o else None))
     (λ s p. answers line c g values small words a o t s mine low given p.1 p.0) b.stations both in
-    let sent = words_of_run 0 Controller g (controller_waves form) in
-    let same : sent ≡ first = ap (words_of_run 0 Controller g) is in
+    let sent = contiguous_run 0 Controller g (controller_waves form) in
+    let same : sent ≡ first = ap (contiguous_run 0 Controller g) is in
     let next : next_offer line sent (all_hearing line sent b.stations) ≡ Some o =
     ap (λ ws. next_offer line ws (all_hearing line ws b.stations)) same
     ∙ ap (first_reply line) (sym (all-hear line first b.stations)) ∙ finds-offer line a o (hearing_all line first) b.stations offers f.there in
@@ -160,16 +165,16 @@ one-reply b line form gap c values due t is small words mine low announced fits 
     ap (λ ws. quiet_after line ws (all_hearing line ws b.stations)) same ∙ ap (map (quieted line)) (sym (all-hear line first b.stations)) in
     let heard_first : AllByRecursion (λ s. Idle (quieted line s)) (map (hearing_all line first) b.stations) =
     all-through (hearing_all line first) (λ (s : Station). Idle s × ((s.own == a) ≡ true → s ≡ t)) (λ s. Idle (quieted line s))
-    (λ s p. then-idle line c g values small words a t s mine low f.own can.hears p.1 p.0) b.stations both in
+    (λ s p. then-idle line c g values small words a t s mine low f.own can.on can.hears p.1 p.0) b.stations both in
     let idle_now : AllByRecursion Idle quiet_now = all-through (quieted line) (λ s. Idle (quieted line s)) Idle (λ s p. p) (map (hearing_all line first) b.stations) heard_first in
-    let second = words_of_run 1 (Terminal a) (response_gap t.history) reply in
+    let second = contiguous_run 1 (Terminal a) (response_gap t.history) reply in
     let silent_each : AllByRecursion (λ s. answer line s ≡ None) (map (hearing_all line second) quiet_now) =
     all-through (hearing_all line second) Idle (λ s. answer line s ≡ None)
     (λ s p. idle-answer line (hearing_all line second s) (heard-idle line a (response_gap t.history) st vs s s_is.below vs_small st_mine low p)) quiet_now idle_now in
     let silent : first_reply line (all_hearing line second (quiet_after line sent (all_hearing line sent b.stations))) ≡ None =
     ap (λ ss. first_reply line (all_hearing line second ss)) quiet_is ∙ ap (first_reply line) (sym (all-hear line second quiet_now)) ∙ nobody line (map (hearing_all line second) quiet_now) silent_each in
     let many_vs : length vs ≡ due.words =
-    length-map (data_sent t.own c (Quiet line ∷ h)) (λ v. v % 2 ^ 16) ∙ many (Quiet line ∷ h) (free-then t.own line c g values t.history small words own can.free) in
+    length-map (data_sent t.own c h) (λ v. v % 2 ^ 16) ∙ many h (free-then t.own line c g values t.history small words own can.free) in
     let long_sent : length sent ≡ 1 + length values = ap (λ (ws : List Sent). length ws) same ∙ words-long 0 Controller g (command_wave c ∷ map data_wave values) ∙ omega (arith, length-map values data_wave) in
     let long_waves : length (controller_waves form) ≡ 1 + length values = ap (λ (ws : List ℕ). length ws) is ∙ omega (arith, length-map values data_wave) in
     let fits_first : length (controller_waves form) ≤ 40 = omega (arith, long_waves, fits) in
@@ -187,6 +192,6 @@ one-reply b line form gap c values due t is small words mine low announced fits 
         words = vs_small;
         many = many_vs;
       };
-      sent = turn-then 39 0 line (controllers line form (talk_start b gap) b.talks) [] b.stations (Some o) (sent ++ words_of_run 1 (Terminal a) (response_gap t.history) reply) fits_first next
+      sent = turn-then 39 0 line (controllers line form (talk_start b gap) b.talks) [] b.stations (Some o) (sent ++ contiguous_run 1 (Terminal a) (response_gap t.history) reply) fits_first next
           (last-turn 38 1 line o sent (quiet_after line sent (all_hearing line sent b.stations)) fits_second silent);
     }

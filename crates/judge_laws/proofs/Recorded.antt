@@ -26,7 +26,7 @@ use Rattle.mil_bus.specs.declared.talks.Talk.{Talk}
 use Rattle.mil_bus.specs.declared.counts.TalkCounts.{TalkCounts}
 use Rattle.mil_bus.specs.Counts.{counts_of, seen_of}
 use Rattle.mil_bus.specs.BlockStatus.{block_of, is_line_b}
-use Rattle.mil_bus.specs.Exchange.{words_of_run}
+use Rattle.mil_bus.specs.Exchange.{contiguous_run}
 use Rattle.mil_monitor.specs.Observed.{gap_half, observed}
 use Rattle.ch11_f1.specs.Again.{as_message}
 use Rattle.ch11_f1.specs.BodyReading.{Message}
@@ -43,14 +43,14 @@ use Rattle.judge_laws.proofs.Sound.{line_bit, no-error, not-between, block-alone
 abbrev pub talk : ℕ → Line → Form → List Sent → Talk
 talk start line form sent = record { start = start; line = line; message = form; sent = record { items = sent } }
 
-raw-data : (run : ℕ) (source : Source) (gap : ℕ) (values : List ℕ) → AreSmall values → map (λ (w : Sent). raw_of w.wave) (words_of_run run source gap (map data_wave values)) ≡ values
+raw-data : (run : ℕ) (source : Source) (gap : ℕ) (values : List ℕ) → AreSmall values → map (λ (w : Sent). raw_of w.wave) (contiguous_run run source gap (map data_wave values)) ≡ values
 raw-data run source gap [] small = refl
 raw-data run source gap (v ∷ vs) small =
     let first = raw_of-wave (record { sync = DataSync; value = v }) small.0 in
     let rest = raw-data run source 20 vs small.1 in
     cc
 
-pub raw-run : (run : ℕ) (source : Source) (gap c : ℕ) (values : List ℕ) → c < 2 ^ 16 → AreSmall values → map (λ (w : Sent). raw_of w.wave) (words_of_run run source gap (command_wave c ∷ map data_wave values)) ≡ c ∷ values
+pub raw-run : (run : ℕ) (source : Source) (gap c : ℕ) (values : List ℕ) → c < 2 ^ 16 → AreSmall values → map (λ (w : Sent). raw_of w.wave) (contiguous_run run source gap (command_wave c ∷ map data_wave values)) ≡ c ∷ values
 raw-run run source gap c values small words =
     let first = raw_of-wave (record { sync = CommandSync; value = c }) small in
     let rest = raw-data run source 20 values words in
@@ -84,7 +84,7 @@ fit-alone form n times none many is =
 
 pub alone-clean : (start : ℕ) (line : Line) (form : Form) (g c : ℕ) (values : List ℕ) (sent : List Sent) → IsSingle form c values → length values ≤ 32
     → (if controller_sends (form_number form) then values else []) ≡ values → replies_due form ≡ []
-    → sent ≡ words_of_run 0 Controller g (command_wave c ∷ map data_wave values) → clean (as_message (observed (talk start line form sent))) ≡ true
+    → sent ≡ contiguous_run 0 Controller g (command_wave c ∷ map data_wave values) → clean (as_message (observed (talk start line form sent))) ≡ true
 alone-clean start line form g c values sent f few sends none is =
     let m : Message = as_message (observed (talk start line form sent)) in
     let seen : seen_of form sent ≡ nothing_wrong (1 + length values) None None =
@@ -155,7 +155,7 @@ pub record IsOne (start : ℕ) (line : Line) (form : Form) (g c : ℕ) (values :
   pub own : is_broadcast c ≡ false
   pub reply : IsDueReply due gap status back
   pub few : length values + length back ≤ 32
-  pub is_sent : sent ≡ words_of_run 0 Controller g (command_wave c ∷ map data_wave values) ++ words_of_run 1 (Terminal due.address) gap (command_wave status ∷ map data_wave back)
+  pub is_sent : sent ≡ contiguous_run 0 Controller g (command_wave c ∷ map data_wave values) ++ contiguous_run 1 (Terminal due.address) gap (command_wave status ∷ map data_wave back)
 
 module _ (start : ℕ) (line : Line) (form : Form) (g c : ℕ) (values : List ℕ) (due : Due) (gap status : ℕ) (back : List ℕ) (sent : List Sent) (is : IsOne start line form g c values due gap status back sent) where
   abbrev m : Message
@@ -167,7 +167,7 @@ module _ (start : ℕ) (line : Line) (form : Form) (g c : ℕ) (values : List �
   seen : seen_of form sent ≡ nothing_wrong (1 + length values) (Some (came gap status back)) None
   seen =
       ap (λ k. counts_of k (length (replies_due form)) sent) (commands-of form is.single.alone) ∙ ap (λ (d : List Due). counts_of 1 (length d) sent) is.dues ∙ ap (counts_of 1 1) is.is_sent
-      ∙ counts-reply (1 + length values) due.address gap status back (words_of_run 0 Controller g (command_wave c ∷ map data_wave values)) is.reply.small is.reply.words
+      ∙ counts-reply (1 + length values) due.address gap status back (contiguous_run 0 Controller g (command_wave c ∷ map data_wave values)) is.reply.small is.reply.words
       (counts-controller 1 g c values (omega arith) is.single.small is.single.words)
 
   block : m.block ≡ line_bit line
@@ -182,7 +182,7 @@ module _ (start : ℕ) (line : Line) (form : Form) (g c : ℕ) (values : List �
   bytes : m.bytes ≡ flat_map (little_bytes 2) (c ∷ (values ++ (status ∷ back)))
   bytes =
       ap (λ ws. flat_map (little_bytes 2) (map (λ (w : Sent). raw_of w.wave) ws)) is.is_sent
-      ∙ ap (flat_map (little_bytes 2)) (map-append (λ (w : Sent). raw_of w.wave) (words_of_run 0 Controller g (command_wave c ∷ map data_wave values)) (words_of_run 1 (Terminal due.address) gap (command_wave status ∷ map data_wave back))
+      ∙ ap (flat_map (little_bytes 2)) (map-append (λ (w : Sent). raw_of w.wave) (contiguous_run 0 Controller g (command_wave c ∷ map data_wave values)) (contiguous_run 1 (Terminal due.address) gap (command_wave status ∷ map data_wave back))
       ∙ both (raw-run 0 Controller g c values is.single.small is.single.words) (raw-run 1 (Terminal due.address) gap status back is.reply.small is.reply.words))
     where
       both : {xs ys zs ws : List ℕ} → xs ≡ zs → ys ≡ ws → xs ++ ys ≡ zs ++ ws

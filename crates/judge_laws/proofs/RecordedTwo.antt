@@ -24,7 +24,7 @@ use Rattle.mil_bus.specs.declared.talks.Sent.{Sent}
 use Rattle.mil_bus.specs.declared.counts.TalkCounts.{TalkCounts}
 use Rattle.mil_bus.specs.Counts.{counts_of, seen_of}
 use Rattle.mil_bus.specs.BlockStatus.{first_due, second_due, is_late, is_miscounted, has_other_address, is_line_b, block_of}
-use Rattle.mil_bus.specs.Exchange.{words_of_run}
+use Rattle.mil_bus.specs.Exchange.{contiguous_run}
 use Rattle.mil_monitor.specs.Observed.{gap_half, observed}
 use Rattle.ch11_f1.specs.Again.{as_message}
 use Rattle.ch11_f1.specs.BodyReading.{Message}
@@ -53,7 +53,7 @@ pub record IsDouble (form : Form) (c1 c2 : ℕ) : Type 0 where
 two-commands-of : (form : Form) (c2 : ℕ) → second_command form ≡ Some c2 → length (forms.commands form) ≡ 2
 two-commands-of form c2 is = ap (λ o. length (first_command form ∷ option_to_list o)) is
 
-raw-commands : (g c1 c2 : ℕ) → c1 < 2 ^ 16 → c2 < 2 ^ 16 → map (λ (w : Sent). raw_of w.wave) (words_of_run 0 Controller g (command_wave c1 ∷ command_wave c2 ∷ [])) ≡ c1 ∷ c2 ∷ []
+raw-commands : (g c1 c2 : ℕ) → c1 < 2 ^ 16 → c2 < 2 ^ 16 → map (λ (w : Sent). raw_of w.wave) (contiguous_run 0 Controller g (command_wave c1 ∷ command_wave c2 ∷ [])) ≡ c1 ∷ c2 ∷ []
 raw-commands g c1 c2 small1 small2 =
     let first = raw_of-wave (record { sync = CommandSync; value = c1 }) small1 in
     let second = raw_of-wave (record { sync = CommandSync; value = c2 }) small2 in
@@ -75,13 +75,13 @@ fit-two form n t1 s1 t2 s2 vs ws times d1 d2 dues many is one two =
 
 pub transfer-clean : (start : ℕ) (line : Line) (form : Form) (g c1 c2 : ℕ) (d1 d2 : Due) (t1 s1 t2 s2 : ℕ) (vs : List ℕ) (sent : List Sent) → IsDouble form c1 c2 → replies_due form ≡ d1 ∷ d2 ∷ []
     → IsDueReply d1 t1 s1 vs → IsDueReply d2 t2 s2 [] → d1.words ≤ 32
-    → sent ≡ (words_of_run 0 Controller g (command_wave c1 ∷ command_wave c2 ∷ []) ++ words_of_run 1 (Terminal d1.address) t1 (command_wave s1 ∷ map data_wave vs)) ++ words_of_run 2 (Terminal d2.address) t2 (command_wave s2 ∷ [])
+    → sent ≡ (contiguous_run 0 Controller g (command_wave c1 ∷ command_wave c2 ∷ []) ++ contiguous_run 1 (Terminal d1.address) t1 (command_wave s1 ∷ map data_wave vs)) ++ contiguous_run 2 (Terminal d2.address) t2 (command_wave s2 ∷ [])
     → clean (as_message (observed (talk start line form sent))) ≡ true
 transfer-clean start line form g c1 c2 d1 d2 t1 s1 t2 s2 vs sent f dues one two few is =
     let m : Message = as_message (observed (talk start line form sent)) in
-    let w0 = words_of_run 0 Controller g (command_wave c1 ∷ command_wave c2 ∷ []) in
-    let w1 = words_of_run 1 (Terminal d1.address) t1 (command_wave s1 ∷ map data_wave vs) in
-    let w2 = words_of_run 2 (Terminal d2.address) t2 (command_wave s2 ∷ []) in
+    let w0 = contiguous_run 0 Controller g (command_wave c1 ∷ command_wave c2 ∷ []) in
+    let w1 = contiguous_run 1 (Terminal d1.address) t1 (command_wave s1 ∷ map data_wave vs) in
+    let w2 = contiguous_run 2 (Terminal d2.address) t2 (command_wave s2 ∷ []) in
     let seen : seen_of form sent ≡ nothing_wrong 2 (Some (came t1 s1 vs)) (Some (came t2 s2 [])) =
     ap (λ k. counts_of k (length (replies_due form)) sent) (two-commands-of form c2 f.second) ∙ ap (λ (d : List Due). counts_of 2 (length d) sent) dues ∙ ap (counts_of 2 2) is
     ∙ counts-receiver d2.address t2 s2 (came t1 s1 vs) (w0 ++ w1) two.small
@@ -145,12 +145,12 @@ transfer-clean start line form g c1 c2 d1 d2 t1 s1 t2 s2 vs sent f dues one two 
 -- the same with one reply: the others do not answer a command to all
 pub all-transfer-clean : (start : ℕ) (line : Line) (form : Form) (g c1 c2 : ℕ) (d1 : Due) (t1 s1 : ℕ) (vs : List ℕ) (sent : List Sent) → IsDouble form c1 c2 → replies_due form ≡ d1 ∷ []
     → IsDueReply d1 t1 s1 vs → d1.words ≤ 32
-    → sent ≡ words_of_run 0 Controller g (command_wave c1 ∷ command_wave c2 ∷ []) ++ words_of_run 1 (Terminal d1.address) t1 (command_wave s1 ∷ map data_wave vs)
+    → sent ≡ contiguous_run 0 Controller g (command_wave c1 ∷ command_wave c2 ∷ []) ++ contiguous_run 1 (Terminal d1.address) t1 (command_wave s1 ∷ map data_wave vs)
     → clean (as_message (observed (talk start line form sent))) ≡ true
 all-transfer-clean start line form g c1 c2 d1 t1 s1 vs sent f dues one few is =
     let m : Message = as_message (observed (talk start line form sent)) in
-    let w0 = words_of_run 0 Controller g (command_wave c1 ∷ command_wave c2 ∷ []) in
-    let w1 = words_of_run 1 (Terminal d1.address) t1 (command_wave s1 ∷ map data_wave vs) in
+    let w0 = contiguous_run 0 Controller g (command_wave c1 ∷ command_wave c2 ∷ []) in
+    let w1 = contiguous_run 1 (Terminal d1.address) t1 (command_wave s1 ∷ map data_wave vs) in
     let seen : seen_of form sent ≡ nothing_wrong 2 (Some (came t1 s1 vs)) None =
     ap (λ k. counts_of k (length (replies_due form)) sent) (two-commands-of form c2 f.second) ∙ ap (λ (d : List Due). counts_of 2 (length d) sent) dues ∙ ap (counts_of 2 1) is
     ∙ counts-sender 1 d1.address t1 s1 vs w0 (omega arith) (omega arith) one.small one.words (counts-commands 1 g c1 c2 f.small_first f.small_second) in

@@ -26,13 +26,13 @@ closed-rests s closed = go (undecided s.own (latest_window s.own s.history)) clo
     go None h = refl
     go (Some w) h = let no : same_line w.line w.line ≡ false = h w.line in let yes = line-itself w.line in cc
 
-pub rests-word : (own : ℕ) (line : Line) (wave gap : ℕ) (h : History) → opening own (Heard line wave gap) ≡ None → Rests own h → Rests own (Heard line wave gap ∷ h)
+pub rests-word : (own : ℕ) (line : Line) (wave gap : ℕ) (h : History) → opening own (Heard line wave gap) h ≡ None → Rests own h → Rests own (Heard line wave gap ∷ h)
 rests-word own line wave gap h opens is = stays_decided own (Heard line wave gap) h opens is
 
 pub rests-words : (own : ℕ) (line : Line) (gap : ℕ) (waves : List ℕ) (h : History) → AreNoCommands 0 waves → Rests own h → Rests own (met (heard line gap waves) h)
 rests-words own line gap [] h none is = is
 rests-words own line gap (w ∷ ws) h none is =
-    rests-words own line 20 ws (Heard line w gap ∷ h) (rest_none w ws none) (rests-word own line w gap h (opens-not own line w gap (first_none w ws none)) is)
+    rests-words own line 20 ws (Heard line w gap ∷ h) (rest_none w ws none) (rests-word own line w gap h (opens-not own line w gap h (first_none w ws none)) is)
 
 pub rests-quiet : (own : ℕ) (line : Line) (h : History) → Rests own h → Rests own (Quiet line ∷ h)
 rests-quiet own line h is = stays_decided own (Quiet line) h refl is

@@ -13,8 +13,8 @@ use Rattle.mil_bus.specs.BlockStatus.{first_due, second_due, is_late, is_miscoun
 use Rattle.bench_judge.specs.Clean.{has_no_error}
 use Rattle.judge_laws.proofs.Counting.{nothing_wrong, came}
 
-pub none-of : (a b c d e f g : Bool) → a ≡ false → b ≡ false → c ≡ false → d ≡ false → e ≡ false → f ≡ false → g ≡ false → (a || b || c || d || e || f || g) ≡ false
-none-of a b c d e f g ea eb ec ed ee ef eg = rw (ea, eb, ec, ed, ee, ef, eg) refl
+pub none-of : (a b c d e f g h : Bool) → a ≡ false → b ≡ false → c ≡ false → d ≡ false → e ≡ false → f ≡ false → g ≡ false → h ≡ false → (a || b || c || d || e || f || g || h) ≡ false
+none-of a b c d e f g h ea eb ec ed ee ef eg eh = rw (ea, eb, ec, ed, ee, ef, eg, eh) refl
 
 pub none-of-two : (a b : Bool) → a ≡ false → b ≡ false → (a || b) ≡ false
 none-of-two a b ea eb = rw (ea, eb) refl
@@ -22,10 +22,10 @@ none-of-two a b ea eb = rw (ea, eb) refl
 pub none-of-three : (a b c : Bool) → a ≡ false → b ≡ false → c ≡ false → (a || b || c) ≡ false
 none-of-three a b c ea eb ec = rw (ea, eb, ec) refl
 
-block-sum : (b e t l w o u : Bool) → e ≡ false → t ≡ false → l ≡ false → w ≡ false → o ≡ false → u ≡ false
-    → bit_if b 8192 + bit_if e 4096 + bit_if t 2048 + bit_if l 512 + bit_if w 32 + bit_if o 16 + bit_if u 8 ≡ (if b then 8192 else 0)
-block-sum true e t l w o u ee et el ew eo eu = rw (ee, et, el, ew, eo, eu) refl
-block-sum false e t l w o u ee et el ew eo eu = rw (ee, et, el, ew, eo, eu) refl
+block-sum : (b e t f l w o u : Bool) → e ≡ false → t ≡ false → f ≡ false → l ≡ false → w ≡ false → o ≡ false → u ≡ false
+    → bit_if b 8192 + bit_if e 4096 + bit_if t 2048 + bit_if f 1024 + bit_if l 512 + bit_if w 32 + bit_if o 16 + bit_if u 8 ≡ (if b then 8192 else 0)
+block-sum true e t f l w o u ee et ef el ew eo eu = rw (ee, et, ef, el, ew, eo, eu) refl
+block-sum false e t f l w o u ee et ef el ew eo eu = rw (ee, et, ef, el, ew, eo, eu) refl
 
 abbrev pub line_bit : Line → ℕ
 line_bit line = if is_line_b line then 8192 else 0
@@ -53,10 +53,10 @@ block-alone line form n none alone long =
     none-of-three (not (n == length (controller_words form))) (is_miscounted (first_due (replies_due form)) None) (is_miscounted (second_due (replies_due form)) None)
     (counted n (length (controller_words form)) long) (ap (λ d. is_miscounted d None) one) (ap (λ d. is_miscounted d None) two) in
     let error : has_error form s ≡ false =
-    none-of (has_response_time_out form s) (has_word_count_error form s) false false (has_other_address (first_due (replies_due form)) None) (has_other_address (second_due (replies_due form)) None) false
-    late words refl refl (ap (λ d. has_other_address d None) one) (ap (λ d. has_other_address d None) two) refl in
-    block-sum (is_line_b line) (has_error form s) (is_transfer form) (has_response_time_out form s) (has_word_count_error form s) false false
-    error (ap (λ (o : Option ℕ). is_some o) alone) late words refl refl
+    none-of (has_response_time_out form s) (has_word_count_error form s) false false false (has_other_address (first_due (replies_due form)) None) (has_other_address (second_due (replies_due form)) None) false
+    late words refl refl refl (ap (λ d. has_other_address d None) one) (ap (λ d. has_other_address d None) two) refl in
+    block-sum (is_line_b line) (has_error form s) (is_transfer form) false (has_response_time_out form s) (has_word_count_error form s) false false
+    error (ap (λ (o : Option ℕ). is_some o) alone) refl late words refl refl
 
 -- one reply is due, and came in time with its words
 pub block-one : (line : Line) (form : Form) (n : ℕ) (due : Due) (gap status : ℕ) (values : List ℕ) → replies_due form ≡ due ∷ [] → second_command form ≡ None → n ≡ length (controller_words form)
@@ -75,7 +75,7 @@ block-one line form n due gap status values dues alone long soon own many =
     (counted n (length (controller_words form)) long) (ap (λ d. is_miscounted d (Some c)) one ∙ rw right refl) (ap (λ d. is_miscounted d None) two) in
     let other : has_other_address (first_due (replies_due form)) (Some c) ≡ false = ap (λ d. has_other_address d (Some c)) one ∙ counted (address_of status) due.address own in
     let error : has_error form s ≡ false =
-    none-of (has_response_time_out form s) (has_word_count_error form s) false false (has_other_address (first_due (replies_due form)) (Some c)) (has_other_address (second_due (replies_due form)) None) false
-    late words refl refl other (ap (λ d. has_other_address d None) two) refl in
-    block-sum (is_line_b line) (has_error form s) (is_transfer form) (has_response_time_out form s) (has_word_count_error form s) false false
-    error (ap (λ (o : Option ℕ). is_some o) alone) late words refl refl
+    none-of (has_response_time_out form s) (has_word_count_error form s) false false false (has_other_address (first_due (replies_due form)) (Some c)) (has_other_address (second_due (replies_due form)) None) false
+    late words refl refl refl other (ap (λ d. has_other_address d None) two) refl in
+    block-sum (is_line_b line) (has_error form s) (is_transfer form) false (has_response_time_out form s) (has_word_count_error form s) false false
+    error (ap (λ (o : Option ℕ). is_some o) alone) refl late words refl refl

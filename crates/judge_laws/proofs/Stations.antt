@@ -8,7 +8,9 @@ use Rattle.mil_word.specs.declared.Line.{Line}
 use Rattle.mil_word.specs.Words.{command_wave, data_wave}
 use Rattle.mil_word.specs.Fields.{address_of, is_broadcast}
 use Rattle.mil_terminal.specs.declared.events.Event.TheVariants.{Heard, Quiet}
-use Rattle.mil_terminal.specs.Host.{is_deaf}
+use Rattle.mil_terminal.specs.Host.{is_deaf, is_off, takes_broadcast}
+use Rattle.mil_terminal.specs.History.{History}
+use Rattle.mil_terminal.proofs.Passing.{words_off, words_on}
 use Rattle.mil_terminal.specs.Station.{Station, after}
 use Rattle.mil_terminal.specs.Runs.{heard, after_all}
 use Rattle.mil_terminal.specs.Windows.{opening}
@@ -16,7 +18,7 @@ use Rattle.mil_bus.specs.declared.talks.Source.{Source}
 use Rattle.mil_bus.specs.declared.talk_runs.Run.{Run}
 use Rattle.mil_bus.specs.Actions.{station_of}
 use Rattle.mil_bus.specs.Addresses.{is_fit}
-use Rattle.mil_bus.specs.Exchange.{Offer, words_of_run, misses, quieted, answer, first_reply}
+use Rattle.mil_bus.specs.Exchange.{Offer, contiguous_run, misses, quieted, answer, first_reply}
 use Rattle.mil_bus.specs.DataRuns.{hearing_all}
 use Rattle.mil_bus.proofs.Answering.{answer-none}
 use Rattle.mil_bus.proofs.DataRuns.{run-missed, run-heard}
@@ -32,16 +34,26 @@ idle-answer line s is = answer-none line s (rests-reply s.own line s.history is)
 pub idle-quiet : (line : Line) (s : Station) → Idle s → Idle (quieted line s)
 idle-quiet line s is = go (is_deaf line s.history)
   where
+    after-quiet : (b : Bool) → Rests s.own (if b then s.history else Quiet line ∷ s.history)
+    after-quiet true = is
+    after-quiet false = rests-quiet s.own line s.history is
+
     go : (b : Bool) → Idle (if b then s else after s (Quiet line))
     go true = is
-    go false = rests-quiet s.own line s.history is
+    go false = after-quiet (is_off s.history)
 
-pub opens-other : (own : ℕ) (line : Line) (c gap : ℕ) → c < 2 ^ 16 → (address_of c == own || is_broadcast c) ≡ false → opening own (Heard line (command_wave c) gap) ≡ None
-opens-other own line c gap small other = rw (command-read c small, other) refl
+-- a command to another terminal is not to this one
+not-to : (a b takes : Bool) → (a || b) ≡ false → (a || b && takes) ≡ false
+not-to true b takes other = cc
+not-to false true takes other = cc
+not-to false false takes other = refl
+
+pub opens-other : (own : ℕ) (line : Line) (c gap : ℕ) (h : History) → c < 2 ^ 16 → (address_of c == own || is_broadcast c) ≡ false → opening own (Heard line (command_wave c) gap) h ≡ None
+opens-other own line c gap h small other = rw (command-read c small, not-to (address_of c == own) (is_broadcast c) (takes_broadcast h) other) refl
 
 -- a run whose first word is a command or a status word of another address
 pub idle-run : (line : Line) (run : ℕ) (source : Source) (gap c : ℕ) (values : List ℕ) (s : Station) → c < 2 ^ 16 → AreSmall values → (misses line source s ≡ false → (address_of c == s.own || is_broadcast c) ≡ false) → Idle s
-    → Idle (hearing_all line (words_of_run run source gap (command_wave c ∷ map data_wave values)) s)
+    → Idle (hearing_all line (contiguous_run run source gap (command_wave c ∷ map data_wave values)) s)
 idle-run line run source gap c values s small words other is = go (misses line source s) refl
   where
     r : Run
@@ -50,15 +62,19 @@ idle-run line run source gap c values s small words other is = go (misses line s
     waves : List ℕ
     waves = command_wave c ∷ map data_wave values
 
-    later : (b : Station) → b ≡ hearing_all line (words_of_run run source gap waves) s → Idle b → Idle (hearing_all line (words_of_run run source gap waves) s)
+    later : (b : Station) → b ≡ hearing_all line (contiguous_run run source gap waves) s → Idle b → Idle (hearing_all line (contiguous_run run source gap waves) s)
     later b same idle = rw (← same) idle
 
-    go : (b : Bool) → misses line source s ≡ b → Idle (hearing_all line (words_of_run run source gap waves) s)
-    go true missed = later s (run-missed line r waves s missed) is
-    go false hears =
-        later (after_all s (heard line gap waves)) (run-heard line r waves s hears)
+    when : (b : Bool) → is_off s.history ≡ b → misses line source s ≡ false → Idle (after_all s (heard line gap waves))
+    when true off hears = rw (words_off s line gap waves off) is
+    when false on hears =
+        rw (words_on s line gap waves on)
         (rests-words s.own line 20 (map data_wave values) (Heard line (command_wave c) gap ∷ s.history) (data-no_commands values words)
-        (rests-word s.own line (command_wave c) gap s.history (opens-other s.own line c gap small (other hears)) is))
+        (rests-word s.own line (command_wave c) gap s.history (opens-other s.own line c gap s.history small (other hears)) is))
+
+    go : (b : Bool) → misses line source s ≡ b → Idle (hearing_all line (contiguous_run run source gap waves) s)
+    go true missed = later s (run-missed line r waves s missed) is
+    go false hears = later (after_all s (heard line gap waves)) (run-heard line r waves s hears) (when (is_off s.history) refl hears)
 
 -- the one station of an address answers
 pub finds-offer : (line : Line) (address : ℕ) (o : Offer) (f : Station → Station) (stations : List Station)

@@ -22,36 +22,43 @@ use Rattle.mil_bus.specs.Counts.{counts_of}
 use Rattle.mil_bus.specs.Pass.{noted}
 use Rattle.mil_bus.specs.Lengthened.{goes_on, lengthened}
 use Rattle.mil_bus.specs.BlockStatus.{first_due, second_due, is_late, is_miscounted, has_other_address, bit_if, is_line_b, is_transfer, has_response_time_out, has_word_count_error, has_error, block_of}
-use Rattle.mil_bus.specs.Exchange.{words_of_run}
-use Rattle.mil_bus.proofs.Passes.{counts_of-push}
+use Rattle.mil_bus.specs.Exchange.{contiguous_run}
+use Rattle.mil_bus.proofs.Passes.{and_false, counts_of-push}
 use Rattle.ch11_f1.specs.BodyReading.{Message}
 use Rattle.ch11_layout.specs.Layouts.{size_of, commands_in, is_between, first_gap, second_gap, last_gap, first_word, has_front, has_back, data_start, word_of}
 use Rattle.ch11_layout.specs.Replies.{has_two, statuses, data_count, data_words, gaps}
 use Rattle.bench_judge.specs.Clean.{has_no_error, may_be_sent, form_number_of, controller_sends, parts_in, form_with, data_fit, replies_fit, is_sent_as, clean}
 use Rattle.judge_laws.specs.Messages.{IsDueReply}
 use Rattle.judge_laws.proofs.Words.{AreSmall}
-use Rattle.judge_laws.proofs.Counting.{nothing_wrong, came, counts-data, none-below}
+use Rattle.judge_laws.proofs.Counting.{nothing_wrong, nothing_but, neither, came, counts-data, none-below}
 use Rattle.judge_laws.proofs.Places.{IsLaidOut, word, count, are-statuses}
 use Rattle.judge_laws.proofs.Meets.{form-read, conj, same_parts, size-is}
 use Rattle.judge_laws.proofs.Sound.{none-of, none-of-two, none-of-three, counted}
 
 -- ---- the counts
 
-pub counts-commands : (due g c1 c2 : ℕ) → c1 < 2 ^ 16 → c2 < 2 ^ 16 → counts_of 2 due (words_of_run 0 Controller g (command_wave c1 ∷ command_wave c2 ∷ [])) ≡ nothing_wrong 2 None None
+counts-but : (due g c1 c2 : ℕ) → c1 < 2 ^ 16 → c2 < 2 ^ 16
+    → counts_of 2 due (contiguous_run 0 Controller g (command_wave c1 ∷ command_wave c2 ∷ [])) ≡ nothing_but ((nat_lt 0 due && false) || (nat_lt 1 due && false)) 2 None None
 unfolding counts_of
-counts-commands due g c1 c2 small1 small2 = rw (word_of-wave (record { sync = CommandSync; value = c1 }) small1, word_of-wave (record { sync = CommandSync; value = c2 }) small2, none-below due) refl
+counts-but due g c1 c2 small1 small2 = rw (word_of-wave (record { sync = CommandSync; value = c1 }) small1, word_of-wave (record { sync = CommandSync; value = c2 }) small2, none-below due) refl
+
+pub counts-commands : (due g c1 c2 : ℕ) → c1 < 2 ^ 16 → c2 < 2 ^ 16 → counts_of 2 due (contiguous_run 0 Controller g (command_wave c1 ∷ command_wave c2 ∷ [])) ≡ nothing_wrong 2 None None
+counts-commands due g c1 c2 small1 small2 = counts-but due g c1 c2 small1 small2 ∙ ap (λ b. nothing_but b 2 None None) (neither (nat_lt 0 due) (nat_lt 1 due))
 
 abbrev status_word : ℕ → ℕ → ℕ → ℕ → Sent
 status_word run address gap status = record { wave = command_wave status; gap = gap; run = run; source = Terminal address }
 
 noted-one : (due address gap status : ℕ) → status < 2 ^ 16 → nat_lt due 1 ≡ false → nat_lt 0 due ≡ true → noted 2 due (nothing_wrong 2 None None) (status_word 1 address gap status) ≡ nothing_wrong 2 (Some (came gap status [])) None
-noted-one due address gap status small some more = rw (word_of-wave (record { sync = CommandSync; value = status }) small, some, more) refl
+noted-one due address gap status small some more =
+    let only : noted 2 due (nothing_wrong 2 None None) (status_word 1 address gap status) ≡ nothing_but (not (gap == 20) && false) 2 (Some (came gap status [])) None =
+    rw (word_of-wave (record { sync = CommandSync; value = status }) small, some, more) refl in
+    only ∙ ap (λ b. nothing_but b 2 (Some (came gap status [])) None) (and_false (not (gap == 20)))
 
 -- the sender's reply
 pub counts-sender : (due address gap status : ℕ) (values : List ℕ) (xs : List Sent) → 1 ≤ due → due ≤ 2 → status < 2 ^ 16 → AreSmall values → counts_of 2 due xs ≡ nothing_wrong 2 None None
-    → counts_of 2 due (xs ++ words_of_run 1 (Terminal address) gap (command_wave status ∷ map data_wave values)) ≡ nothing_wrong 2 (Some (came gap status values)) None
+    → counts_of 2 due (xs ++ contiguous_run 1 (Terminal address) gap (command_wave status ∷ map data_wave values)) ≡ nothing_wrong 2 (Some (came gap status values)) None
 counts-sender due address gap status values xs some few small words is =
-    let ys = words_of_run 1 (Terminal address) 20 (map data_wave values) in
+    let ys = contiguous_run 1 (Terminal address) 20 (map data_wave values) in
     let w = status_word 1 address gap status in
     let less : nat_lt due 1 ≡ false = grind (arith, nat_tests) in
     let more : nat_lt 0 due ≡ true = grind (arith, nat_tests) in
@@ -62,22 +69,25 @@ counts-sender due address gap status values xs some few small words is =
 
 -- and the receiver's, a status word alone
 pub counts-receiver : (address gap status : ℕ) (one : Came) (xs : List Sent) → status < 2 ^ 16 → counts_of 2 2 xs ≡ nothing_wrong 2 (Some one) None
-    → counts_of 2 2 (xs ++ words_of_run 2 (Terminal address) gap (command_wave status ∷ [])) ≡ nothing_wrong 2 (Some one) (Some (came gap status []))
+    → counts_of 2 2 (xs ++ contiguous_run 2 (Terminal address) gap (command_wave status ∷ [])) ≡ nothing_wrong 2 (Some one) (Some (came gap status []))
 counts-receiver address gap status one xs small is =
     counts_of-push 2 2 (omega arith) xs (status_word 2 address gap status) ∙ ap (λ s. noted 2 2 s (status_word 2 address gap status)) is ∙ noted-two
   where
     noted-two : noted 2 2 (nothing_wrong 2 (Some one) None) (status_word 2 address gap status) ≡ nothing_wrong 2 (Some one) (Some (came gap status []))
-    noted-two = rw (word_of-wave (record { sync = CommandSync; value = status }) small) refl
+    noted-two =
+        let only : noted 2 2 (nothing_wrong 2 (Some one) None) (status_word 2 address gap status) ≡ nothing_but (not (gap == 20) && false) 2 (Some one) (Some (came gap status [])) =
+        rw (word_of-wave (record { sync = CommandSync; value = status }) small) refl in
+        only ∙ ap (λ b. nothing_but b 2 (Some one) (Some (came gap status []))) (and_false (not (gap == 20)))
 
 -- ---- the block status word
 
 abbrev pub transfer_bits : Bool → ℕ
 transfer_bits b = if b then 10240 else 2048
 
-transfer-sum : (b e t l w o u : Bool) → e ≡ false → t ≡ true → l ≡ false → w ≡ false → o ≡ false → u ≡ false
-    → bit_if b 8192 + bit_if e 4096 + bit_if t 2048 + bit_if l 512 + bit_if w 32 + bit_if o 16 + bit_if u 8 ≡ transfer_bits b
-transfer-sum true e t l w o u ee et el ew eo eu = rw (ee, et, el, ew, eo, eu) refl
-transfer-sum false e t l w o u ee et el ew eo eu = rw (ee, et, el, ew, eo, eu) refl
+transfer-sum : (b e t f l w o u : Bool) → e ≡ false → t ≡ true → f ≡ false → l ≡ false → w ≡ false → o ≡ false → u ≡ false
+    → bit_if b 8192 + bit_if e 4096 + bit_if t 2048 + bit_if f 1024 + bit_if l 512 + bit_if w 32 + bit_if o 16 + bit_if u 8 ≡ transfer_bits b
+transfer-sum true e t f l w o u ee et ef el ew eo eu = rw (ee, et, ef, el, ew, eo, eu) refl
+transfer-sum false e t f l w o u ee et ef el ew eo eu = rw (ee, et, ef, el, ew, eo, eu) refl
 
 pub no-error : (b : Bool) → has_no_error (transfer_bits b) ≡ true
 no-error true = refl
@@ -113,9 +123,9 @@ block-with line form one two transfer long l1 l2 m1 m2 a1 a2 =
     let words : has_word_count_error form s ≡ false =
     none-of-three (not (2 == length (controller_words form))) (is_miscounted (first_due (replies_due form)) one) (is_miscounted (second_due (replies_due form)) two) (counted 2 (length (controller_words form)) long) m1 m2 in
     let error : has_error form s ≡ false =
-    none-of (has_response_time_out form s) (has_word_count_error form s) false false (has_other_address (first_due (replies_due form)) one) (has_other_address (second_due (replies_due form)) two) false
-    late words refl refl a1 a2 refl in
-    transfer-sum (is_line_b line) (has_error form s) (is_transfer form) (has_response_time_out form s) (has_word_count_error form s) false false error transfer late words refl refl
+    none-of (has_response_time_out form s) (has_word_count_error form s) false false false (has_other_address (first_due (replies_due form)) one) (has_other_address (second_due (replies_due form)) two) false
+    late words refl refl refl a1 a2 refl in
+    transfer-sum (is_line_b line) (has_error form s) (is_transfer form) false (has_response_time_out form s) (has_word_count_error form s) false false error transfer refl late words refl refl
 
 -- ---- a message with two commands
 

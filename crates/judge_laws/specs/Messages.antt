@@ -9,7 +9,7 @@ use Rattle.mil_message.specs.declared.forms.Due.{Due}
 use Rattle.mil_message.specs.declared.forms.Form.{Form}
 use Rattle.mil_message.specs.Forms.{commands, first_command, second_command, data_words, replies_due, controller_waves}
 use Rattle.mil_message.specs.Rules.{IsLawful}
-use Rattle.mil_terminal.specs.Host.{is_busy, is_deaf, is_mute, response_gap}
+use Rattle.mil_terminal.specs.Host.{is_busy, is_deaf, is_mute, is_off, response_gap}
 use Rattle.mil_terminal.specs.Registers.{is_transmitter_on}
 use Rattle.mil_terminal.specs.Station.{Station}
 use Rattle.mil_terminal.specs.Verdicts.{is_unknown, is_illegal}
@@ -17,7 +17,7 @@ use Rattle.mil_bus.specs.declared.talks.Source.TheVariants.{Controller, Terminal
 use Rattle.mil_bus.specs.declared.talks.Sent.{Sent}
 use Rattle.mil_bus.specs.Actions.{station_of}
 use Rattle.mil_bus.specs.Addresses.{is_fit}
-use Rattle.mil_bus.specs.Exchange.{BusState, words_of_run, last_on, gap_since, talk_start, talk_of}
+use Rattle.mil_bus.specs.Exchange.{BusState, contiguous_run, last_on, gap_since, talk_start, talk_of}
 use Rattle.mil_bus.specs.Index.{IsClosed}
 
 -- the stations of a bus are terminals: none has the address of all (4.3.3.5.1.2)
@@ -32,7 +32,7 @@ pub record IsMessage (form : Form) : Type 0 where
 -- the words of the controller, as run 0, behind what came on the line before
 abbrev pub controllers_run : BusState → Line → Form → ℕ → List Sent
 controllers_run b line form gap =
-    words_of_run 0 Controller (gap_since (last_on line b.talks) (talk_start b gap)) (controller_waves form)
+    contiguous_run 0 Controller (gap_since (last_on line b.talks) (talk_start b gap)) (controller_waves form)
 
 -- a message to all terminals that no reply is due to
 abbrev pub NobodyAnswersAll : Type 0
@@ -46,9 +46,10 @@ NobodyAnswersAll =
 abbrev pub IsLegal : Form → Type 0
 IsLegal form = list_any is_unknown (commands form) ≡ false
 
--- a terminal that can reply to a command on a line: it is not busy, its host has not marked the command as illegal, it
--- hears the line and sends there, and its response time is 4 to 12 µs (4.3.3.5.3.8, 4.4.3.4, 4.3.3.8)
+-- a terminal that can reply to a command on a line: it is on and not busy, its host has not marked the command as
+-- illegal, it hears the line and sends there, and its response time is 4 to 12 µs (4.3.3.5.3.8, 4.4.3.4, 4.3.3.8)
 pub record CanReply (line : Line) (command : ℕ) (s : Station) : Type 0 where
+  pub on : is_off s.history ≡ false
   pub free : is_busy s.history ≡ false
   pub legal : is_illegal command s.history ≡ false
   pub hears : is_deaf line s.history ≡ false
@@ -77,7 +78,7 @@ pub record IsDueReply (due : Due) (gap status : ℕ) (values : List ℕ) : Type 
 -- a status word and data words, as a run of this number
 abbrev pub replys_run : ℕ → Due → ℕ → ℕ → List ℕ → List Sent
 replys_run run due gap status values =
-    words_of_run run (Terminal due.address) gap (command_wave status ∷ map data_wave values)
+    contiguous_run run (Terminal due.address) gap (command_wave status ∷ map data_wave values)
 
 -- the controller's words come on the line, then a reply as it is due, and nothing else
 pub record IsAnswered (b : BusState) (line : Line) (form : Form) (gap : ℕ) (due : Due) : Type 0 where
