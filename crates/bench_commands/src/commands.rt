@@ -30,12 +30,14 @@ where
         Err(error) => {
             match word_at_fault(rt) {
                 Ok(Some(word)) => {
+                    // Nothing else is lost where standard error takes no more.
                     let _ = eprintln!(errors;
                         "error: '{word}' is not UTF-8: a file of such a name has to be renamed, or linked by another \
                          name"
                     );
                 }
                 _ => {
+                    // Nothing else is lost where standard error takes no more.
                     let _ = eprintln!(errors; "bench: reading the command line: {error}");
                 }
             }
@@ -71,6 +73,7 @@ fn explain<R: Print, E: Eprint>(rt: &R, errors: &E, error: &Error) -> ExitCode {
         return stop(errors, &Fault::Memory);
     }
     if error.use_stderr() {
+        // Nothing else is lost where standard error takes no more.
         let _ = eprint!(errors; "{error}");
         return ExitCode::from(USAGE);
     }
@@ -90,6 +93,7 @@ fn misused<R: AllocGlobal + Print, E: Eprint>(rt: &R, errors: &E, fault: &Fault<
 }
 
 fn stop<E: Eprint>(errors: &E, fault: &Fault<'_>) -> ExitCode {
+    // Nothing else is lost where standard error takes no more.
     let _ = eprintln!(errors; "bench: {fault}");
     ExitCode::from(fault.status())
 }

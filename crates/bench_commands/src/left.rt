@@ -20,6 +20,7 @@ pub(crate) fn tell_of_part<R: Files + AllocGlobal, E: Eprint>(
         return;
     };
     if let Some(part) = part_left(rt, &request.run, request.completing.is_some(), fault) {
+        // Nothing else is lost where standard error takes no more.
         let _ = eprintln!(errors; "  what was taken stands in {part}; bench dump --skip shows it");
     }
 }

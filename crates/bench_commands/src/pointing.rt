@@ -35,16 +35,19 @@ pub fn point<R: Files + AllocGlobal, E: Eprint + IsTerminal>(
     }
     if let Fault::System { code, .. } = fault {
         let error = io::Error::from_raw_os_error(*code);
+        // Nothing else is lost where standard error takes no more.
         let _ = eprintln!(errors; "  {error}");
         return;
     }
     if let Fault::Busy(_) = fault {
+        // Nothing else is lost where standard error takes no more.
         let _ = eprintln!(errors;
             "  another run is writing this file: wait until it has ended, or name another file"
         );
         return;
     }
     if let Ok(text) = lines_of(rt, &asked.request, fault) {
+        // Nothing else is lost where standard error takes no more.
         let _ = eprint!(errors; "{text}");
     }
 }

@@ -41,7 +41,9 @@ fn record_all<S: Sink>(
 {
     let mut machine = machine;
     let mut recorder = recorder;
+    // A job's script is sound by its type.
     let _sound = job.program();
+    // A channel's number is in range by its type.
     let _channel = job.channel();
     run_gives_the_packets();
     recording_is_read_again();

@@ -89,6 +89,7 @@ impl Lane {
         let addresses = job.addresses().to_vec(alloc)?;
         let machine = job.machine(alloc, job.actions())?;
         let placed = Schedule::of(ordered_actions(job)?);
+        // A job's script is sound by its type.
         let _sound = job.program();
         Ok(Lane {
             channel: job.channel(),

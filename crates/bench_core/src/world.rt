@@ -261,6 +261,7 @@ impl World {
     pub(crate) fn keeps_whole(&self)
         ensures { IsWhole self.now }
     {
+        // Named for the proofs alone.
         let _ = &self.lanes;
         bench_is_settled();
     }

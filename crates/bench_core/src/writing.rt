@@ -27,6 +27,7 @@ fn append(file: &mut Vec<u8>, packet: &[u8]) -> u64
     ensures file { file.new.items ≡ file.old.items ++ packet.now }
     ensures one { result ≡ 1 }
 {
+    // There is room for it.
     let _ = file.extend_from_slice(packet);
     1
 }

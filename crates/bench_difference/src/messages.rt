@@ -44,6 +44,7 @@ fn kept_before(part: &ChannelReport, number: u32) -> u32 {
 fn recorded<'a>(recording: &Index<'a>, channel: u16, behind: u32) -> Option<Seen<'a>> {
     let mut messages = recording.channel(channel);
     for _ in 0..behind {
+        // It stands in front of the one that is asked for.
         let _ = messages.next()?;
     }
     messages.next()

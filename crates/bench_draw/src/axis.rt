@@ -49,6 +49,7 @@ impl Unit {
         }
     }
 
+    /// The symbol of the unit, as the axis of a picture shows it.
     pub(crate) fn name(self) -> &'static str {
         match self {
             Unit::Seconds => "s",

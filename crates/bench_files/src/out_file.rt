@@ -159,6 +159,7 @@ impl<'a, F: OpenFile + Write + Hold + Drop> OutFile<'a, F> {
     /// Leaves what was there, and nothing of what was written.
     pub fn give_up<R: Files<File = F>>(self, rt: &R) {
         if let Way::Beside { part, .. } = &self.way {
+            // A file beside that cannot be removed stays; why nothing was written is told.
             let _ = rt.remove_file(part.as_str());
         }
     }

@@ -86,6 +86,7 @@ fn prepare<R: Files>(
             .chown(part, Some(there.uid()), Some(there.gid()))
             .is_err()
         {
+            // Where the owner may not be given away the group may; neither is a fault.
             let _ = rt.chown(part, None, Some(there.gid()));
         }
     }

@@ -48,6 +48,7 @@ fn addresses_named(message: &Message) -> ArrayVec<u8, 2>
     ensures all { result.items ≡ addresses_named message.now }
     ensures fit { is_fit result.items ≡ true }
 {
+    // A message is lawful by its type.
     let _lawful = message.form();
     let mut addresses = ArrayVec::new();
     for due in message.replies_due().as_slice() {
@@ -84,6 +85,7 @@ fn packed(
     let Ok(mut builder) = Builder::make(alloc, channel, version, 256) else {
         return Err(AllocError);
     };
+    // The first message closes no packet.
     let _ = builder.push(1, recorded);
     match builder.close() {
         Some(packet) => packet.to_vec(alloc),

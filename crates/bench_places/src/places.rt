@@ -16,6 +16,7 @@ fn past<'a, 'i>(messages: Following<'a, 'i>, count: u64) -> Following<'a, 'i>
 {
     let mut rest = messages;
     for _passed in 0..count {
+        // It is among those that are passed.
         let _ = rest.next();
     }
     rest

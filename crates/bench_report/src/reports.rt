@@ -54,6 +54,7 @@ fn keep_ranges(channels: &[ChannelReport])
     ensures { All IsPart channels.now }
 {
     for channel in channels {
+        // A channel's number is in range by its type.
         let _number = channel.channel();
     }
 }

@@ -36,6 +36,7 @@ impl<'a, C: Clock, E: Eprint + IsTerminal> Progress<'a, C, E> {
     pub fn end(&self) {
         if self.due.load(Ordering::SeqCst) > QUIET {
             let taken = self.taken.load(Ordering::SeqCst);
+            // Nothing else is lost where standard error takes no more.
             let _ = eprintln!(self.errors; "\r{taken} messages");
         }
     }
@@ -46,6 +47,7 @@ impl<'a, C: Clock, E: Eprint + IsTerminal> Progress<'a, C, E> {
             return;
         };
         if passed >= self.due.load(Ordering::SeqCst) {
+            // Nothing else is lost where standard error takes no more.
             let _ = eprint!(self.errors; "\r{taken} messages");
             self.due
                 .store(passed.saturating_add(PAUSE), Ordering::SeqCst);

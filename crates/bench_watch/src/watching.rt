@@ -79,6 +79,7 @@ impl<'f, C: Clock + Files, E: Eprint + IsTerminal> Watch<'f, C, E> {
         if state.shown {
             state.shown = false;
             self.state.set(state);
+            // Nothing else is lost where standard error takes no more.
             let _ = eprint!(self.errors; "\r\x1b[K");
         }
     }
@@ -130,6 +131,7 @@ impl<'f, C: Clock + Files, E: Eprint + IsTerminal> Watch<'f, C, E> {
             state.read,
             self.size.saturating_sub(state.read),
         );
+        // Nothing else is lost where standard error takes no more.
         let _ = eprint!(self.errors; "\rpass {pass}: {percent} % read, {left} s left\x1b[K");
         state.due = passed.saturating_add(PAUSE);
         state.shown = true;

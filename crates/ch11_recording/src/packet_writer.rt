@@ -48,6 +48,7 @@ impl<S: Sink> PacketWriter<S> {
         ensures written { Puts bytes.now (progress_of S.taken self.old.writing) (progress_of S.taken self.new.writing) }
         ensures writes { WritesOn S.failures (length bytes.now) self.old.writing self.new.writing }
     {
+        // A writer keeps its fault, and tells it at the end.
         let _ = self.writer.prologue(bytes);
     }
 

@@ -221,6 +221,7 @@ fn plan<'a, 'b, E: Eprint>(
 /// A line for each skip, as `bench dump --skip` has it.
 fn print_skips<E: Eprint>(errors: &E, skips: &[Skip]) {
     for skip in skips {
+        // Nothing else is lost where standard error takes no more.
         let _ = eprintln!(errors;
             "skipped {} length {} {}",
             skip.offset, skip.length, skip.fault

@@ -99,6 +99,7 @@ pub fn fault_of_printing<'a>(fault: PrintFault) -> Fault<'a> {
 /// Says that messages are missing from a recording, and how many packets say so, where any do.
 fn tell_lost<E: Eprint>(errors: &E, lost: &Lost) {
     if lost.is_any() {
+        // Nothing else is lost where standard error takes no more.
         let _ = eprintln!(errors; "messages are missing from this recording: {lost}");
     }
 }

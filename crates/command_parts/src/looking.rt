@@ -19,6 +19,7 @@ pub fn tell_of_loss<R: AllocGlobal, E: Eprint + IsTerminal>(rt: &R, errors: &E, 
 
 /// Says that messages are missing from a recording.
 pub(crate) fn tell_of_missing<E: Eprint>(errors: &E) {
+    // Nothing else is lost where standard error takes no more.
     let _ = eprintln!(errors;
         "messages are missing from this recording: packets with the overflow flag"
     );
@@ -47,6 +48,7 @@ pub fn index_of<'a, 'b>(
 /// Says that no times of day are known, where a recording has time packets and none of them can be read.
 pub fn tell_of_unread<E: Eprint>(errors: &E, name: &str, unread: bool) {
     if unread {
+        // Nothing else is lost where standard error takes no more.
         let _ = eprintln!(errors;
             "bench: {name}: no time packet can be read, so no times of day are known"
         );

@@ -74,6 +74,7 @@ pub(crate) struct ErrorStream<'a, E> {
 impl<E: Eprint> Write for ErrorStream<'_, E> {
     fn write(&mut self, bytes: &[u8]) -> io::Result<usize> {
         let text = str::from_utf8(bytes).unwrap_or("");
+        // Nothing else is lost where standard error takes no more.
         let _ = eprint!(self.errors; "{text}");
         Ok(bytes.len())
     }

@@ -140,6 +140,7 @@ pub(crate) fn end_showing<R: Threads, E: Eprint>(rt: &R, errors: &E, showing: Op
         return;
     };
     if lost > 0 {
+        // Nothing else is lost where standard error takes no more.
         let _ = eprintln!(errors; "bench: {lost} messages were not shown");
     }
 }

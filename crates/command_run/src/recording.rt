@@ -188,12 +188,14 @@ fn tell<'a, R: AllocGlobal + Print, E: Eprint>(
 ) -> Result<(), Fault<'a>> {
     let counts = Counts::of_report(report);
     if is_output {
+        // Nothing else is lost where standard error takes no more.
         let _ = eprintln!(errors; "{counts}");
     } else {
         on_stream("-", print_to_output(rt, &PrintedCounts { counts: &counts }))?;
     }
     let text = refusals(rt.alloc(), report)?;
     if !text.is_empty() {
+        // Nothing else is lost where standard error takes no more.
         let _ = eprintln!(errors; "bench: {text}");
     }
     Ok(())

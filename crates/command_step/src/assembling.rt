@@ -64,6 +64,7 @@ pub fn run<'a, R: Files<File: Hold> + AllocGlobal + Print, E: Eprint>(
     let is_output = leads_to_output(rt, image);
     write_new(rt, image, Kind::Image, force, bytes.as_slice())?;
     if is_output {
+        // Nothing else is lost where standard error takes no more.
         let _ = eprintln!(errors; "{sizes}");
         return Ok(());
     }

@@ -47,6 +47,7 @@ fn main<B: Builder>(
     let mut found = or_refused!(builder.no_frames(), text);
     let mut rest = text;
     while let Some((word, _)) = next(rest) {
+        // The word is read again as the begin of a frame.
         let _ = word;
         let (one, left) = frame(&around, rest)?;
         found = or_refused!(builder.more(found, one), left);

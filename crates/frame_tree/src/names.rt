@@ -71,6 +71,7 @@ fn copied(bytes: &[u8]) -> ArrayVec<u8, 16>
     ensures { result.items ≡ bytes.now }
 {
     let mut copied = ArrayVec::new();
+    // There is room for all of them.
     let _ = copied.try_extend_from_slice(bytes);
     copied
 }

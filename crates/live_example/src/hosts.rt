@@ -63,6 +63,7 @@ fn post_both<R: Wait>(rt: &R, gate: &Posted, host: Host<'_>)
 pub fn post_all<R: Threads + Wait + Sync>(rt: &R, gate: &Posted, first: Host<'_>, second: Host<'_>)
     requires { MayPost 0 first.mailbox.now first.poster × MayPost 0 second.mailbox.now second.poster }
 {
+    // What the hosts were told stands in the report.
     let _ = join(
         rt,
         move ||

@@ -35,6 +35,7 @@ fn word_of<R: Threads + Wait + Sync + AllocGlobal>(rt: &R, wanted: &str) -> &'st
 
 fn main(rt: HostRuntime) -> io::Result<()> {
     let mut words = env::args(&rt)?;
+    // The first word names the program.
     let _ = words.next();
     match words.next() {
         Some(wanted) => println!(rt; "{}", word_of(&rt, wanted.as_str())),
