@@ -35,6 +35,24 @@ function done(    i) {
 function send(message) { say("send A " message); sent++ }
 function fault(what) { head("fault " sent " " what) }
 
+# N turns of a loop: a message that has no answer; then, where there is none, a question on a line (where there is one
+# stands a message to a terminal that is not there, which no test may have: `unanswered` is its rule); and, where CLEAR
+# is not empty, a message that clears the status word. `in_turn` is a fault of the message in turn I of the loop, and
+# `behind_turn` one of the message K behind it.
+function turns(n, message, line, question, clear) {
+    say("repeat " n " {")
+    say("  send A " message)
+    say("  if silent { send " line " " question " } else { send A tx 30 30 1 }")
+    if (clear != "") say("  send A " clear)
+    say("}")
+    turns_from = sent
+    per_turn = (clear != "" ? 3 : 2)
+    sent += per_turn * n
+}
+function in_turn(i) { return "fault " turns_from + per_turn * (i - 1) + 1 " " }
+function behind_turn(i, k) { return "fault " turns_from + per_turn * (i - 1) + 1 + k " " }
+function unanswered() { rule("tx 30 30 count 0 0") }
+
 # ---- words and masks ----
 
 function hex(n, digits,    text) {
@@ -66,6 +84,27 @@ function half(i,    text, digit) {
     text = ""
     for (digit = 9; digit >= 0; digit--) text = text hex(digit == int(i / 4) ? 2 ^ (i % 4) : 0, 1)
     return text
+}
+
+# the mask of both halves of a bit time of the same numbers, halved: 0 is the parity bit, 1 is bit 0
+function whole(pair,    text, digit) {
+    text = ""
+    for (digit = 9; digit >= 0; digit--) text = text hex(digit == int(pair / 2) ? (pair % 2 ? 12 : 3) : 0, 1)
+    return text
+}
+
+# the masks of a kind of invalid words, in the array `masks`, and how many these are: a parity that is wrong, since one
+# of the 17 bits has its other value; 17 bits that are no Manchester code, in either half; a sync that is none, or that
+# of the other kind of words
+function masks_of(kind,    n, i) {
+    n = 0
+    if (kind == "parity") for (i = 0; i <= 16; i++) masks[++n] = whole(i)
+    if (kind == "manchester") for (i = 0; i <= 33; i++) masks[++n] = half(i)
+    if (kind == "sync") {
+        for (i = 34; i <= 39; i++) masks[++n] = half(i)
+        masks[++n] = other_sync
+    }
+    return n
 }
 
 # the bits of A other than in B
