@@ -114,15 +114,23 @@ function differ(a, b,    bit, n) {
     return n
 }
 
-# the mask that inverts the bits of N in a word, and puts its parity right: a valid word
-function flip(n,    bit, pair, odd, text, digit) {
+# the number that hexadecimal digits stand for
+function number(text,    i, n) {
+    n = 0
+    for (i = 1; i <= length(text); i++) n = 16 * n + index("0123456789ABCDEF", substr(text, i, 1)) - 1
+    return n
+}
+
+# the mask that inverts the bits of N in a word, and puts its parity right: a valid word, which has the other sync where
+# that is asked for
+function flip(n, with_sync,    bit, pair, odd, text, digit) {
     odd = 0
     for (bit = 0; bit < 16; bit++) {
         pair[bit + 1] = int(n / 2 ^ bit) % 2 * 3
         if (pair[bit + 1]) odd = !odd
     }
     pair[0] = odd ? 3 : 0
-    pair[17] = pair[18] = pair[19] = 0
+    pair[17] = pair[18] = pair[19] = with_sync ? 3 : 0
     text = ""
     for (digit = 9; digit >= 0; digit--) text = text hex(4 * pair[2 * digit + 1] + pair[2 * digit], 1)
     return text

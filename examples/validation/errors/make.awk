@@ -191,7 +191,7 @@ BEGIN {
             if (count + i <= 32) undone[++undoings] = in_turn(i) "mask 0 0 " flip(differ(count, (count + i) % 32))
         }
     }
-    rules_of_data(1)
+    rules_of_data(0)
     undo("what comes is taken, as if so many words had been announced")
     wrong("no message error where the terminal is asked")
     does("faults 2 " sent " 3 mask 1 0 " message_error)
