@@ -189,7 +189,6 @@ BEGIN {
                 if (!k) head(in_turn(turn) "drop 0 1")
                 if (!k) undone[++undoings] = in_turn(turn) "add 0 1 d 0001"
             }
-        rule("line " line " brx " subaddress " fail")
         rule("line " line " brx " subaddress " period " 132 + 20 * k " " 132 + 20 * k)
         answered[k] = in_turn(1) "add 0 " (k ? k : 0) " c " mode(5, 1, 1)
     }
