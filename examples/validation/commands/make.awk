@@ -20,7 +20,8 @@ BEGIN {
         "each subaddress sends 1 to 31 words, those that the host put there, behind a clear status word")
     for (address = 0; address <= 30; address++) head("terminal " address)
     for (address = 0; address <= 30; address++)
-        for (subaddress = 1; subaddress <= 29; subaddress++) head("at 1 " address " transmit " subaddress " " words(256 * subaddress + 1, 32))
+        for (subaddress = 1; subaddress <= 29; subaddress++)
+            head("at 1 " address " transmit " subaddress " " words(256 * subaddress + 1, 32))
     for (address = 0; address <= 30; address++)
         for (subaddress = 1; subaddress <= 30; subaddress++) {
             send("tx " address " " subaddress " " address + 1)
@@ -30,7 +31,8 @@ BEGIN {
     rule("any clean")
     wrong("all words at subaddresses 1 to 29 are gone, and statuses have message error")
     for (address = 0; address <= 30; address++)
-        for (subaddress = 1; subaddress <= 29; subaddress++) does("at 1 " address " illegal transmit " subaddress " " address + 1)
+        for (subaddress = 1; subaddress <= 29; subaddress++)
+            does("at 1 " address " illegal transmit " subaddress " " address + 1)
     wrong("terminal 30 sends a word of 31 with wrong parity")
     does("fault 901 mask 1 31 " bad_parity)
     wrong("terminal 12 sends 14 words in place of 13 from subaddress 7")
@@ -40,7 +42,8 @@ BEGIN {
     test("transmit_32", "4.3.3.6.2, 4.3.3.5.1.5", \
         "a word count of 00000 asks for 32 words: each subaddress sends them")
     head("terminal 5")
-    for (subaddress = 1; subaddress <= 29; subaddress++) head("at 1 5 transmit " subaddress " " words(256 * subaddress + 1, 32))
+    for (subaddress = 1; subaddress <= 29; subaddress++)
+        head("at 1 5 transmit " subaddress " " words(256 * subaddress + 1, 32))
     for (subaddress = 1; subaddress <= 30; subaddress++) {
         send("tx 5 " subaddress " 32")
         if (subaddress < 30) rule("tx 5 " subaddress " data " words(256 * subaddress + 1, 32))

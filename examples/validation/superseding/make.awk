@@ -1,5 +1,5 @@
-# Superseding commands: a message is broken off at each place by another command to the same terminal, which answers that
-# one. Terminal A is sent a command of its own kind; `kinds` sets which, with the data words behind it.
+# Superseding commands: a message is broken off at each place by another command to the same terminal, which answers
+# that one. Terminal A is sent a command of its own kind; `kinds` sets which, with the data words behind it.
 
 function kinds(    n) {
     n = 0

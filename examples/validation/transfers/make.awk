@@ -107,7 +107,7 @@ BEGIN {
     does("fault 500 mask 2 0 " message_error)
     done()
 
-    # Terminal A receives as many words as its address; terminal 7 receives 31 from terminal 0, and 32 over the other bus.
+    # Terminal A receives as many words as its address; terminal 7 has 31 from terminal 0, and 32 over the other bus.
     test("data", "4.3.3.6.3, Notice 2 30.7", "the receiver has the words of the sender: it sends them back")
     for (address = 0; address <= 30; address++) head("terminal " address)
     head("at 1 7 transmit 1 " words(256, 32))

@@ -24,8 +24,8 @@ BEGIN {
     does("fault 40 mute 1")
     done()
 
-    # Each bit alone is one (terminal 5), and zero (6); and each bit is the other of the one before (7) and of that of the
-    # word before (8).
+    # Each bit alone is one (terminal 5), and zero (6); and each bit is the other of the one before (7) and of that of
+    # the word before (8).
     test("patterns", "Notice 2 30.7, 4.3.3.5.2.2", "each bit of a data word comes back as it was")
     for (address = 5; address <= 8; address++) {
         head("terminal " address)
