@@ -62,7 +62,7 @@ function waits(first, last, none_from, none_to,    ticks) {
     transfers(none_to - none_from + 1, 2)
     for (ticks = none_from; ticks <= none_to; ticks++) {
         head("at " turns_from + 3 * (ticks - none_from) + 1 " 7 gap " ticks)
-        undone[++undoings] = "at " turns_from + 3 * (ticks - none_from) + 1 " 7 gap 140"
+        undone[++undoings] = "at " turns_from + 3 * (ticks - none_from) + 1 " 7 gap " (ticks % 2 ? 140 : 150)
     }
     waited = turns_from
 }
