@@ -1,11 +1,10 @@
 # The unique address: each of 31 terminals answers for itself alone.
 BEGIN {
-    # Terminal A is on alone: called, it answers; the others are called, and there is no answer.
+    # Terminal A is on alone: called, it answers; the others are called, and there is no answer (the message fails).
     test("alone", "Notice 2 30.3, 4.3.3.5.1.2", \
         "each address in turn is the one that is there: it answers, and no other does")
     for (address = 0; address <= 30; address++) head("terminal " address)
     for (address = 1; address <= 30; address++) head("at 1 " address " power off")
-    say("define answered { send A brx 30 [FFFF] }")
     for (address = 0; address <= 30; address++) {
         if (address) {
             head("at " sent + 1 " " address - 1 " power off")
@@ -13,19 +12,16 @@ BEGIN {
         }
         for (called = 0; called <= 30; called++) {
             if (called == address) send("mode " called " 2")
-            else {
-                send("mode " called " 1")
-                say("if not silent { call answered }")
-            }
+            else send("mode " called " 1")
         }
         rule("mode " address " 2 clean")
         rule("mode " address " 2 status " word(2048 * address))
     }
-    rule("brx 30 count 0 0")
+    rule("mode * 1 fail")
     wrong("no terminal is turned off")
     for (address = 0; address <= 30; address++)
         for (called = 0; called <= 30; called++) does("at " 31 * called + 1 " " address " power on")
-    wrong("none is turned on but the first, which does not answer")
+    wrong("the one that is on does not answer")
     does("faults 1 " sent " 32 mute 1")
     done()
 
