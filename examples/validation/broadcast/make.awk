@@ -21,9 +21,9 @@ function pair_to_all(is_transmit, code, at_zero,    form) {
 # a message to all with an error in its words; then terminal 5 is asked, and its status word is cleared. A turn takes as
 # long as its words, the gaps between them, and the gaps of 18.0 us behind a message to all: an answer would show in the
 # period
-function turns_to_all(n, message) {
+function turns_to_all(n, message, line) {
     say("repeat " n " {")
-    say("  send A " message)
+    say("  send " (line == "" ? "A" : line) " " message)
     say("  send A mode 5 2")
     say("  send A mode 5 1")
     say("}")
@@ -225,6 +225,49 @@ BEGIN {
     answers(1, 0)
     done()
 
+    # On bus A synchronize with a word that is invalid or behind a gap, and the others with a word; on bus B synchronize
+    # without its word. A turn takes 112 us and 20 for each word.
+    test("mode_words", "4.3.3.6.7.3, 4.3.3.6.7.4, 4.4.1.1, 4.4.1.2, 4.4.3.6", \
+        "a mode command to all with an invalid word, a word too many or none: message error, the broadcast bit")
+    head("terminal 5")
+    n = 0
+    for (k = 1; k <= 3; k++) {
+        count = masks_of(kinds[k])
+        for (i = 1; i <= count; i++) every[++n] = masks[i]
+    }
+    for (at_zero = 0; at_zero <= 1; at_zero++) {
+        name = (at_zero ? "bmode0" : "bmode")
+        turns_to_all(n, name " 17 [0001]")
+        for (i = 1; i <= n; i++) twice(in_turn(i) "mask 0 1 " every[i])
+        turns_to_all(40, name " 17 [0001]")
+        for (ticks = 21; ticks <= 60; ticks++) head(in_turn(ticks - 20) "pause 0 1 " ticks)
+    }
+    rule("line A bmode 17 period 152 156")
+    heard[1] = in_turn(1) "add 0 1 c " mode(5, 1, 1)
+    for (code = 1; code <= 8; code++)
+        if (code != 2) {
+            turns_to_all(3, "bmode " code)
+            for (i = 1; i <= 3; i++) head(in_turn(i) "add 0 0 d 0001")
+            heard[code + 2] = in_turn(1) "add 0 0 c " mode(5, 1, 1)
+            turns_to_all(3, "bmode0 " code)
+            for (i = 1; i <= 3; i++) head(in_turn(i) "add 0 0 d 0001")
+            rule("bmode " code " period 152 152")
+        }
+    turns_to_all(3, "bmode 17 [0001]", "B")
+    for (i = 1; i <= 3; i++) head(in_turn(i) "drop 0 1")
+    heard[2] = in_turn(1) "add 0 1 c " mode(5, 1, 1)
+    turns_to_all(3, "bmode0 17 [0001]", "B")
+    for (i = 1; i <= 3; i++) head(in_turn(i) "drop 0 1")
+    rule("line B bmode 17 period 132 132")
+    rule("mode 5 2 status 2C10")
+    rule("mode 5 1 status 2800")
+    undo("invalid words are taken for valid")
+    wrong("message error stays behind the next command")
+    does("faults 3 " sent " 3 mask 1 0 " message_error)
+    wrong("answers to messages to all")
+    for (k in heard) does(heard[k])
+    done()
+
     # Known ones that may not be sent to all, reserved and undefined ones, and codes 20 and 21.
     test("modes_refused", "4.3.3.5.1.7, 4.4.3.4", \
         "each other T/R and mode code to all: no answer, and message error with the broadcast bit")
@@ -296,6 +339,46 @@ BEGIN {
     does("faults 4 " sent " 4 mask 1 0 " flip(16))
     wrong("a word too few")
     does("fault 1 drop 1 1")
+    done()
+
+    # The receive command to all is invalid (transmit status word), the transmit command is (transmit last command), or
+    # it is not contiguous (questions over the other bus). The sender hears the command to all, too.
+    test("transfer_commands", "4.3.3.6.7.2, 4.4.1.1, 4.4.1.2, 4.4.3.6", \
+        "errors in either command of a transfer to all, and a gap between them: no words are taken")
+    head("terminal 5")
+    head("terminal 7")
+    n = 0
+    for (k = 1; k <= 3; k++) {
+        count = masks_of(kinds[k])
+        for (i = 1; i <= count; i++) every[++n] = masks[i]
+    }
+    for (k = 1; k <= 3; k++) {
+        turns_are = (k < 3 ? n : 40)
+        line = (k < 3 ? "A" : "B")
+        code = (k == 2 ? 18 : 2)
+        say("repeat " turns_are " {")
+        say("  send A brt 7 1 2 4")
+        say("  send " line " mode 5 " code " send " line " mode 7 " code)
+        say("  send A mode 5 1 send A mode 7 1")
+        say("}")
+        turns_from = sent
+        per_turn = 5
+        sent += 5 * turns_are
+        for (i = 1; i <= turns_are; i++)
+            if (k < 3) twice(in_turn(i) "mask 0 " k - 1 " " every[i])
+            else head(in_turn(i) "pause 0 1 " i + 20)
+    }
+    rule("line A mode 5 2 status 2800")
+    rule("line A mode 7 2 status 3800")
+    rule("line A mode 5 18 status 2C10")
+    rule("line A mode 7 18 status 3C10")
+    rule("line B mode 5 2 status 2C10")
+    rule("line B mode 7 2 status 3800")
+    rule("mode 5 1 status 2800")
+    rule("mode 7 1 status 3800")
+    undo("invalid command words are taken for valid")
+    wrong("status words have message error, or have none")
+    does("faults 1 " sent " 1 mask 1 0 " message_error)
     done()
 
     # What the sender of four words sends is wrong: a word in each way, a word too many or too few, nothing.

@@ -228,11 +228,12 @@ BEGIN {
     does("faults 3 " sent " 3 mask 1 0 " message_error)
     done()
 
-    # Four pairs: the receive command is invalid at 5 and 7, the transmit command at 6 and 8, it is not contiguous at 9
-    # and 10, and it asks for another number of words at 11 and 12. Questions come over the other bus.
+    # Six pairs: the receive command is invalid at 5 and 7, the transmit command at 6 and 8, it is not contiguous at 9
+    # and 10, it asks for another number of words at 11 and 12, has words behind it at 13 and 14, and is not there at 15
+    # and 16. Questions come over the other bus.
     test("commands", "4.3.3.6.3, 4.4.1.1, 4.4.1.2, 4.4.3.6", \
-        "errors in either command, a gap between them, other counts: the receiver is silent")
-    for (address = 5; address <= 12; address++) head("terminal " address)
+        "errors in either command, a gap between them, other counts, words behind them: no answer")
+    for (address = 5; address <= 16; address++) head("terminal " address)
     n = all_masks()
     pairs(n, 7, 5, 0)
     for (i = 1; i <= n; i++) twice(in_turn(i) "mask 0 0 " every[i])
@@ -245,6 +246,16 @@ BEGIN {
     turn = 0
     for (count = 1; count <= 32; count++)
         if (count != 4) twice(in_turn(++turn) "mask 0 1 " flip(differ(4, count % 32)))
+    pairs(3, 14, 13, 1)
+    for (i = 1; i <= 3; i++) for (k = 1; k <= i; k++) head(in_turn(i) "add 0 1 d 0001")
+    pairs(3, 16, 15, 1)
+    for (i = 1; i <= 3; i++) head(in_turn(i) "drop 0 1")
+    rule("line B mode 13 2 status 6C00")
+    rule("line B mode 14 2 status 7400")
+    rule("mode 13 1 status 6800")
+    rule("line B mode 15 2 status 7C00")
+    rule("line B mode 16 2 status 8000")
+    rule("mode 15 1 status 7800")
     rule("line B mode 5 2 status 2800")
     rule("line B mode 7 2 status 3800")
     rule("line B mode 5 2 period 258 258")
