@@ -39,10 +39,10 @@ function fault(what) { head("fault " sent " " what) }
 # stands a message to a terminal that is not there, which no test may have: `unanswered` is its rule); and, where CLEAR
 # is not empty, a message that clears the status word. `in_turn` is a fault of the message in turn I of the loop, and
 # `behind_turn` one of the message K behind it.
-function turns(n, message, line, question, clear) {
+function turns(n, message, line, poll, clear) {
     say("repeat " n " {")
     say("  send A " message)
-    say("  if silent { send " line " " question " } else { send A tx 30 30 1 }")
+    say("  if silent { send " line " " poll " } else { send A tx 30 30 1 }")
     if (clear != "") say("  send A " clear)
     say("}")
     turns_from = sent
@@ -54,6 +54,9 @@ function behind_turn(i, k) { return "fault " turns_from + per_turn * (i - 1) + 1
 function unanswered() { rule("tx 30 30 count 0 0") }
 
 # ---- words and masks ----
+
+# 2 to the N (not every awk has an operator for it)
+function power(n) { return n > 0 ? 2 * power(n - 1) : 1 }
 
 function hex(n, digits,    text) {
     text = ""
@@ -82,14 +85,14 @@ function mode(address, is_transmit, code) { return word(2048 * address + 1024 * 
 # 33 of bit 15, and 34 to 39 the sync, of which 39 is first on the line
 function half(i,    text, digit) {
     text = ""
-    for (digit = 9; digit >= 0; digit--) text = text hex(digit == int(i / 4) ? 2 ^ (i % 4) : 0, 1)
+    for (digit = 9; digit >= 0; digit--) text = text hex(digit == int(i / 4) ? power(i % 4) : 0, 1)
     return text
 }
 
 # the mask of both halves of a bit time of the same numbers, halved: 0 is the parity bit, 1 is bit 0
-function whole(pair,    text, digit) {
+function whole(place,    text, digit) {
     text = ""
-    for (digit = 9; digit >= 0; digit--) text = text hex(digit == int(pair / 2) ? (pair % 2 ? 12 : 3) : 0, 1)
+    for (digit = 9; digit >= 0; digit--) text = text hex(digit == int(place / 2) ? (place % 2 ? 12 : 3) : 0, 1)
     return text
 }
 
@@ -123,16 +126,16 @@ function number(text,    i, n) {
 
 # the mask that inverts the bits of N in a word, and puts its parity right: a valid word, which has the other sync where
 # that is asked for
-function flip(n, with_sync,    bit, pair, odd, text, digit) {
+function flip(n, with_sync,    bit, times, odd, text, digit) {
     odd = 0
     for (bit = 0; bit < 16; bit++) {
-        pair[bit + 1] = int(n / 2 ^ bit) % 2 * 3
-        if (pair[bit + 1]) odd = !odd
+        times[bit + 1] = int(n / power(bit)) % 2 * 3
+        if (times[bit + 1]) odd = !odd
     }
-    pair[0] = odd ? 3 : 0
-    pair[17] = pair[18] = pair[19] = with_sync ? 3 : 0
+    times[0] = odd ? 3 : 0
+    times[17] = times[18] = times[19] = with_sync ? 3 : 0
     text = ""
-    for (digit = 9; digit >= 0; digit--) text = text hex(4 * pair[2 * digit + 1] + pair[2 * digit], 1)
+    for (digit = 9; digit >= 0; digit--) text = text hex(4 * times[2 * digit + 1] + times[2 * digit], 1)
     return text
 }
 

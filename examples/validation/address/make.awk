@@ -40,7 +40,7 @@ BEGIN {
     }
     rule("any clean")
     wrong("each bit of a status word's address is another")
-    for (n = 1; n <= sent; n++) does("fault " n " mask 1 0 " flip(2048 * 2 ^ (n % 5)))
+    for (n = 1; n <= sent; n++) does("fault " n " mask 1 0 " flip(2048 * power(n % 5)))
     wrong("each takes another word")
     does("faults 1 31 1 mask 0 1 " flip(1))
     done()
@@ -65,7 +65,7 @@ BEGIN {
     for (k = 0; k <= 1; k++)
         for (i = 0; i <= 4; i++) {
             address = (k ? 21 : 5)
-            other = differ(address, 2 ^ i)
+            other = differ(address, power(i))
             if (other == 5 || other == 21) continue
             say("repeat 3 {")
             say("  send A mode " other " 1")

@@ -265,7 +265,7 @@ BEGIN {
     wrong("message error stays behind the next command")
     does("faults 3 " sent " 3 mask 1 0 " message_error)
     wrong("answers to messages to all")
-    for (k in heard) does(heard[k])
+    for (k = 1; k <= 10; k++) if (k in heard) does(heard[k])
     done()
 
     # Known ones that may not be sent to all, reserved and undefined ones, and codes 20 and 21.

@@ -2,6 +2,7 @@
 # that one. Terminal A is sent a command of its own kind; `kinds` sets which, with the data words behind it.
 
 function kinds(    n) {
+    for (n = 1; n <= 8; n++) behind[n] = ""
     n = 0
     name_of[++n] = "synchronize"; command[n] = mode(n, 1, 1)
     name_of[++n] = "transmit vector word"; command[n] = mode(n, 1, 16)

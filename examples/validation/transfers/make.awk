@@ -171,7 +171,7 @@ BEGIN {
         "the sender's status word has another address: the receiver is silent (own choice)")
     two_terminals()
     transfers(5, 1)
-    for (i = 1; i <= 5; i++) twice(in_turn(i) "mask 1 0 " flip(2048 * 2 ^ (i - 1)))
+    for (i = 1; i <= 5; i++) twice(in_turn(i) "mask 1 0 " flip(2048 * power(i - 1)))
     rule("rt 7 1 5 1 fail")
     rule("rt 7 1 5 1 period 258 258")
     rules_of_receiver()

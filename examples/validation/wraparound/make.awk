@@ -31,7 +31,7 @@ BEGIN {
         head("terminal " address)
         text = ""
         for (i = 0; i < 32; i++) {
-            bit = 2 ^ (i % 16)
+            bit = power(i % 16)
             text = text (i ? " " : "") word(address == 5 ? bit : address == 6 ? 65535 - bit : \
                 address == 7 ? (i % 2 ? 21845 : 43690) : (i % 2 ? 65535 : 0))
         }
