@@ -275,8 +275,8 @@ BEGIN {
     wrong("the receiver answers although there is a gap: it hears one command more")
     does(apart "add 1 4 c " mode(9, 1, 1))
     wrong("the sender of a transfer whose receive command is invalid does not answer")
-    does("fault 1 mute 1")
+    does("fault 4 mute 1")
     wrong("the other sender answers: it hears one command more")
-    does("fault " 3 * n + 1 " add 0 1 c " mode(8, 1, 1))
+    does("fault " 3 * n + 5 " add 0 1 c " mode(8, 1, 1))
     done()
 }
