@@ -154,7 +154,7 @@ BEGIN {
     transfers(n, 6)
     for (i = 1; i <= n; i++) twice(in_turn(i) "mask 1 0 " every[i])
     for (subaddress = 1; subaddress <= 6; subaddress++) {
-        rule("rt 7 1 5 " subaddress " fail")
+        if (subaddress == 1 || subaddress == 6) rule("rt 7 1 5 " subaddress " fail")
         least = (subaddress == 3 ? 238 : subaddress == 4 ? 278 : subaddress == 5 ? 152 : 258)
         rule("rt 7 1 5 " subaddress " period " least " " least + (subaddress == 2 ? 4 : 0))
     }
