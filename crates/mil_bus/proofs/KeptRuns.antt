@@ -13,7 +13,7 @@ use Rattle.mil_bus.specs.declared.wholes.Whole.{Whole}
 use Rattle.mil_bus.specs.RunWords.{contiguous_run}
 use Rattle.mil_bus.specs.DataRuns.{gap_at}
 use Rattle.mil_bus.specs.Times.{lasting, end_from, is_last_or}
-use Rattle.mil_bus.specs.Wholes.{run_waves, value_waves, whole_words, all_words, words_in}
+use Rattle.mil_bus.specs.Wholes.{run_waves, value_waves, whole_words, all_words, words_in, AreSome}
 
 -- ---- how many words there are
 
@@ -73,6 +73,12 @@ all_words-push (q ∷ qs) vs r ws total count =
     ∙ ap (λ xs. whole_words q (take q.count vs) ++ all_words (qs ++ r ∷ []) xs) (cut-back q.count vs ws few)
     ∙ ap (λ xs. whole_words q (take q.count vs) ++ xs) (all_words-push qs (drop q.count vs) r ws rest count)
     ∙ sym (append_assoc (whole_words q (take q.count vs)) (all_words qs (drop q.count vs)) (whole_words r ws))
+
+pub some-push : (rs : List Whole) (r : Whole) → AreSome rs → 0 < r.count → AreSome (rs ++ r ∷ [])
+some-push [] r some one zero d lt = one
+some-push [] r some one (suc k) d lt = absurd (omega (arith, lt))
+some-push (q ∷ qs) r some one zero d lt = some zero d (omega arith)
+some-push (q ∷ qs) r some one (suc k) d lt = some-push qs r (λ j e less. some (suc j) e (omega (arith, less))) one k d (omega (arith, lt))
 
 one_small : (v : ℕ) (vs : List ℕ) → v < 2 ^ 16 → AreSmall vs → AreSmall (v ∷ vs)
 one_small v vs small rest zero d lt = small
@@ -162,6 +168,29 @@ pub last-whole : (b : Bool) (r : Whole) (vs : List ℕ) (more : List Sent) → 0
 last-whole b r vs more some =
     last-some b r.number r.source r.gap (run_waves (take r.commands vs) (drop r.commands vs)) more (omega (arith, run_waves-length (take r.commands vs) (drop r.commands vs), parts-length r.commands vs, some))
 
+pub last-all : (b : Bool) (rs : List Whole) (vs : List ℕ) (r : Whole) (more : List Sent) → words_in rs ≡ length vs → AreSome rs → 0 < length rs → get_or rs (length rs - 1) r ≡ r
+    → is_last_or b (all_words rs vs ++ more) ≡ is_last_or (r.number == 0) more
+last-all b [] vs r more total some one is = absurd (omega (arith, one))
+last-all b (q ∷ []) vs r more total some one is =
+    let own = take q.count vs in
+    let long : length own ≡ q.count = front-length q.count vs (omega (arith, total)) in
+    ap (λ xs. is_last_or b (xs ++ more)) (append-nil (whole_words q own))
+    ∙ last-whole b q own more (omega (arith, long, some 0 q (omega arith)))
+    ∙ ap (λ (x : Whole). is_last_or (x.number == 0) more) is
+last-all b (q ∷ p ∷ ps) vs r more total some one is =
+    let own = take q.count vs in
+    let rest = all_words (p ∷ ps) (drop q.count vs) in
+    let long : length own ≡ q.count = front-length q.count vs (omega (arith, total)) in
+    let back : words_in (p ∷ ps) ≡ length (drop q.count vs) = omega (arith, total, length-drop q.count vs) in
+    let place : suc (length (p ∷ ps) - 1) ≡ length (q ∷ p ∷ ps) - 1 = omega arith in
+    ap (is_last_or b) (append_assoc (whole_words q own) rest more)
+    ∙ last-whole b q own (rest ++ more) (omega (arith, long, some 0 q (omega arith)))
+    ∙ last-all (q.number == 0) (p ∷ ps) (drop q.count vs) r more back (λ k d lt. some (suc k) d (omega (arith, lt))) (omega arith) (ap (λ n. get_or (q ∷ p ∷ ps) n r) place ∙ is)
+
+pub last-none : (rs : List Whole) (vs : List ℕ) (more : List Sent) → length rs ≡ 0 → is_last_or true (all_words rs vs ++ more) ≡ is_last_or true more
+last-none [] vs more none = refl
+last-none (r ∷ rs) vs more none = absurd (omega (arith, none))
+
 -- ---- what is recorded of them
 
 raw-data : (n : ℕ) (s : Source) (g : ℕ) (vs : List ℕ) → AreSmall vs → map (λ (w : Sent). raw_of w.wave) (contiguous_run n s g (map data_wave vs)) ≡ vs
@@ -233,39 +262,6 @@ more-words old new rs vs i from r all lt is e whole =
     ap (λ xs. xs ++ all_words (drop (i + 1) rs) (drop (from + r.count) vs)) e
     ∙ append_assoc old (whole_words r (take r.count (drop from vs))) (all_words (drop (i + 1) rs) (drop (from + r.count) vs))
     ∙ ap (λ xs. old ++ xs) (sym (words-step rs vs i from r lt is)) ∙ whole
-
-pub last-step : (last next_last : Bool) (place next : ℕ) (rs : List Whole) (vs : List ℕ) (i : ℕ) (r : Whole) → i < length rs → r ≡ get_or rs i r → place + words_in (drop i rs) ≡ length vs
-    → next ≡ place + r.count → 0 < r.count → next_last ≡ (r.number == 0) → (more all : List Sent)
-    → is_last_or last (all_words (drop i rs) (drop place vs) ++ more) ≡ is_last_or true all
-    → is_last_or next_last (all_words (drop (i + 1) rs) (drop next vs) ++ more) ≡ is_last_or true all
-last-step last next_last place next rs vs i r lt is left next_is some last_is more all whole =
-    let own = take r.count (drop place vs) in
-    let rest = all_words (drop (i + 1) rs) (drop (place + r.count) vs) in
-    let long : length own ≡ r.count = own-length vs place r.count (omega (arith, left, count-step rs i r lt is)) in
-    ap (λ n. is_last_or next_last (all_words (drop (i + 1) rs) (drop n vs) ++ more)) next_is ∙ ap (λ b. is_last_or b (rest ++ more)) last_is
-    ∙ sym (last-whole last r own (rest ++ more) (omega (arith, long, some)))
-    ∙ ap (is_last_or last) (sym (append_assoc (whole_words r own) rest more))
-    ∙ ap (λ xs. is_last_or last (xs ++ more)) (sym (words-step rs vs i place r lt is)) ∙ whole
-
-pub last-same : (last : Bool) (place next : ℕ) (rs : List Whole) (vs : List ℕ) (i : ℕ) (r : Whole) → i < length rs → r ≡ get_or rs i r → place + words_in (drop i rs) ≡ length vs
-    → next ≡ place + r.count → r.count ≡ 0 → (more all : List Sent)
-    → is_last_or last (all_words (drop i rs) (drop place vs) ++ more) ≡ is_last_or true all
-    → is_last_or last (all_words (drop (i + 1) rs) (drop next vs) ++ more) ≡ is_last_or true all
-last-same last place next rs vs i r lt is left next_is none more all whole =
-    let own = take r.count (drop place vs) in
-    let rest = all_words (drop (i + 1) rs) (drop (place + r.count) vs) in
-    let nothing : own ≡ [] = ap (λ n. take n (drop place vs)) none in
-    let empty : whole_words r own ≡ [] = ap (whole_words r) nothing ∙ no_words r in
-    ap (λ n. is_last_or last (all_words (drop (i + 1) rs) (drop n vs) ++ more)) next_is
-    ∙ ap (λ xs. is_last_or last ((xs ++ rest) ++ more)) (sym empty)
-    ∙ ap (λ xs. is_last_or last (xs ++ more)) (sym (words-step rs vs i place r lt is)) ∙ whole
-  where
-    none_of : (n : ℕ) (s : Source) (g c : ℕ) → contiguous_run n s g (run_waves (take c []) (drop c [])) ≡ []
-    none_of n s g zero = refl
-    none_of n s g (suc c) = refl
-
-    no_words : (q : Whole) → whole_words q [] ≡ []
-    no_words q = none_of q.number q.source q.gap q.commands
 
 pub put-is : (front words each all : List Sent) → length each ≡ 0 → front ++ each ≡ all → (front ++ words) ++ each ≡ all ++ words
 put-is front words [] all none is = append-nil (front ++ words) ∙ ap (λ xs. xs ++ words) (sym (append-nil front) ∙ is)

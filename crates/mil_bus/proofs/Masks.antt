@@ -1,5 +1,5 @@
 -- Bits of a mask of 32.
-use Rattle.std.proofs.Common.{◌≡◌, ◌≢◌, ℕ, zero, suc, ◌+◌, ◌-◌, ◌*◌, ◌/◌, ◌%◌, ◌^◌, ◌<◌, ◌≤◌, refl, sym, ap, ◌∙◌, arith, w32}
+use Rattle.std.proofs.Common.{◌≡◌, ◌≢◌, ℕ, zero, suc, ◌+◌, ◌-◌, ◌*◌, ◌/◌, ◌%◌, ◌^◌, ◌<◌, ◌≤◌, refl, sym, ap, ◌∙◌, arith, w32, w64}
 use Rattle.std.specs.Prelude.{bit_or, nat_eq, Bool, true, false, ◌&&◌, ◌||◌, Some}
 use Rattle.std.specs.Int.{bit_at, trailing_zeros}
 use Rattle.std.specs.Int.Count.{trailing_of_zero}
@@ -17,30 +17,30 @@ bit_at-shifted mask from k le =
     ap (λ n. mask / 2 ^ n % 2) e ∙ ap (λ x. x % 2) (sym (shr-shr mask from (k - from)))
 
 -- below the lowest bit that is set from a place on, and from that place on, no bit is set
-pub clear_between : (mask from : ℕ) → mask < 2 ^ 32 → (k : ℕ) → from ≤ k → k < from + trailing_zeros w32 (mask / 2 ^ from) → bit_at mask k ≡ 0
+pub clear_between : (mask from : ℕ) → mask < 2 ^ 32 → (k : ℕ) → from ≤ k → k < from + trailing_zeros w64 (mask / 2 ^ from) → bit_at mask k ≡ 0
 clear_between mask from small k le lt = bit_at-shifted mask from k le ∙ go (mask / 2 ^ from) refl
   where
     go : (rest : ℕ) → mask / 2 ^ from ≡ rest → bit_at (mask / 2 ^ from) (k - from) ≡ 0
     go zero is = ap (λ x. bit_at x (k - from)) is ∙ bit_at-zero (k - from)
     go (suc rest) is =
         let pos : 0 < mask / 2 ^ from = omega arith in
-        let fits : mask / 2 ^ from < 2 ^ 32 = omega (arith, shr_le mask from) in
-        (bit_at-trailing_zeros w32 (mask / 2 ^ from) pos fits).2 (k - from) (omega arith)
+        let fits : mask / 2 ^ from < 2 ^ 64 = omega (arith, shr_le mask from) in
+        (bit_at-trailing_zeros w64 (mask / 2 ^ from) pos fits).2 (k - from) (omega arith)
 
 -- at that place it is set
-pub set_there : (mask from : ℕ) → mask < 2 ^ 32 → from + trailing_zeros w32 (mask / 2 ^ from) < 32 → bit_at mask (from + trailing_zeros w32 (mask / 2 ^ from)) ≡ 1
+pub set_there : (mask from : ℕ) → mask < 2 ^ 32 → from + trailing_zeros w64 (mask / 2 ^ from) < 32 → bit_at mask (from + trailing_zeros w64 (mask / 2 ^ from)) ≡ 1
 set_there mask from small within =
-    let shifted : from + trailing_zeros w32 (mask / 2 ^ from) - from ≡ trailing_zeros w32 (mask / 2 ^ from) = omega arith in
-    bit_at-shifted mask from (from + trailing_zeros w32 (mask / 2 ^ from)) (omega arith) ∙ ap (bit_at (mask / 2 ^ from)) shifted ∙ go (mask / 2 ^ from) refl
+    let shifted : from + trailing_zeros w64 (mask / 2 ^ from) - from ≡ trailing_zeros w64 (mask / 2 ^ from) = omega arith in
+    bit_at-shifted mask from (from + trailing_zeros w64 (mask / 2 ^ from)) (omega arith) ∙ ap (bit_at (mask / 2 ^ from)) shifted ∙ go (mask / 2 ^ from) refl
   where
-    go : (rest : ℕ) → mask / 2 ^ from ≡ rest → bit_at (mask / 2 ^ from) (trailing_zeros w32 (mask / 2 ^ from)) ≡ 1
+    go : (rest : ℕ) → mask / 2 ^ from ≡ rest → bit_at (mask / 2 ^ from) (trailing_zeros w64 (mask / 2 ^ from)) ≡ 1
     go zero is =
-        let none : trailing_zeros w32 (mask / 2 ^ from) ≡ 32 = ap (trailing_zeros w32) is ∙ trailing_of_zero 32 in
+        let none : trailing_zeros w64 (mask / 2 ^ from) ≡ 64 = ap (trailing_zeros w64) is ∙ trailing_of_zero 64 in
         absurd (omega (arith, none, within))
     go (suc rest) is =
         let pos : 0 < mask / 2 ^ from = omega arith in
-        let fits : mask / 2 ^ from < 2 ^ 32 = omega (arith, shr_le mask from) in
-        (bit_at-trailing_zeros w32 (mask / 2 ^ from) pos fits).1
+        let fits : mask / 2 ^ from < 2 ^ 64 = omega (arith, shr_le mask from) in
+        (bit_at-trailing_zeros w64 (mask / 2 ^ from) pos fits).1
 
 -- in a mask of ones no bit is clear
 pub all_set : (k : ℕ) → k < 32 → bit_at 4294967295 k ≢ 0

@@ -1,5 +1,7 @@
 -- One run and what follows it.
-use Rattle.std.proofs.Common.{◌≡◌, ◌≢◌, ℕ, ◌+◌, ◌-◌, List, [], ◌∷◌, ◌++◌, map, take, length, length-append, zero, suc, refl, sym, ap, ◌∙◌, arith, Option, Some, None, add-one}
+use Rattle.std.proofs.Common.{◌≡◌, ◌≢◌, ℕ, ◌+◌, ◌-◌, ◌<◌, true, false, List, [], ◌∷◌, ◌++◌, map, take, length, length-append, zero, suc, refl, sym, ap, ◌∙◌, arith, Option, Some, None, add-one}
+use Rattle.std.specs.Prelude.{nat_lt}
+use Rattle.std.proofs.lemmas.Bool.Decides.{nat_tests}
 use Rattle.mil_word.specs.declared.Line.{Line}
 use Rattle.mil_line.specs.declared.faults.Fault.{Fault}
 use Rattle.mil_line.specs.Faults.{altered, gap_of}
@@ -46,24 +48,27 @@ some-next line (w ∷ words) stations some = refl
 -- a run that puts no word on the line is the last
 pub runs-unsaid : (left : ℕ) (line : Line) (faults : List Fault) (run : ℕ) (o : Offer) (sent sent_after : List Sent) (stations stations_after : List Station)
     → IsSaid line faults run o (record { sent = sent; stations = stations }) (record { sent = sent_after; stations = stations_after })
-    → length sent_after ≡ length sent
+    → nat_lt (length sent) (length sent_after) ≡ false
     → runs left line faults (run + 1) None (record { sent = sent_after; stations = stations_after }) ≡ runs (left + 1) line faults run (Some o) (record { sent = sent; stations = stations })
 runs-unsaid left line faults run o sent sent_after stations stations_after is same =
     let words = run_sent (40 - length sent) faults run o in
-    let none : length words ≡ 0 = omega (arith, ap length is.sent, length-append sent words, same) in
+    let long : length sent_after ≡ length sent + length words = ap length is.sent ∙ length-append sent words in
+    let none : length words ≡ 0 = grind (arith, nat_tests) in
     let said = all_hearing line words stations in
     runs-some left line faults run o sent sent_after stations stations_after None is.sent (is.stations ∙ sym (none-after line words said none)) (sym (none-next line words said none))
 
 -- behind one that does, a quiet comes to all
 pub runs-said : (left : ℕ) (line : Line) (faults : List Fault) (run : ℕ) (o : Offer) (sent sent_after : List Sent) (stations said stations_after : List Station) (next : Option Offer)
     → IsSaid line faults run o (record { sent = sent; stations = stations }) (record { sent = sent_after; stations = said })
-    → length sent_after ≢ length sent
+    → nat_lt (length sent) (length sent_after) ≡ true
     → stations_after ≡ map (quieted line) said
     → next ≡ first_reply line said
     → runs left line faults (run + 1) next (record { sent = sent_after; stations = stations_after }) ≡ runs (left + 1) line faults run (Some o) (record { sent = sent; stations = stations })
 runs-said left line faults run o sent sent_after stations said stations_after next is other e3 e4 =
     let words = run_sent (40 - length sent) faults run o in
-    let some : length words ≢ 0 = λ none. other (omega (arith, ap length is.sent, length-append sent words, none)) in
+    let long : length sent_after ≡ length sent + length words = ap length is.sent ∙ length-append sent words in
+    let more : length sent < length sent_after = grind (arith, nat_tests) in
+    let some : length words ≢ 0 = λ none. absurd (omega (arith, long, more, none)) in
     let heard = all_hearing line words stations in
     runs-some left line faults run o sent sent_after stations stations_after next is.sent
     (e3 ∙ ap (map (quieted line)) is.stations ∙ sym (some-after line words heard some)) (e4 ∙ ap (first_reply line) is.stations ∙ sym (some-next line words heard some))

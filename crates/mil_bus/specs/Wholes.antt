@@ -1,5 +1,5 @@
 -- Runs that are sent as they should, by the values of their words (inside the bus).
-use Rattle.std.specs.Prelude.{◌≡◌, ℕ, ◌+◌, ◌≤◌, List, [], ◌∷◌, ◌++◌, length, map, take, drop}
+use Rattle.std.specs.Prelude.{◌≡◌, ℕ, ◌+◌, ◌<◌, ◌≤◌, List, [], ◌∷◌, ◌++◌, length, map, take, drop, get_or}
 use Rattle.mil_line.specs.Ranges.{most_sent}
 use Rattle.mil_word.specs.Words.{command_wave, data_wave}
 use Rattle.mil_terminal.specs.Runs.{AreSmall}
@@ -29,9 +29,13 @@ abbrev pub words_in : List Whole → ℕ
 words_in [] = 0
 words_in (r ∷ rs) = r.count + words_in rs
 
+-- such runs have a word each
+abbrev pub AreSome : List Whole → Type 0
+AreSome runs = (k : ℕ) (d : Whole) → k < length runs → 0 < (get_or runs k d).count
+
 -- what is kept of the words on a line: such runs with their values, and behind them words one by one
 pub record AreKeptWords (runs : List Whole) (values : List ℕ) (each : List Sent) : Type 0 where
   pub counted : words_in runs ≡ length values
-  pub many : length runs ≤ length values
+  pub some : AreSome runs
   pub few : length values + length each ≤ most_sent
   pub small : AreSmall values

@@ -10,11 +10,7 @@ pub fn next_set(mask: u32, from: usize) -> usize
     ensures none_between { (k : ℕ) → from ≤ k → k < result → k < 32 → bit_at mask k ≡ 0 }
     ensures there { result < 32 → bit_at mask result ≡ 1 }
 {
-    if from < 32 {
-        from + (mask >> from).trailing_zeros() as usize
-    } else {
-        from
-    }
+    from + (u64::from(mask) >> from).trailing_zeros() as usize
 }
 
 /// The mask with one bit more, where that is on.

@@ -98,6 +98,7 @@ impl<'a> Coming for HeardWord<'a> {
         pass(terminal, self.line, self.sent);
     }
 
+    #[inline(always)]
     fn tell(&self, terminal: &mut Terminal, _answer: &mut ()) {
         if !misses(terminal, self.line, self.sent.source) {
             terminal.hear_word(self.line, self.sent.wave, self.decoded, self.sent.gap);

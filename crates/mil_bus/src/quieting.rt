@@ -1,14 +1,34 @@
 //! A quiet that comes to all terminals of a bus, and the first answer to it.
-ghost use Rattle.mil_bus.specs.Exchange.{quieted, answer};
+ghost use Rattle.mil_bus.specs.Exchange.{quieted, offer_of, answer};
 ghost use Rattle.mil_bus.specs.Index.{IsClosed};
 ghost use Rattle.mil_bus.specs.Offers.{given};
-ghost use Rattle.std.specs.Option.{option_or};
-ghost use Rattle.std.specs.Prelude.{◌≡◌, None};
+ghost use Rattle.mil_terminal.specs.Replies.{reply};
+ghost use Rattle.mil_terminal.specs.Station.{after};
+ghost use Rattle.mil_terminal.specs.declared.events.Event.TheVariants as event;
+ghost use Rattle.std.specs.Option.{option_map, option_or};
+ghost use Rattle.std.specs.Prelude.{◌≡◌, false, None};
 
+use crate::Source;
 use crate::offers::Offered;
 use crate::telling::Coming;
 use mil_terminal::Terminal;
 use mil_word::Line;
+
+/// A quiet comes to a terminal that is neither deaf nor mute there, where none has answered yet.
+fn take_answer(terminal: &mut Terminal, line: Line, offer: &mut Offered)
+    requires { offer.old.answered ≡ false }
+    ensures after { terminal.new ≡ after terminal.old (event.Quiet line) }
+    ensures first { given offer.new.answered offer.new
+        ≡ option_map (offer_of terminal.old.own) (reply terminal.old.own line terminal.old.history) }
+{
+    let own = terminal.address();
+    if let Some(gap) = terminal.quiet_into(line, &mut offer.values.words) {
+        offer.answered = true;
+        offer.source = Source::Terminal(own);
+        offer.gap = gap;
+        offer.values.commands = 1;
+    }
+}
 
 /// A quiet comes to a terminal, unless it is deaf there; its answer counts where there was none before and the terminal
 /// is not mute there.
@@ -20,11 +40,11 @@ fn quiet_one(terminal: &mut Terminal, line: Line, offer: &mut Offered)
     if terminal.deaf(line) {
         return;
     }
-    let own = terminal.address();
-    let mute = terminal.mute(line);
-    match terminal.quiet(line) {
-        Some(reply) if !mute && !offer.answered => offer.put(own, &reply),
-        _ => {}
+    if offer.answered || terminal.mute(line) {
+        // What it answers is lost.
+        let _ = terminal.quiet(line);
+    } else {
+        take_answer(terminal, line, offer);
     }
 }
 

@@ -8,7 +8,7 @@ ghost use Rattle.mil_line.specs.Faults.{altered};
 ghost use Rattle.mil_line.specs.Ranges.{is_in_range, most_sent};
 ghost use Rattle.mil_word.specs.Words.{command_wave};
 ghost use Rattle.std.specs.List.{list_all};
-ghost use Rattle.std.specs.Prelude.{◌≡◌, ℕ, ◌+◌, ◌≤◌, true, [], ◌∷◌, ◌++◌, length, take, Some};
+ghost use Rattle.std.specs.Prelude.{◌≡◌, ℕ, ◌+◌, ◌≤◌, true, [], ◌∷◌, ◌++◌, length, nat_lt, take, Some};
 
 use crate::offers::Offered;
 use crate::talk_runs::Run;
@@ -100,7 +100,7 @@ fn altered_words(
 }
 
 /// What the planned faults make of a run comes on the line, as far as there is room for it among the words sent, and to
-/// all terminals. (What it holds stays out of the way of runs that no fault touches.)
+/// all terminals; whether a word does. (What it holds stays out of the way of runs that no fault touches.)
 #[inline(never)]
 fn say_altered(
     terminals: &mut Terminals,
@@ -109,11 +109,12 @@ fn say_altered(
     faults: &[Fault],
     run: &Run,
     values: &Values,
-)
+) -> bool
     requires in_range { list_all is_in_range faults.now ≡ true }
-    ensures { IsSaid line faults.now run.now.number (offer_in run.now values.now)
+    ensures said { IsSaid line faults.now run.now.number (offer_in run.now values.now)
         (record { sent = sent.old.items; stations = terminals.old })
         (record { sent = sent.new.items; stations = terminals.new }) }
+    ensures some { result ≡ (nat_lt (length sent.old.items) (length sent.new.items)) }
 {
     let room = MOST_SENT - sent.len();
     let altered = Run {
@@ -125,9 +126,11 @@ fn say_altered(
     let words = words_of_run(&altered, given.as_slice());
     sent.put_each(words.as_slice());
     terminals.hear_each(line, words.as_slice());
+    !words.is_empty()
 }
 
-/// What comes on the line of a run, as far as there is room for it among the words sent, comes to all terminals.
+/// What comes on the line of a run, as far as there is room for it among the words sent, comes to all terminals;
+/// whether a word does.
 fn say_run(
     terminals: &mut Terminals,
     sent: &mut SentWords,
@@ -135,16 +138,18 @@ fn say_run(
     faults: &[Fault],
     run: &Run,
     values: &Values,
-)
+) -> bool
     requires in_range { list_all is_in_range faults.now ≡ true }
-    ensures { IsSaid line faults.now run.now.number (offer_in run.now values.now)
+    ensures said { IsSaid line faults.now run.now.number (offer_in run.now values.now)
         (record { sent = sent.old.items; stations = terminals.old })
         (record { sent = sent.new.items; stations = terminals.new }) }
+    ensures some { result ≡ (nat_lt (length sent.old.items) (length sent.new.items)) }
 {
     if faults.is_empty() && sent.put_whole(run, values) {
         terminals.hear_whole(line, run, values);
+        true
     } else {
-        say_altered(terminals, sent, line, faults, run, values);
+        say_altered(terminals, sent, line, faults, run, values)
     }
 }
 
@@ -169,9 +174,7 @@ fn turn(
         source: offer.source,
         gap: offer.gap,
     };
-    let before = sent.len();
-    say_run(terminals, sent, line, faults, &run, &offer.values);
-    if sent.len() == before {
+    if !say_run(terminals, sent, line, faults, &run, &offer.values) {
         return false;
     }
     terminals.quiet(line, offer)

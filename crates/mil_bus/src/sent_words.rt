@@ -2,7 +2,7 @@
 ghost use Rattle.mil_bus.specs.Counts.{counts_of};
 ghost use Rattle.mil_bus.specs.DataRuns.{run_words};
 ghost use Rattle.mil_bus.specs.Times.{end_from, is_last_or, is_controllers_last};
-ghost use Rattle.mil_bus.specs.Wholes.{value_waves, whole_words, all_words, words_in};
+ghost use Rattle.mil_bus.specs.Wholes.{value_waves, whole_words, all_words, words_in, AreSome};
 ghost use Rattle.mil_bus.specs.declared.talks.Sent.{Sent as SentValue};
 ghost use Rattle.mil_line.specs.Ranges.{most_sent};
 ghost use Rattle.mil_word.specs.Wave.{raw_of};
@@ -25,12 +25,15 @@ use std::marker::Model;
 /// How long a word lasts, in ticks.
 const WORD: u64 = WORD_TIME as u64;
 
+/// How many runs may be kept as a whole: a message that goes as it should has no more.
+const MOST_WHOLE: usize = 3;
+
 /// The words that came on a line, at most forty, in their order; contracts see them as those of an `ArrayVec`. A run
 /// that no planned fault touches is kept as a whole, by the values of its words.
 #[derive(Debug, Drop)]
 pub struct SentWords {
     /// The runs that are kept as a whole.
-    runs: ArrayVec<Whole, MOST_SENT>,
+    runs: ArrayVec<Whole, MOST_WHOLE>,
     /// The values of their words.
     values: ArrayVec<u16, MOST_SENT>,
     /// The words behind them.
@@ -132,23 +135,17 @@ fn end_of_each(sent: &[Sent], from: usize, start: u64) -> u64
 
 /// Whether the last word of runs that are kept as a whole was the controller's, or there is none.
 fn is_controllers_run(runs: &[Whole], values: &[u16]) -> bool
-    requires { words_in runs.now ≡ length values.now }
+    requires counted { words_in runs.now ≡ length values.now }
+    requires some { AreSome runs.now }
     ensures { (more : List SentValue)
         → is_last_or true (all_words runs.now values.now ++ more) ≡ is_last_or result more }
 {
-    let mut last = true;
-    let mut from = 0;
-    for i in 0..runs.len() {
-        let run = &runs[i];
-        let end = from + usize::from(run.count);
-        if from < end {
-            last = run.number == 0;
-        }
-        from = end;
-    }
     // Named for the proofs alone.
     let _ = values;
-    last
+    match runs.last() {
+        Some(last) => last.number == 0,
+        None => true,
+    }
 }
 
 /// Whether the last of these words was the controller's; where there is none, as before.
@@ -209,7 +206,7 @@ impl SentWords {
     pub fn clear(&mut self)
         ensures { self.new.items ≡ [] }
     {
-        self.runs.clear();
+        self.runs = ArrayVec::new();
         self.values = ArrayVec::new();
         self.each.clear();
     }
@@ -225,17 +222,19 @@ impl SentWords {
     }
 
     /// Puts the words of a run behind the others, where it can be kept as a whole: it has a word, there is room for
-    /// all, and the others are kept so. Whether it was put.
+    /// it, and the others are kept so. Whether it was put.
     #[inline]
     pub(crate) fn put_whole(&mut self, run: &Run, values: &Values) -> bool
         ensures put { result ≡ true → self.new.items ≡ self.old.items
             ++ run_words run.now (value_waves values.now.commands values.now.words.items) }
         ensures room { result ≡ true → length self.old.items + length values.now.words.items ≤ most_sent }
+        ensures some { result ≡ true → 0 < length values.now.words.items }
         ensures kept { result ≡ false → self.new ≡ self.old }
     {
         let words = values.words.as_slice();
         let room = MOST_SENT - self.values.len();
-        if !self.each.is_empty() || words.is_empty() || room < words.len() {
+        let full = self.runs.len() == MOST_WHOLE;
+        if full || !self.each.is_empty() || words.is_empty() || room < words.len() {
             return false;
         }
         are_small(words);

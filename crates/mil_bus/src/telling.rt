@@ -73,6 +73,7 @@ fn pass_between<C: Coming>(terminals: &mut Vec<Terminal>, from: usize, to: usize
 
 /// It comes to all terminals, and the first answer, in order of address, is kept; a mask that is clear only where no
 /// window is open afterwards. It concerns only those that the mask given has.
+#[inline(always)]
 pub fn tell_all<C: Coming>(
     terminals: &mut Vec<Terminal>,
     mask: u32,

@@ -74,6 +74,7 @@ impl Terminals {
     }
 
     /// The same, where it was decoded before.
+    #[inline(always)]
     fn hear_decoded(&mut self, line: Line, sent: &Sent, decoded: Option<Word>)
         requires { decoded ≡ word_of sent.now.wave }
         ensures { self.new ≡ map (hearing line sent.now) self.old }

@@ -57,6 +57,11 @@ abbrev pub reply_to : ℕ → Option Ended → History → Option Reply
 reply_to own None h = None
 reply_to own (Some e) h = if is_answered own e then Some (answer_to own e h) else None
 
+-- what is answered, by its gap, where there is one, and its words
+abbrev pub reply_if : Option ℕ → List ℕ → Option Reply
+reply_if None words = None
+reply_if (Some gap) words = Some (record { gap = gap; words = record { items = words } })
+
 -- the reply to a quiet on a line after this history: none while the terminal is off
 unfoldable pub reply : ℕ → Line → History → Option Reply
 reply own line past = if is_off past then None else reply_to own (ended_by own (Quiet line) past) (Quiet line ∷ past)

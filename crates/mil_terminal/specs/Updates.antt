@@ -185,6 +185,19 @@ answer_now r c good = record {
 
 -- ---- a window that its last quiet ends, of good shape or not
 
+-- the words of the window that is open
+abbrev pub words_open : Option Pending → List ℕ
+words_open None = []
+words_open (Some p) = p.words.items
+
+-- that window, by its line and its command
+abbrev pub ending : Registers → Line → ℕ → Pending
+ending r line c = record { line = line; command = c; phase = Start; words = record { items = words_open r.window } }
+
+-- the registers without it
+abbrev pub shut : Registers → Registers
+shut r = record r { window = None }
+
 abbrev pub is_good_end : Registers → Pending → Bool → Bool
 is_good_end r p shape = shape && not (is_barred r p.command)
 

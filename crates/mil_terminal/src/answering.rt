@@ -6,8 +6,8 @@ ghost use Rattle.std.specs.Prelude.{◌≡◌, ◌≤◌, ◌<◌, true, length}
 use crate::exactly::push_exactly;
 use crate::put_up::PUT_UP;
 use crate::registers::Registers;
-use crate::replies::Reply;
 use arrayvec::ArrayVec;
+use mil_line::Gap;
 use mil_mode::codes::{TRANSMIT_BIT_WORD, TRANSMIT_LAST_COMMAND, TRANSMIT_VECTOR_WORD};
 use mil_word::Command;
 use mil_word::fields::WRAP_AROUND;
@@ -15,16 +15,23 @@ use mil_word::fields::WRAP_AROUND;
 impl Registers {
     ghost use Rattle.mil_terminal.specs.Updates.{answer_now, handed, mode_data_now, put_up_at};
 
-    /// The reply to a command, and what it changes.
-    pub fn respond(&mut self, command: Command, good: bool) -> Reply
+    /// The reply to a command, its words in place of others, and what it changes; its gap.
+    pub fn respond<const CAP: usize>(
+        &mut self,
+        command: Command,
+        good: bool,
+        words: &mut ArrayVec<u16, CAP>,
+    ) -> Gap
+        requires room { 33 ≤ CAP }
         ensures after { self.new ≡ handed good self.old command }
-        ensures reply { result ≡ answer_now self.old command good }
+        ensures reply { answer_now self.old command good ≡ record { gap = result; words = words.new } }
     {
-        let reply = self.answer(command, good);
+        let gap = self.host.response;
+        self.answer(command, good, words);
         if good {
             self.give(command);
         }
-        reply
+        gap
     }
 
     /// A good command was answered: the words that the reply carried go on, and the vector word ends a service request
@@ -42,11 +49,12 @@ impl Registers {
         }
     }
 
-    /// The status, and behind it the data words of a good command.
-    fn answer(&self, command: Command, good: bool) -> Reply
-        ensures { result ≡ answer_now self.now command good }
+    /// The status, and behind it the data words of a good command, in place of other words.
+    fn answer<const CAP: usize>(&self, command: Command, good: bool, words: &mut ArrayVec<u16, CAP>)
+        requires room { 33 ≤ CAP }
+        ensures { words.new ≡ (answer_now self.now command good).words }
     {
-        let mut words = ArrayVec::new();
+        *words = ArrayVec::new();
         words.push(self.conditions.word(self.own));
         if good && command.is_transmit() {
             if command.is_mode() {
@@ -55,15 +63,11 @@ impl Registers {
                 }
             } else if !self.host.busy {
                 push_exactly(
-                    &mut words,
+                    words,
                     command.count() as usize,
                     self.put_up(command.subaddress()),
                 );
             }
-        }
-        Reply {
-            gap: self.host.response,
-            words,
         }
     }
 

@@ -6,8 +6,13 @@ ghost use Rattle.std.specs.Prelude.{◌≡◌, ◌+◌, ◌≤◌, ◌++◌, rep
 use arrayvec::ArrayVec;
 
 /// So many words: the first of these, and zeros where there are fewer.
-pub(crate) fn push_exactly(words: &mut ArrayVec<u16, 33>, count: usize, from: &[u16])
-    requires { array_vec_len words.old + count ≤ 33 }
+pub(crate) fn push_exactly<const CAP: usize>(
+    words: &mut ArrayVec<u16, CAP>,
+    count: usize,
+    from: &[u16],
+)
+    requires room { array_vec_len words.old + count ≤ CAP }
+    requires few { count ≤ 33 }
     ensures { words.new.items ≡ words.old.items ++ exactly count from.now }
 {
     let taken = if count < from.len() {
@@ -21,8 +26,9 @@ pub(crate) fn push_exactly(words: &mut ArrayVec<u16, 33>, count: usize, from: &[
 }
 
 /// So many zeros.
-fn push_zeros(words: &mut ArrayVec<u16, 33>, count: usize)
-    requires { array_vec_len words.old + count ≤ 33 }
+fn push_zeros<const CAP: usize>(words: &mut ArrayVec<u16, CAP>, count: usize)
+    requires room { array_vec_len words.old + count ≤ CAP }
+    requires few { count ≤ 33 }
     ensures { words.new.items ≡ words.old.items ++ replicate count 0 }
 {
     let zeros = [0; 33];

@@ -44,7 +44,7 @@ impl Block {
         requires place { place < most_words }
         ensures { self.new ≡ placed self.old slot place value }
     {
-        let mut words = ArrayVec::new();
+        let mut words = ArrayVec::<u16, 33>::new();
         let old = self.at(slot);
         push_exactly(&mut words, larger(old.len(), place + 1), old);
         words.as_mut_slice()[place] = value;

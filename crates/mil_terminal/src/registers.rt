@@ -5,6 +5,7 @@ ghost use Rattle.mil_terminal.specs.Registers as registers;
 ghost use Rattle.mil_terminal.specs.Replies as replies;
 ghost use Rattle.mil_terminal.specs.Status.{status};
 ghost use Rattle.mil_terminal.specs.Slots.{put_up_slots};
+ghost use Rattle.mil_terminal.specs.Updates.{stored, words_open};
 ghost use Rattle.mil_terminal.specs.Windows.{ended_by, is_listening};
 ghost use Rattle.mil_terminal.specs.declared.events.Event.TheVariants.{Heard, Quiet, Host};
 ghost use Rattle.mil_word.specs.Fields.{field_values, most_words};
@@ -16,10 +17,10 @@ use crate::commands::{is_bus_control, is_question, is_unknown};
 use crate::conditions::Conditions;
 use crate::host::Settings;
 use crate::pending::{Pending, same_line};
-use crate::replies::Reply;
 use crate::sounds::Sound;
 use crate::switches::Switches;
 use crate::synced::Synced;
+use arrayvec::ArrayVec;
 use mil_host::Action;
 use mil_line::Gap;
 use mil_mode::codes::TRANSMIT_LAST_COMMAND;
@@ -40,10 +41,37 @@ pub struct Registers {
     pub block: Block,
 }
 
+/// The words of the window that is open.
+#[inline]
+fn words_open(window: &Option<Pending>) -> &[u16]
+    ensures words { result.now ≡ words_open window.now }
+    ensures few { length result.now ≤ most_words }
+{
+    match window {
+        Some(pending) => pending.words.as_slice(),
+        None => &[],
+    }
+}
+
+/// The words of a good receive command go into their slot, unless the terminal is busy.
+fn store(block: &mut Block, command: Command, busy: bool, words: &[u16])
+    requires { length words.now ≤ most_words }
+    ensures { block.new ≡ stored block.old command busy words.now }
+{
+    if command.is_receive() && !busy {
+        let sub = command.subaddress() as usize;
+        if command.is_broadcast() {
+            block.store(FIELD_VALUES + sub, words);
+        } else {
+            block.store(sub, words);
+        }
+    }
+}
+
 impl Registers {
     ghost use Rattle.mil_terminal.specs.StandsFor.{StandsFor};
-    ghost use Rattle.mil_terminal.specs.Updates.{is_barred, is_marked_now, told, with_open_window, settled, stored};
-    ghost use Rattle.mil_terminal.specs.Updates.{renewed, after_end, end_answer};
+    ghost use Rattle.mil_terminal.specs.Updates.{is_barred, is_marked_now, told, with_open_window, settled, acted};
+    ghost use Rattle.mil_terminal.specs.Updates.{renewed, shut, ending, after_end, end_answer};
 
     /// The registers of a terminal that has met nothing yet. All room is made here.
     pub fn make(alloc: Global, own: Address) -> Result<Registers, AllocError>
@@ -64,6 +92,7 @@ impl Registers {
     }
 
     /// A word on a line.
+    #[inline(always)]
     pub fn hear(&mut self, line: Line, sound: &Sound, gap: Gap)
         ensures stands { (h : History) → StandsFor self.old h → StandsFor self.new (Heard line sound.now gap ∷ h) }
         ensures own { self.new.own ≡ self.old.own }
@@ -97,6 +126,7 @@ impl Registers {
         }
     }
 
+    #[inline(always)]
     fn open(&mut self, line: Line, command: Command)
         ensures { self.new ≡ with_open_window self.old line command }
     {
@@ -110,50 +140,56 @@ impl Registers {
         }
     }
 
-    /// A quiet on a line, and what the terminal answers.
-    pub fn quiet(&mut self, line: Line) -> Option<Reply>
+    /// A quiet on a line; where the terminal answers, the gap of its reply, whose words are put in place of others.
+    pub fn quiet<const CAP: usize>(
+        &mut self,
+        line: Line,
+        words: &mut ArrayVec<u16, CAP>,
+    ) -> Option<Gap>
+        requires room { 33 ≤ CAP }
         ensures stands { (h : History) → StandsFor self.old h → StandsFor self.new (Quiet line ∷ h) }
         ensures own { self.new.own ≡ self.old.own }
-        ensures reply { (h : History) → StandsFor self.old h → result
+        ensures reply { (h : History) → StandsFor self.old h → replies.reply_if result words.new.items
             ≡ replies.reply_to self.old.own (ended_by self.old.own (Quiet line) h) (Quiet line ∷ h) }
     {
-        match self.window.take() {
+        match &mut self.window {
             None => None,
-            Some(mut pending) => {
+            Some(pending) => {
                 if same_line(line, pending.line) {
                     match pending.take_quiet() {
-                        None => {
-                            self.window = Some(pending);
-                            None
+                        None => None,
+                        Some(shape) => {
+                            let command = pending.command;
+                            self.settle(line, command, shape, words)
                         }
-                        Some(shape) => self.settle(pending, shape),
                     }
                 } else {
-                    self.window = Some(pending);
                     None
                 }
             }
         }
     }
 
-    /// A window that its last quiet ends.
-    fn settle(&mut self, pending: Pending, shape: bool) -> Option<Reply>
-        ensures after { self.new ≡ after_end self.old pending shape }
-        ensures reply { result ≡ end_answer self.old pending shape }
+    /// The window that is open ends by its last quiet; its line and its command.
+    fn settle<const CAP: usize>(
+        &mut self,
+        line: Line,
+        command: Command,
+        shape: bool,
+        words: &mut ArrayVec<u16, CAP>,
+    ) -> Option<Gap>
+        requires room { 33 ≤ CAP }
+        ensures after { self.new ≡ after_end (shut self.old) (ending self.old line command) shape }
+        ensures reply { replies.reply_if result words.new.items
+            ≡ end_answer (shut self.old) (ending self.old line command) shape }
     {
-        let Pending {
-            line,
-            command,
-            phase: _,
-            words,
-        } = pending;
         let answers = shape && command.address() == self.own.value() && self.switches.is_on(line);
         let barred = self.bars(command);
         let good = shape && !barred;
         let asks = is_question(self.own, command) && !(shape && barred);
-        self.conclude(line, command, good, asks, words.as_slice());
+        self.conclude(line, command, good, asks);
         if answers {
-            Some(self.respond(command, good))
+            Some(self.respond(command, good, words))
         } else {
             None
         }
@@ -178,31 +214,25 @@ impl Registers {
         }
     }
 
-    fn conclude(&mut self, line: Line, command: Command, good: bool, asks: bool, words: &[u16])
-        requires { length words.now ≤ most_words }
-        ensures { self.new ≡ settled self.old line command good asks words.now }
+    /// The window that is open is shut; its words go where a good command has them.
+    fn conclude(&mut self, line: Line, command: Command, good: bool, asks: bool)
+        ensures { self.new ≡ settled (shut self.old) line command good asks (words_open self.old.window) }
     {
         self.tell(command, good, asks);
         if good {
-            self.switches.act(line, command);
-            self.synced.act(command, words, self.host.self_test);
-            self.store(command, words);
+            self.carry_out(line, command);
         }
+        self.window = None;
     }
 
-    /// The words of a good receive command go into their slot.
-    fn store(&mut self, command: Command, words: &[u16])
-        requires { length words.now ≤ most_words }
-        ensures { self.new ≡ record self.old { block = stored self.old.block command self.old.host.busy words.now } }
+    /// A good command is carried out with the words of the window that is open.
+    fn carry_out(&mut self, line: Line, command: Command)
+        ensures { self.new ≡ acted self.old line command (words_open self.old.window) }
     {
-        if command.is_receive() && !self.host.busy {
-            let sub = command.subaddress() as usize;
-            if command.is_broadcast() {
-                self.block.store(FIELD_VALUES + sub, words);
-            } else {
-                self.block.store(sub, words);
-            }
-        }
+        let words = words_open(&self.window);
+        self.switches.act(line, command);
+        self.synced.act(command, words, self.host.self_test);
+        store(&mut self.block, command, self.host.busy, words);
     }
 
     /// An action of the host.

@@ -22,6 +22,7 @@ use crate::registers::Registers;
 use crate::replies::Reply;
 use crate::sounds::Sound;
 use crate::{Event, TerminalError};
+use arrayvec::ArrayVec;
 use history::History;
 use mil_host::Action;
 use mil_line::Gap;
@@ -80,6 +81,7 @@ impl Terminal {
     }
 
     /// The same, for a wave that was decoded before.
+    #[inline(always)]
     pub fn hear_word(&mut self, line: Line, wave: Wave, decoded: Option<Word>, gap: Gap)
         requires { decoded ≡ word_of wave }
         ensures { self.new ≡ after self.old (Heard line wave gap) }
@@ -142,12 +144,30 @@ impl Terminal {
         ensures after { self.new ≡ after self.old (Quiet line) }
         ensures reply { result ≡ replies.reply self.old.own line self.old.history }
     {
+        let mut words = ArrayVec::new();
+        match self.quiet_into(line, &mut words) {
+            Some(gap) => Some(Reply { gap, words }),
+            None => None,
+        }
+    }
+
+    /// The same, with the words of the reply, at most 33, in place of those that stood there; the gap before them, in
+    /// ticks, where the terminal answers.
+    pub fn quiet_into<const CAP: usize>(
+        &mut self,
+        line: Line,
+        words: &mut ArrayVec<u16, CAP>,
+    ) -> Option<Gap>
+        requires room { 33 ≤ CAP }
+        ensures after { self.new ≡ after self.old (Quiet line) }
+        ensures reply { replies.reply_if result words.new.items ≡ replies.reply self.old.own line self.old.history }
+    {
         if self.registers.is_off() {
             return None;
         }
-        let reply = self.registers.quiet(line);
+        let gap = self.registers.quiet(line, words);
         self.past = self.past.put_before(&Event::Quiet(line));
-        reply
+        gap
     }
 
     /// An action of the host.

@@ -1,23 +1,17 @@
-use Rattle.std.proofs.Common.{◌≡◌, ◌+◌, ◌<◌, ◌++◌, drop, length, ap, ◌∙◌, arith}
-use Rattle.mil_bus.specs.Times.{is_last_or}
-use Rattle.mil_bus.specs.Wholes.{all_words}
-use Rattle.mil_bus.proofs.KeptRuns.{count-step, last-step, last-same}
+use Rattle.std.proofs.Common.{◌≡◌, ◌-◌, ◌<◌, ◌≤◌, true, length, get_or, arith, rules}
+use Rattle.mil_bus.specs.declared.wholes.Whole.{Whole}
+use Rattle.mil_bus.proofs.KeptRuns.{last-all, last-none}
 use Rattle.mil_bus.proofs.sent_words.is_controllers_run.Goals as goal
-use Rattle.mil_bus.proofs.sent_words.is_controllers_run.Goals.{then-from-end, else-from-end}
 
-pub loop-i-preserved : goal.loop-i-preserved
-loop-i-preserved c =
+pub returns-in-Some : goal.returns-in-Some
+returns-in-Some c = λ more.
     let rs = c.args.runs.now in
-    let vs = c.args.values.now in
-    let l = c.loop-i in
-    let r = c.index-runs-i.result in
-    let lt : l.i < length rs = c.loop-i-test.true in
-    let step = count-step rs l.i r lt c.index-runs-i.is in
-    let next : l.from + c.from.result ≡ l.from + r.count = omega (arith, c.from.ensures) in
-    record {
-      last = λ more. elim c.if-from-end.branch [
-        | then-from-end w ↦ last-step l.last c.if-from-end.last l.from (l.from + c.from.result) rs vs l.i r lt c.index-runs-i.is l.invariant.left next (omega (arith, w.if-from-end.true, c.from.ensures)) w.last-is more (all_words rs vs ++ more) (l.invariant.last more)
-        | else-from-end w ↦ ap (λ b. is_last_or b (all_words (drop (l.i + 1) rs) (drop (l.from + c.from.result) vs) ++ more)) w.last-is ∙ last-same l.last l.from (l.from + c.from.result) rs vs l.i r lt c.index-runs-i.is l.invariant.left next (omega (arith, w.if-from-end.false, c.from.ensures)) more (all_words rs vs ++ more) (l.invariant.last more)
-      ];
-      left = omega (arith, step, l.invariant.left, c.from.ensures);
-    }
+    let r : Whole = c.in-Some.last.now in
+    let one : 0 < length rs = c.in-Some.ensures.item.3.0 in
+    let is : get_or rs (length rs - 1) r ≡ r = search rules in
+    last-all true rs c.args.values.now r more c.requires.counted c.requires.some one is
+
+pub returns-in-None : goal.returns-in-None
+returns-in-None c = λ more.
+    let none : length c.args.runs.now ≤ 0 = c.in-None.ensures.item.3 in
+    last-none c.args.runs.now c.args.values.now more (omega (arith, none))

@@ -4,9 +4,8 @@ use Rattle.mil_terminal.proofs.SlotLemmas.{take_same, where_ok}
 use Rattle.mil_terminal.proofs.exactly.push_zeros.Goals as goal
 
 pub returns : goal.returns
-returns c =
-    let few : c.args.count ≤ 33 = omega (arith, c.requires) in
+returns g c =
     let z : ℕ = 0 in
-    let is : take c.args.count (replicate 33 z) ≡ replicate c.args.count z = take_same z c.args.count few in
+    let is : take c.args.count (replicate 33 z) ≡ replicate c.args.count z = take_same z c.args.count c.requires.few in
     let long : length (take c.args.count (replicate 33 z)) ≡ c.args.count = ap length is ∙ length-replicate c.args.count z in
-    where_ok c.try_extend_from_slice.result _ (c.try_extend_from_slice.ensures.variant.1 (omega (arith, long, c.requires))) c.try_extend_from_slice.ensures.ok ∙ ap (λ ws. c.args.words.now.items ++ ws) is
+    where_ok c.try_extend_from_slice.result _ (c.try_extend_from_slice.ensures.variant.1 (omega (arith, long, c.requires.room))) c.try_extend_from_slice.ensures.ok ∙ ap (λ ws. c.args.words.now.items ++ ws) is

@@ -18,7 +18,7 @@ invariant_of-self c =
     let put : c.try_extend_from_slice.new.self.items ≡ each ++ words = where_ok c.try_extend_from_slice.result _ room c.try_extend_from_slice.ensures.ok in
     record {
       counted = c.self.invariant.counted;
-      many = c.self.invariant.many;
+      some = c.self.invariant.some;
       few = omega (arith, fit, ap length put, length-append each words);
       small = c.self.invariant.small;
     }

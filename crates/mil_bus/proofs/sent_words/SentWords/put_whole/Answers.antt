@@ -5,7 +5,7 @@ use Rattle.mil_terminal.proofs.SlotLemmas.{where_ok}
 use Rattle.mil_bus.specs.declared.talks.Sent.{Sent}
 use Rattle.mil_bus.specs.declared.wholes.Whole.{Whole}
 use Rattle.mil_bus.specs.Wholes.{all_words, whole_words, words_in}
-use Rattle.mil_bus.proofs.KeptRuns.{all_words-length, all_words-push, words_in-push, small-append, put-is}
+use Rattle.mil_bus.proofs.KeptRuns.{all_words-length, all_words-push, words_in-push, small-append, some-push, put-is}
 use Rattle.mil_bus.proofs.sent_words.SentWords.put_whole.Goals as goal
 
 pub invariant_of-self : goal.invariant_of-self
@@ -23,7 +23,7 @@ invariant_of-self c =
     let put : c.try_extend_from_slice.new.self.items ≡ values ++ words = where_ok c.try_extend_from_slice.result _ room c.try_extend_from_slice.ensures.ok in
     record {
       counted = ap words_in c.push.ensures.items ∙ words_in-push runs _ ∙ omega (arith, c.self.invariant.counted, ap length put, length-append values words);
-      many = omega (arith, c.push.ensures.len, c.self.invariant.many, some, ap length put, length-append values words);
+      some = rw c.push.ensures.items (some-push runs _ c.self.invariant.some some);
       few = omega (arith, ap length put, length-append values words, fit, empty);
       small = rw put (small-append values words c.self.invariant.small c.are_small.ensures);
     }
