@@ -1,7 +1,7 @@
 -- The form of a recorded message, by its command words (MIL-STD-1553B 4.3.3.6).
 use Rattle.std.specs.Prelude.{ℕ, ◌==◌, Bool, not, ◌&&◌, if◌then◌else◌}
 use Rattle.mil_word.specs.Fields.{address_of, sub_of, code_of, count_of, is_broadcast, is_transmit, is_mode, is_receive}
-use Rattle.ch11_f1.specs.BodyReading.{Message}
+use Rattle.ch11_layout.specs.Stamps.{Recorded}
 use Rattle.ch11_layout.specs.Layouts.{word_of, first_word, commands_in}
 use Rattle.ch11_layout.specs.declared.forms.RecordedForm.{RecordedForm}
 use Rattle.ch11_layout.specs.declared.forms.RecordedForm.TheVariants.{Receive, Transmit, Between, Mode}
@@ -34,7 +34,7 @@ form_of_two first second =
     else if is_broadcast first then BetweenAll (address_of second) (sub_of second) (sub_of first) (count_of first)
     else Between (address_of second) (sub_of second) (address_of first) (sub_of first) (count_of first)
 
-abbrev pub form_of : Message → RecordedForm
+abbrev pub form_of : Recorded → RecordedForm
 form_of m =
     if commands_in m == 0 then Unknown
     else if commands_in m == 1 then form_of_one (first_word m)

@@ -2,3 +2,4 @@ pub mod BlockStatus
 pub mod Forms
 pub mod Layouts
 pub mod Replies
+pub mod Stamps

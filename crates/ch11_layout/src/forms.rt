@@ -2,6 +2,7 @@
 ghost use Rattle.ch11_f1.specs.Views.{message_of};
 ghost use Rattle.ch11_layout.specs.Forms as spec;
 ghost use Rattle.ch11_layout.specs.Layouts.{layout_of};
+ghost use Rattle.ch11_layout.specs.Stamps.{counted};
 ghost use Rattle.std.specs.Prelude.{◌≡◌};
 
 use crate::layouts::Layout;
@@ -65,8 +66,8 @@ impl RecordedForm {
     /// The form of a message with this layout.
     #[inline]
     pub(crate) fn in_layout(seen: &Seen<'_>, layout: &Layout) -> RecordedForm
-        requires { layout.now ≡ layout_of (message_of seen.now) }
-        ensures { result ≡ spec.form_of (message_of seen.now) }
+        requires { layout.now ≡ layout_of (counted (message_of seen.now)) }
+        ensures { result ≡ spec.form_of (counted (message_of seen.now)) }
     {
         let first = Command::of(seen.word(0));
         match layout.commands {

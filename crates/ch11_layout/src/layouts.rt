@@ -1,6 +1,7 @@
 //! The words of a recorded message by what they are.
 ghost use Rattle.ch11_f1.specs.Views.{message_of};
 ghost use Rattle.ch11_layout.specs.Layouts as spec;
+ghost use Rattle.ch11_layout.specs.Stamps.{counted};
 ghost use Rattle.mil_word.specs.Fields.{has_bit};
 ghost use Rattle.std.specs.Prelude.{◌≡◌, ◌≤◌, ◌==◌, ◌&&◌, nat_lt, if◌then◌else◌};
 
@@ -38,7 +39,7 @@ impl Layout {
     /// The layout of a message, by its block status word, its gap times word and its first word.
     #[inline]
     pub(crate) fn of(seen: &Seen<'_>) -> Layout
-        ensures value { result ≡ spec.layout_of (message_of seen.now) }
+        ensures value { result ≡ spec.layout_of (counted (message_of seen.now)) }
         ensures commands { result.commands ≤ result.data_start }
         ensures start { result.data_start ≤ result.data_end }
         ensures end { result.data_end ≤ result.words }
@@ -107,7 +108,7 @@ pub fn is_set(word: u16, place: u32) -> bool
 /// The gap of the first reply in ticks of 0.1 µs: 0 where there was none, 255 where it was that or longer.
 #[inline]
 pub(crate) fn first_gap(seen: &Seen<'_>) -> u8
-    ensures { result ≡ spec.first_gap (message_of seen.now) }
+    ensures { result ≡ spec.first_gap (counted (message_of seen.now)) }
 {
     (seen.gaps % 256) as u8
 }
@@ -115,7 +116,7 @@ pub(crate) fn first_gap(seen: &Seen<'_>) -> u8
 /// The gap of the second reply in ticks of 0.1 µs: 0 where there was none, 255 where it was that or longer.
 #[inline]
 pub(crate) fn second_gap(seen: &Seen<'_>) -> u8
-    ensures { result ≡ spec.second_gap (message_of seen.now) }
+    ensures { result ≡ spec.second_gap (counted (message_of seen.now)) }
 {
     (seen.gaps / 256) as u8
 }

@@ -4,6 +4,7 @@ ghost use Rattle.ch11_layout.specs.BlockStatus as block;
 ghost use Rattle.ch11_layout.specs.Forms.{form_of};
 ghost use Rattle.ch11_layout.specs.Layouts as layouts;
 ghost use Rattle.ch11_layout.specs.Replies as spec;
+ghost use Rattle.ch11_layout.specs.Stamps.{has_time, recorded, time_of};
 ghost use Rattle.mil_word.specs.Fields.{most_words};
 ghost use Rattle.std.specs.Prelude.{◌≡◌, ◌≤◌};
 
@@ -13,6 +14,7 @@ use crate::block::{
 };
 use crate::forms::RecordedForm;
 use crate::layouts::{Layout, first_gap, is_set, second_gap};
+use crate::stamps::StampKind;
 use arrayvec::ArrayVec;
 use ch11_f1::Seen;
 use mil_word::{Command, Line};
@@ -29,48 +31,88 @@ pub struct Reply {
     pub gap: u8,
 }
 
-/// A recorded message with what its words are, its form and its replies, worked out once. Contracts see the message.
+/// A recorded message with when it began, what its words are, its form and its replies, worked out once. Contracts see
+/// the message.
 #[derive(Debug, Drop)]
 pub struct View<'a> {
     seen: Seen<'a>,
+    kind: StampKind,
     layout: Layout,
     form: RecordedForm,
 }
 
 impl<'a> Model for View<'a> {
-    ghost use Rattle.ch11_f1.specs.BodyReading.{Message};
     ghost use Rattle.ch11_f1.specs.Views.{message_of};
     ghost use Rattle.ch11_layout.specs.Forms.{form_of};
     ghost use Rattle.ch11_layout.specs.Layouts.{layout_of};
+    ghost use Rattle.ch11_layout.specs.Stamps.{Recorded, recorded};
     ghost use Rattle.std.specs.Prelude.{◌≡◌};
 
-    ghost Value = { Message };
+    ghost Value = { Recorded };
 
-    ghost view = { λ v. message_of v.seen };
+    ghost view = { λ v. recorded v.kind (message_of v.seen) };
 
-    ghost invariant = { λ v. (v.layout ≡ layout_of (message_of v.seen)) × (v.form ≡ form_of (message_of v.seen)) };
+    ghost invariant = { λ v. (v.layout ≡ layout_of (recorded v.kind (message_of v.seen)))
+        × (v.form ≡ form_of (recorded v.kind (message_of v.seen))) };
 }
 
 impl<'a> View<'a> {
-    /// A message as it lies in a body, decoded.
+    /// A message as it lies in a body, decoded; its packet's stamps are of this kind.
     #[inline]
-    pub fn of(seen: &Seen<'a>) -> View<'a>
-        ensures { result ≡ message_of seen.now }
+    pub fn of(kind: StampKind, seen: &Seen<'a>) -> View<'a>
+        ensures { result ≡ recorded kind (message_of seen.now) }
     {
         let layout = Layout::of(seen);
         View {
             seen: *seen,
+            kind,
             layout,
             form: RecordedForm::in_layout(seen, &layout),
         }
     }
 
-    /// When it began: its time stamp as a number, ticks of 0.1 µs.
+    /// Its time stamp, the eight bytes as a number.
+    #[inline]
+    pub fn number(&self) -> u64
+        ensures { result ≡ self.now.number }
+    {
+        self.seen.stamp
+    }
+
+    /// What its time stamp is.
+    #[inline]
+    pub fn kind(&self) -> StampKind
+        ensures { result ≡ self.now.kind }
+    {
+        self.kind
+    }
+
+    /// Its time stamp in ticks of 0.1 µs, of the recorder's counter or behind 1970-01-01T00:00:00; where no time is
+    /// known, the number that it is.
     #[inline]
     pub fn stamp(&self) -> u64
         ensures { result ≡ self.now.stamp }
     {
-        self.seen.stamp
+        self.kind.ticks(self.seen.stamp)
+    }
+
+    /// When it began, in the same ticks; None where no time is known.
+    #[inline]
+    pub fn time(&self) -> Option<u64>
+        ensures { result ≡ time_of self.now }
+    {
+        match self.kind {
+            StampKind::Counter | StampKind::TimeOfDay => Some(self.stamp()),
+            StampKind::Unknown => None,
+        }
+    }
+
+    /// Whether its time is known.
+    #[inline]
+    pub fn has_time(&self) -> bool
+        ensures { result ≡ has_time self.now }
+    {
+        self.time().is_some()
     }
 
     /// Its block status word.
