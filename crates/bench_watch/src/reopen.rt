@@ -17,3 +17,14 @@ pub trait Reopen {
         ensures { (file : List ℕ) → bytes self.now ≡ Some file
             → IfOk result (λ reader. Self.Reader.remaining reader ≡ Some file) };
 }
+
+/// Bytes in memory are read from the first one again.
+impl<'a> Reopen for &'a [u8] {
+    ghost bytes = { λ kept. Some kept.now };
+
+    type Reader = &'a [u8];
+
+    fn reopen(&self) -> io::Result<&'a [u8]> {
+        Ok(*self)
+    }
+}

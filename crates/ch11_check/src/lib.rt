@@ -6,4 +6,4 @@
 
 mod checking;
 
-pub use checking::check_from;
+pub use checking::check;

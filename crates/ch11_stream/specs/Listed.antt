@@ -1,5 +1,5 @@
 -- What a reading keeps of the packets so far.
-use Rattle.std.specs.Prelude.{◌≡◌, ℕ, ◌<◌, List, length, slice_index_or, Option, None}
+use Rattle.std.specs.Prelude.{◌≡◌, ℕ, List, slice_index_or, Option, None}
 use Rattle.ch11_header.specs.declared.header.Header.{Header}
 use Rattle.ch11_reader.specs.Recording.{Found, packet_messages}
 use Rattle.ch11_reader.specs.Contents.{total_in}
@@ -12,5 +12,4 @@ found_at offset h bytes = record { offset = offset; header = h; messages = packe
 -- how many messages there were, and the latest sequence number of each channel; the packets stand newest first
 pub record IsListingTally (latest : List (Option ℕ)) (before : ℕ) (earlier : List Found) : Type 0 where
   pub counted : before ≡ total_in earlier
-  pub table : length latest ≡ 65536
-  pub sequences : (channel : ℕ) → channel < 65536 → slice_index_or latest channel None ≡ latest_sequence channel earlier
+  pub sequences : (channel : ℕ) → slice_index_or latest channel None ≡ latest_sequence channel earlier

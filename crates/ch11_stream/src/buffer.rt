@@ -10,10 +10,10 @@ use std::io;
 use std::io::{ErrorKind, Read};
 use std::marker::Model;
 
-/// How many bytes there is room for at first.
+/// How many bytes there is room for at most, as long as no packet needs more.
 const PIECE: usize = 262_144;
 
-/// How many bytes are asked for behind bytes that were passed unread, of which more may be passed soon.
+/// How many bytes are asked for at first, and behind bytes that were passed unread, of which more may be passed soon.
 const FEW: usize = 4096;
 
 /// Bytes that are ready, and room behind them. Contracts see the bytes, and how many more there is room for.
@@ -109,6 +109,16 @@ fn read_behind<R: Read>(
     judge(read)
 }
 
+/// How many bytes to ask for at most behind a read that gave so many, where there was room for so many: twice as many
+/// where it gave all that it was asked for.
+fn most_behind(most: usize, room: usize, gave: usize) -> usize {
+    if gave < most.min(room) {
+        most
+    } else {
+        most.saturating_mul(2)
+    }
+}
+
 impl Buffer {
     /// No bytes, and no room yet.
     pub(crate) fn none(alloc: Global) -> Buffer
@@ -118,7 +128,7 @@ impl Buffer {
             bytes: Vec::new(alloc),
             start: 0,
             end: 0,
-            most: PIECE,
+            most: FEW,
         }
     }
 
@@ -163,7 +173,8 @@ impl Buffer {
     }
 
     /// Makes room behind the bytes that are ready, as a part of so many in all. There is room for twice as many bytes
-    /// as were ready before at most, so that no more is asked for than the reader has shown to have.
+    /// as before at most, and for more than before only where the reader gave all that it was asked for, or the part
+    /// needs it: so no more is asked for than the reader has shown to have.
     pub(crate) fn make_room(&mut self, size: usize) -> Result<(), AllocError>
         requires { length self.old.ready < size }
         ensures ready { self.new.ready ≡ self.old.ready }
@@ -171,8 +182,8 @@ impl Buffer {
     {
         self.settle(size);
         let len = self.bytes.len();
-        if self.end == len {
-            grow(&mut self.bytes, self.end, len.max(PIECE))?;
+        if self.end == len || len < self.most.min(PIECE) {
+            grow(&mut self.bytes, self.end, len.max(FEW))?;
         }
         Ok(())
     }
@@ -185,13 +196,14 @@ impl Buffer {
             (AreMoreReady (R.remaining input.old) (R.remaining input.new) self.old.ready self.new.ready) }
         ensures failed { IfErr result IsOther }
     {
+        let room = self.bytes.len() - self.end;
         let gave = read_behind(input, self.bytes.as_mut_slice(), self.end, self.most)?;
         self.end += gave.count;
-        self.most = self.most.saturating_mul(2);
+        self.most = most_behind(self.most, room, gave.count);
         Ok(gave.more)
     }
 
-    /// Has the next read ask for few bytes, and each behind it for up to twice as many as the one before.
+    /// Has the next read ask for few bytes, and each behind one that gives all of them for up to twice as many.
     pub(crate) fn read_few(&mut self)
         ensures { self.new ≡ self.old }
     {

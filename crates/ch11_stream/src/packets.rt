@@ -15,8 +15,9 @@ use std::marker::Model;
 
 /// The packets of a recording that a reader gives, one after the other, in the file's order. Of a packet of
 /// MIL-STD-1553 messages and of a time packet its bytes are kept until the next one is read; packets of other data
-/// types are passed, unread where they are long and the reader can. The reader is asked for at most as many bytes as
-/// there is room for: 262,144 at first, and up to twice the largest packet of these two types.
+/// types are passed, unread where they are long and the reader can. The reader is asked for at most 4096 bytes at
+/// first, for up to 262,144 as long as it gives all that it is asked for, and for up to twice the largest packet of
+/// these two types.
 #[derive(Drop)]
 pub struct Packets<R: Advance> {
     input: R,
@@ -55,7 +56,7 @@ fn kept_of(header: Header) -> Option<Header>
 }
 
 impl<R: Advance> Packets<R> {
-    /// The packets that a reader will give, from the start of a file. It has a place for each channel, 128 KiB in all.
+    /// The packets that a reader will give, from the start of a file. Little memory is taken before the first is read.
     pub fn over(alloc: Global, input: R) -> Result<Packets<R>, AllocError>
     where
         R: Drop,
@@ -79,7 +80,7 @@ impl<R: Advance> Packets<R> {
         match take_next(&mut self.at.buffer, &mut self.input, held, self.at.offset) {
             Ok(Some(checked)) => {
                 let last = kept_of(checked.header);
-                Ok(Some(self.at.enter(checked, last)))
+                Ok(Some(self.at.enter(checked, last)?))
             }
             Ok(None) => Ok(None),
             Err(fault) => {

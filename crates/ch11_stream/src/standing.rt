@@ -6,7 +6,8 @@ ghost use Rattle.ch11_reader.specs.Listing.{listed_behind};
 ghost use Rattle.ch11_reader.specs.Recording.{packet_messages};
 ghost use Rattle.ch11_stream.specs.Holding.{given_of, held_of};
 ghost use Rattle.ch11_stream.specs.Listed.{found_at};
-ghost use Rattle.std.specs.Prelude.{◌≡◌, ◌+◌, ◌<◌, ◌≤◌, ◌^◌, [], ◌∷◌, length, take, None, Some, IfOk};
+ghost use Rattle.ch11_stream.specs.declared.fault.StreamFault.TheVariants.{Memory};
+ghost use Rattle.std.specs.Prelude.{◌≡◌, ◌+◌, ◌<◌, ◌≤◌, ◌^◌, [], ◌∷◌, length, take, None, Some, IfOk, IfErr, OnOk};
 
 use crate::buffer::Buffer;
 use crate::fault::StreamFault;
@@ -36,7 +37,7 @@ pub(crate) struct Standing {
 }
 
 impl Standing {
-    /// At the start of a file. It has a place for each channel, 128 KiB in all.
+    /// At the start of a file.
     pub(crate) fn at_start(alloc: Global) -> Result<Standing, AllocError>
         ensures ready { IfOk result (λ s. s.buffer.ready ≡ []) }
         ensures listed { IfOk result (λ s. s.listed ≡ []) }
@@ -55,23 +56,35 @@ impl Standing {
     }
 
     /// Enters the packet that was taken, which becomes the last one under this header, if its bytes are ready. Answers
-    /// what there is to tell of it.
-    pub(crate) fn enter(&mut self, checked: Checked, last: Option<Header>) -> Packet
+    /// what there is to tell of it; want of memory is what is answered from then on.
+    pub(crate) fn enter(
+        &mut self,
+        checked: Checked,
+        last: Option<Header>,
+    ) -> Result<Packet, StreamFault>
         requires count { checked.count ≡ length (packet_messages checked.header self.old.buffer.ready) }
         requires few { total_in self.old.listed + checked.count < 2 ^ 64 }
         requires offset { self.old.offset + checked.header.packet_length < 2 ^ 64 }
-        ensures listed { result
-            ≡ listed_behind self.old.listed (found_at self.old.offset checked.header self.old.buffer.ready) }
-        ensures entered { self.new ≡ record self.old {
+        ensures listed { IfOk result (λ packet. packet
+            ≡ listed_behind self.old.listed (found_at self.old.offset checked.header self.old.buffer.ready)) }
+        ensures entered { OnOk result (self.new ≡ record self.old {
           listed = found_at self.old.offset checked.header self.old.buffer.ready ∷ self.old.listed;
           last = last;
           offset = self.old.offset + checked.header.packet_length;
-        } }
+        }) }
+        ensures failed { IfErr result (λ e. (e ≡ Memory) × (self.new ≡ record self.old { fault = Some Memory })) }
     {
-        let packet = self.listed.enter(self.offset, checked, &self.buffer);
-        self.offset += checked.header.packet_length as usize;
-        self.last = last;
-        packet
+        match self.listed.enter(self.offset, checked, &self.buffer) {
+            Ok(packet) => {
+                self.offset += checked.header.packet_length as usize;
+                self.last = last;
+                Ok(packet)
+            }
+            Err(_) => {
+                self.fault = Some(StreamFault::Memory);
+                Err(StreamFault::Memory)
+            }
+        }
     }
 
     /// How many of the bytes that are ready are the last packet's.

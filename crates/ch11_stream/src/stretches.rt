@@ -9,6 +9,7 @@ use crate::fault::StreamFault;
 use crate::looking::{Coming, look, pass_skip};
 use crate::standing::Standing;
 use crate::stretch::Stretch;
+use crate::taking::is_kept_by;
 use ch11_f1::Messages;
 use ch11_reader::{Checked, Skip};
 use std::alloc::{AllocError, Global};
@@ -85,8 +86,8 @@ fn take_stretch<R: Read>(
 }
 
 impl<R: Read> Stretches<R> {
-    /// The stretches of what a reader will give, from the start of a file. It has a place for each channel, 128 KiB in
-    /// all.
+    /// The stretches of what a reader will give, from the start of a file. Little memory is taken before the first is
+    /// read.
     pub fn over(alloc: Global, input: R) -> Result<Stretches<R>, AllocError>
     where
         R: Drop,
@@ -109,7 +110,7 @@ impl<R: Read> Stretches<R> {
         self.at.last = None;
         match take_stretch(&mut self.at.buffer, &mut self.input, self.at.offset) {
             Ok(Taken::Sound(checked)) => {
-                let packet = self.at.enter(checked, Some(checked.header));
+                let packet = self.at.enter(checked, Some(checked.header))?;
                 Ok(Some(Stretch::Sound(packet)))
             }
             Ok(Taken::Skipped(skip)) => {
@@ -130,6 +131,21 @@ impl<R: Read> Stretches<R> {
         ensures { result ≡ self.now.given }
     {
         self.at.messages()
+    }
+
+    /// The bytes of the packet that was read last, where it is of messages or a time packet; none where it is of
+    /// another data type, and where the last stretch is no packet.
+    pub fn bytes(&self) -> &[u8]
+        ensures { result.now ≡ self.now.kept }
+    {
+        let Some(header) = &self.at.last else {
+            return &[];
+        };
+        if is_kept_by(header) {
+            self.at.bytes()
+        } else {
+            &[]
+        }
     }
 
     /// All bytes of the packet that was read last; none where the last stretch is no packet.

@@ -1,6 +1,6 @@
 use Rattle.ch11_stream.proofs.Folding.{all_found, not_found}
 use Rattle.ch11_stream.proofs.Readings.{amid_on, amid_start}
-use Rattle.ch11_check.proofs.checking.check_from.Goals as goal
+use Rattle.ch11_check.proofs.checking.check.Goals as goal
 
 pub packets-init : goal.packets-init
 packets-init g c = λ file is. rw (c.in_ok-packets.ensures, is) (amid_start file)

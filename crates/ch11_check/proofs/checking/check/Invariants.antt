@@ -1,6 +1,6 @@
 use Rattle.std.proofs.Common.{◌≡◌, ℕ, List, Some}
 use Rattle.ch11_stream.proofs.Readings.{IsAmid}
-use Rattle.ch11_check.proofs.checking.check_from.Given as goal
+use Rattle.ch11_check.proofs.checking.check.Given as goal
 
 -- the packets so far are those of the file
 abbrev pub invariant-packets : goal.invariant-packets
