@@ -10,7 +10,7 @@ use Rattle.ch11_reader.specs.Recording as recording
 use Rattle.bench_clock.specs.declared.told.PacketTime.{PacketTime}
 use Rattle.bench_clock.specs.declared.told.PacketTime.TheVariants.{Utc, OfYear}
 use Rattle.bench_clock.specs.TimeBody.{body_of, year_body, year_seconds, second_below, second_of, year_second_of, settled, hundredths_in, ticks_of, utc_in, is_leap, year_time_in, packet_time}
-use Rattle.bench_clock.specs.Clock.{body_in, told_by, told_in, is_above, mark_of, last_behind, marks_behind, marks_in}
+use Rattle.bench_clock.specs.Clock.{body_in, is_time, told_by, told_in, is_above, mark_of, last_behind, marks_behind, marks_of}
 use Rattle.bench_clock.specs.Rising.{IsRising, IsWithin}
 
 picked : (n t : ℕ) (rest : Option ℕ) (same : Bool) → (rest ≡ Some t → t < n) → cond same (Some n) rest ≡ Some t → t < suc n
@@ -72,15 +72,15 @@ told_if : (body : List ℕ) (t : PacketTime) (kind : Bool) → cond kind (packet
 told_if body t true is = packet_within body t is
 told_if body t false is = absurd (cc)
 
-told_within : (file : List ℕ) (e : Packet) (t : PacketTime) → told_by file e ≡ Some t → IsWithin t
-told_within file e t is = told_if (body_in file e) t (eqb e.header.kind 0x11) is
+told_within : (named : Option ℕ) (file : List ℕ) (e : Packet) (t : PacketTime) → told_by named file e ≡ Some t → IsWithin t
+told_within named file e t is = told_if (body_in file e) t (is_time named e.header) is
 
 -- what a time packet tells
-pub told_time : (h : Header) (bytes : List ℕ) (t : Option PacketTime) → h.kind ≡ 0x11 → t ≡ packet_time (recording.body_of h bytes) → t ≡ told_in h bytes
-told_time h bytes t kind is = is ∙ ap (λ (b : Bool). cond b (packet_time (recording.body_of h bytes)) None) (sym (ap (λ (k : ℕ). eqb k 0x11) kind))
+pub told_time : (named : Option ℕ) (h : Header) (bytes : List ℕ) (t : Option PacketTime) → is_time named h ≡ true → t ≡ packet_time (recording.body_of h bytes) → t ≡ told_in named h bytes
+told_time named h bytes t kind is = is ∙ ap (λ (b : Bool). cond b (packet_time (recording.body_of h bytes)) None) (sym kind)
 
-pub told_in_within : (h : Header) (bytes : List ℕ) (t : PacketTime) → told_in h bytes ≡ Some t → IsWithin t
-told_in_within h bytes t is = told_if (recording.body_of h bytes) t (eqb h.kind 0x11) is
+pub told_in_within : (named : Option ℕ) (h : Header) (bytes : List ℕ) (t : PacketTime) → told_in named h bytes ≡ Some t → IsWithin t
+told_in_within named h bytes t is = told_if (recording.body_of h bytes) t (is_time named h) is
 
 -- marks rise behind a last counter, and their times are within their years
 abbrev pub Rises : Option ℕ → List Mark → Type 0
@@ -98,11 +98,11 @@ pub mark_rises : (last : Option ℕ) (counter : ℕ) (told : Option PacketTime) 
 mark_rises last counter None rest small r = r
 mark_rises last counter (Some t) rest small r = mark_rises_if last counter t rest (is_above last counter) (small t refl) refl r
 
-pub rises : (file : List ℕ) (last : Option ℕ) (es : List Packet) → Rises last (marks_behind file last es)
-rises file last [] = tt
-rises file last (e ∷ es) =
-    let l = last_behind last e.header.counter (told_by file e) in
-    mark_rises last e.header.counter (told_by file e) (marks_behind file l es) (told_within file e) (rises file l es)
+pub rises : (named : Option ℕ) (file : List ℕ) (last : Option ℕ) (es : List Packet) → Rises last (marks_behind named file last es)
+rises named file last [] = tt
+rises named file last (e ∷ es) =
+    let l = last_behind last e.header.counter (told_by named file e) in
+    mark_rises last e.header.counter (told_by named file e) (marks_behind named file l es) (told_within named file e) (rises named file l es)
 
 above_last : (last : ℕ) (ms : List Mark) → Rises (Some last) ms → (j : ℕ) (b : Mark) → slice_get ms j ≡ Some b → last ≤ b.counter
 above_last last [] r j b is = absurd (cc)
@@ -134,5 +134,5 @@ pub all_rise : (ms : List Mark) → Rises None ms → IsRising ms
 all_rise ms r = record { order = in_order None ms r; times = in_years None ms r }
 
 -- what a clock keeps of the marks of a recording
-pub rising : (file : List ℕ) (es : List Packet) → IsRising (marks_in file es)
-rising file es = all_rise (marks_in file es) (rises file None es)
+pub rising : (named : Option ℕ) (file : List ℕ) (es : List Packet) → IsRising (marks_of named file es)
+rising named file es = all_rise (marks_of named file es) (rises named file None es)

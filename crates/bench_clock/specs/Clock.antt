@@ -4,6 +4,8 @@ use Rattle.std.specs.Prelude.{List, [], ◌∷◌, ◌++◌, take, drop, Option,
 use Rattle.ch11_header.specs.declared.header.Header.{Header}
 use Rattle.ch11_header.specs.HeaderReading.{body_start}
 use Rattle.ch11_header.specs.Kinds.{time_data}
+use Rattle.ch11_layout.specs.declared.stamps.StampKind.{StampKind}
+use Rattle.ch11_layout.specs.declared.stamps.StampKind.TheVariants.{Counter, TimeOfDay, Unknown}
 use Rattle.ch11_reader.specs.declared.packet.Packet.{Packet}
 use Rattle.ch11_reader.specs.Recording.{body_of}
 use Rattle.bench_clock.specs.declared.clock.Mark.{Mark}
@@ -16,13 +18,22 @@ use Rattle.bench_clock.specs.Time.{Time, in_utc, in_year}
 abbrev pub body_in : List ℕ → Packet → List ℕ
 body_in file e = take e.header.data_length (drop (e.offset + body_start e.header) file)
 
--- the time that a packet tells, which begins these bytes: it is a time packet (type 11), and its body that of a time
-abbrev pub told_in : Header → List ℕ → Option PacketTime
-told_in h bytes = if h.kind == time_data then packet_time (body_of h bytes) else None
+-- a packet is of the channel whose time packets count; where none is named all count
+abbrev pub is_of : Option ℕ → Header → Bool
+is_of None h = true
+is_of (Some channel) h = h.channel == channel
 
--- the time that a packet of a file tells: it is a time packet (type 11), and its body that of a time
-abbrev pub told_by : List ℕ → Packet → Option PacketTime
-told_by file e = if e.header.kind == time_data then packet_time (body_in file e) else None
+-- a time packet (type 11) of it
+abbrev pub is_time : Option ℕ → Header → Bool
+is_time named h = h.kind == time_data && is_of named h
+
+-- the time that a packet tells, which begins these bytes: it is a time packet, and its body that of a time
+abbrev pub told_in : Option ℕ → Header → List ℕ → Option PacketTime
+told_in named h bytes = if is_time named h then packet_time (body_of h bytes) else None
+
+-- the time that a packet of a file tells
+abbrev pub told_by : Option ℕ → List ℕ → Packet → Option PacketTime
+told_by named file e = if is_time named e.header then packet_time (body_in file e) else None
 
 -- a counter is above the last one
 abbrev pub is_above : Option ℕ → ℕ → Bool
@@ -41,27 +52,35 @@ last_behind last counter (Some time) = if is_above last counter then Some counte
 
 -- the time packets that count, of either form, in the order of the file: each whose counter is above those of all that
 -- count before it
-abbrev pub marks_behind : List ℕ → Option ℕ → List Packet → List Mark
-marks_behind file last [] = []
-marks_behind file last (e ∷ es) = mark_of last e.header.counter (told_by file e)
-    ++ marks_behind file (last_behind last e.header.counter (told_by file e)) es
+abbrev pub marks_behind : Option ℕ → List ℕ → Option ℕ → List Packet → List Mark
+marks_behind named file last [] = []
+marks_behind named file last (e ∷ es) = mark_of last e.header.counter (told_by named file e)
+    ++ marks_behind named file (last_behind last e.header.counter (told_by named file e)) es
 
+-- those of one channel, where one is named
+abbrev pub marks_of : Option ℕ → List ℕ → List Packet → List Mark
+marks_of named file es = marks_behind named file None es
+
+-- those of all channels
 abbrev pub marks_in : List ℕ → List Packet → List Mark
-marks_in file es = marks_behind file None es
+marks_in file es = marks_of None file es
 
 -- there is none of them, so that no stamp has a time of day
 abbrev pub is_unset : List Mark → Bool
 is_unset [] = true
 is_unset (m ∷ ms) = false
 
--- there are packets of type 11
-abbrev pub has_time_packets : List Packet → Bool
-has_time_packets [] = false
-has_time_packets (e ∷ es) = e.header.kind == time_data || has_time_packets es
+-- there are such packets
+abbrev pub has_time_packets : Option ℕ → List Packet → Bool
+has_time_packets named [] = false
+has_time_packets named (e ∷ es) = is_time named e.header || has_time_packets named es
 
--- there are packets of type 11, and none tells a time
+-- there are such packets, and none tells a time
+abbrev pub is_unread_of : Option ℕ → List ℕ → List Packet → Bool
+is_unread_of named file es = has_time_packets named es && is_unset (marks_of named file es)
+
 abbrev pub is_unread : List ℕ → List Packet → Bool
-is_unread file es = has_time_packets es && is_unset (marks_in file es)
+is_unread file es = is_unread_of None file es
 
 abbrev pub or_else : Option Mark → Option Mark → Option Mark
 or_else None other = other
@@ -90,3 +109,9 @@ time_by (Some m) stamp = time_behind m.time (stamp - m.counter)
 -- the time of day at a stamp; none in front of the first mark
 abbrev pub time_at : List Mark → ℕ → Option Time
 time_at ms stamp = time_by (ruling stamp ms) stamp
+
+-- the time of day of a stamp in ticks: one that is a time of day is it itself
+abbrev pub time_of_stamp : List Mark → StampKind → ℕ → Option Time
+time_of_stamp ms Counter ticks = time_at ms ticks
+time_of_stamp ms TimeOfDay ticks = option_map (λ t. in_utc t) (within_years ticks)
+time_of_stamp ms Unknown ticks = None

@@ -4,3 +4,4 @@ pub mod Clock
 pub mod Rising
 pub mod Time
 pub mod TimeText
+pub mod Sound

@@ -3,18 +3,21 @@ ghost use Rattle.bench_clock.specs.Clock as spec;
 ghost use Rattle.bench_clock.specs.Rising.{IsRising};
 ghost use Rattle.bench_clock.specs.Time.{time_of};
 ghost use Rattle.ch11_reader.specs.Listing.{listing};
+ghost use Rattle.ch11_reader.specs.Skipping.{packets_read};
+ghost use Rattle.ch11_stream.specs.Feeding.{IsOther};
 ghost use Rattle.ch11_stream.specs.Folding.{FoldsPackets};
-ghost use Rattle.std.specs.Prelude.{◌≡◌, ◌&&◌, ℕ, List, Some, IfOk, option_map};
+ghost use Rattle.std.specs.Prelude.{◌≡◌, ◌&&◌, ℕ, [], List, Some, false, IfOk, IfErr, option_map};
 
-use crate::marks::{has_time_packets, marks_of};
-use crate::passing::time_behind;
+use crate::passing::{time_behind, utc_at};
 use crate::ruling::place_of;
-use crate::streaming::{TimePackets, marks_from};
+use crate::sound::read_sound_marks;
+use crate::streaming::{TimePackets, read_marks};
 use crate::time::TimeOfDay;
 use crate::told::PacketTime;
-use ch11_reader::Packet;
+use ch11_layout::StampKind;
 use ch11_stream::{Advance, StreamFault};
-use std::alloc::{AllocError, Global};
+use std::alloc::Global;
+use std::io::Read;
 use std::marker::Model;
 
 /// A time packet that counts: its relative time counter in ticks of 0.1 µs, and the time at it.
@@ -51,15 +54,13 @@ pub struct ReadClock {
 }
 
 impl Clock {
-    /// The clock of a recording: its bytes, and its packets as an index has them (`index.packets()`). Time packets are
-    /// packets of type 11 with a body that `read_time` reads; one whose counter is not above those of all before it
-    /// does not count.
-    pub fn of(alloc: Global, file: &[u8], packets: &[Packet]) -> Result<Clock, AllocError>
-        ensures { IfOk result (λ c. c ≡ spec.marks_in file.now packets.now) }
+    /// The clock of a recording without time packets, by which no stamp has a time of day.
+    pub fn unset(alloc: Global) -> Clock
+        ensures { result ≡ [] }
     {
-        Ok(Clock {
-            marks: marks_of(alloc, file, packets)?,
-        })
+        Clock {
+            marks: Vec::new(alloc),
+        }
     }
 
     /// Whether there is no time packet that counts, so that no stamp has a time of day.
@@ -83,17 +84,30 @@ impl Clock {
         let passed = stamp - mark.counter;
         time_behind(mark.time, passed)
     }
+
+    /// The time of day of a stamp of this kind in ticks of 0.1 µs: that at a counter's, and one that is a time of day
+    /// itself, UTC as it stands. None for a kind that is not known.
+    pub fn of_stamp(&self, kind: StampKind, ticks: u64) -> Option<TimeOfDay>
+        ensures { option_map (λ t. time_of t) result ≡ spec.time_of_stamp self.now kind ticks }
+    {
+        match kind {
+            StampKind::Counter => self.at(ticks),
+            StampKind::TimeOfDay => utc_at(ticks),
+            StampKind::Unknown => None,
+        }
+    }
 }
 
 impl ReadClock {
-    /// The clock that `Clock::of` makes, and whether there are time packets and none of them can be read.
-    pub fn of(alloc: Global, file: &[u8], packets: &[Packet]) -> Result<ReadClock, AllocError>
-        ensures clock { IfOk result (λ r. r.clock ≡ spec.marks_in file.now packets.now) }
-        ensures unread { IfOk result (λ r. r.unread ≡ spec.is_unread file.now packets.now) }
+    /// That of a recording without time packets.
+    pub fn unset(alloc: Global) -> ReadClock
+        ensures clock { result.clock ≡ [] }
+        ensures unread { result.unread ≡ false }
     {
-        let clock = Clock::of(alloc, file, packets)?;
-        let unread = both(has_time_packets(packets), clock.is_empty());
-        Ok(ReadClock { clock, unread })
+        ReadClock {
+            clock: Clock::unset(alloc),
+            unread: false,
+        }
     }
 }
 
@@ -116,15 +130,37 @@ fn read_of(found: TimePackets) -> ReadClock
     ReadClock { clock, unread }
 }
 
-/// What `ReadClock::of` tells of all bytes that a reader has left, in one pass over their packets, in memory for the
-/// largest packet of messages or of time, and 24 bytes for each time packet that counts. A recording that can't be
-/// read is refused with its first fault, K1 to K5, N2 or F1 to F3; want of memory and the reader's failure are the
-/// others.
-pub fn clock_from<R: Advance + Drop>(alloc: Global, input: R) -> Result<ReadClock, StreamFault>
+/// The clock of all bytes that a reader has left, in one pass over their packets, in memory for the largest packet of
+/// messages or of time, and 24 bytes for each time packet that counts. Time packets are packets of type 11, where a
+/// channel is named of that channel alone, with a body that `read_time` reads; one whose counter is not above those of
+/// all before it does not count. A recording that can't be read is refused with its first fault, K1 to K5, N2 or F1 to
+/// F3; want of memory and the reader's failure are the others.
+pub fn read_clock<R: Advance + Drop>(
+    alloc: Global,
+    input: R,
+    named: Option<u16>,
+) -> Result<ReadClock, StreamFault>
     ensures clock { (file : List ℕ) → R.remaining input ≡ Some file
-        → FoldsPackets (λ ps r. r.clock ≡ spec.marks_in file (listing ps)) result file }
+        → FoldsPackets (λ ps r. r.clock ≡ spec.marks_of named file (listing ps)) result file }
     ensures unread { (file : List ℕ) → R.remaining input ≡ Some file
-        → FoldsPackets (λ ps r. r.unread ≡ spec.is_unread file (listing ps)) result file }
+        → FoldsPackets (λ ps r. r.unread ≡ spec.is_unread_of named file (listing ps)) result file }
 {
-    Ok(read_of(marks_from(alloc, input)?))
+    Ok(read_of(read_marks(alloc, input, named)?))
+}
+
+/// The clock of what is sound of all bytes that a reader has left, where a channel is named of its time packets alone,
+/// in one pass over their stretches, in memory for the largest packet of any type, and 24 bytes for each time packet
+/// that counts. Nothing is refused: a fault is want of memory, or the reader's failure.
+pub fn read_sound_clock<R: Read + Drop>(
+    alloc: Global,
+    input: R,
+    named: Option<u16>,
+) -> Result<ReadClock, StreamFault>
+    ensures clock { (file : List ℕ) → R.remaining input ≡ Some file
+        → IfOk result (λ r. r.clock ≡ spec.marks_of named file (listing (packets_read file))) }
+    ensures unread { (file : List ℕ) → R.remaining input ≡ Some file
+        → IfOk result (λ r. r.unread ≡ spec.is_unread_of named file (listing (packets_read file))) }
+    ensures failed { IfErr result IsOther }
+{
+    Ok(read_of(read_sound_marks(alloc, input, named)?))
 }

@@ -1,8 +1,7 @@
-//! Times of day of a recording: the bodies of time packets, written and read, and the time of day at a stamp, also
-//! as packets come.
+//! Times of day of a recording: the bodies of time packets, written and read, and the time of day at a stamp.
 //!
-//! It may know: headers, the reader, the packets of a stream; the kit's `jiff_core` for dates. Its tests:
-//! `ch11_tests`, and those of `clock_from` `ch11_stream_tests`. Its wrong bodies: `edits/`.
+//! It may know: headers, layouts, the reader, the packets of a stream; the kit's `jiff_core` for dates. Its tests:
+//! `ch11_tests`, and those of `read_clock` `ch11_stream_tests`. Its wrong bodies: `edits/`.
 #![tactic(auto)]
 
 mod bcd;
@@ -13,6 +12,7 @@ mod marks;
 mod passing;
 mod reading;
 mod ruling;
+mod sound;
 mod streaming;
 mod time;
 mod told;
@@ -21,7 +21,7 @@ mod year_reading;
 mod year_text;
 
 pub use body::body_of;
-pub use clock::{Clock, Mark, ReadClock, clock_from};
+pub use clock::{Clock, Mark, ReadClock, read_clock, read_sound_clock};
 pub use day_text::TimeText;
 pub use time::{TimeOfDay, UtcTime, YearTime};
 pub use told::{PacketTime, is_time_body, read_time};

@@ -8,7 +8,6 @@ use crate::clock::Mark;
 use crate::told::{PacketTime, read_time};
 use ch11_header::Header;
 use ch11_header::kinds::TIME_DATA;
-use ch11_reader::Packet;
 use std::alloc::{AllocError, Global};
 
 /// The body of the packet that has this header and begins these bytes.
@@ -20,23 +19,32 @@ fn body_in<'a>(header: &Header, bytes: &'a [u8]) -> &'a [u8]
     &behind[..size]
 }
 
-/// The time that the packet tells that has this header and begins these bytes; None for a packet that is no time
-/// packet, or one that can't be read.
-pub(crate) fn told_in(header: &Header, bytes: &[u8]) -> Option<PacketTime>
-    ensures { result ≡ spec.told_in header.now bytes.now }
+/// Whether a packet is of the channel whose time packets count; each is where none is named.
+fn is_of(named: Option<u16>, header: &Header) -> bool
+    ensures { result ≡ spec.is_of named header.now }
 {
-    if header.kind != TIME_DATA {
+    match named {
+        None => true,
+        Some(channel) => header.channel == channel,
+    }
+}
+
+/// Whether it is a time packet of that channel.
+pub(crate) fn is_time(named: Option<u16>, header: &Header) -> bool
+    ensures { result ≡ spec.is_time named header.now }
+{
+    header.kind == TIME_DATA && is_of(named, header)
+}
+
+/// The time that the packet tells that has this header and begins these bytes; None for a packet that is no time packet
+/// of the channel that is named, or one that can't be read.
+pub(crate) fn told_in(named: Option<u16>, header: &Header, bytes: &[u8]) -> Option<PacketTime>
+    ensures { result ≡ spec.told_in named header.now bytes.now }
+{
+    if !is_time(named, header) {
         return None;
     }
     read_time(body_in(header, bytes))
-}
-
-/// The time that a packet of a file tells.
-fn told_by(file: &[u8], packet: &Packet) -> Option<PacketTime>
-    ensures { result ≡ spec.told_by file.now packet.now }
-{
-    let behind = file.get(packet.offset..).unwrap_or(&[]);
-    told_in(&packet.header, behind)
 }
 
 /// Appends the mark of a packet, if it is above the last one, and answers the last counter behind it.
@@ -57,37 +65,4 @@ pub(crate) fn keep(
     }
     marks.push(Mark { counter, time })?;
     Ok(Some(counter))
-}
-
-/// The marks of a recording.
-pub(crate) fn marks_of(
-    alloc: Global,
-    file: &[u8],
-    packets: &[Packet],
-) -> Result<Vec<Mark>, AllocError>
-    ensures { IfOk result (λ ms. ms.items ≡ spec.marks_in file.now packets.now) }
-{
-    let mut marks = Vec::new(alloc);
-    let mut last = None;
-    'packets: for packet in packets {
-        last = keep(
-            &mut marks,
-            last,
-            packet.header.counter,
-            told_by(file, packet),
-        )?;
-    }
-    Ok(marks)
-}
-
-/// Whether there are packets of type 11.
-pub(crate) fn has_time_packets(packets: &[Packet]) -> bool
-    ensures { result ≡ spec.has_time_packets packets.now }
-{
-    'packets: for packet in packets {
-        if packet.header.kind == TIME_DATA {
-            return true;
-        }
-    }
-    false
 }

@@ -1,7 +1,7 @@
 //! What has passed since a time packet.
 ghost use Rattle.bench_clock.specs.Clock as spec;
 ghost use Rattle.bench_clock.specs.Rising.{IsWithin};
-ghost use Rattle.bench_clock.specs.Time.{time_of};
+ghost use Rattle.bench_clock.specs.Time.{in_utc, time_of};
 ghost use Rattle.bench_clock.specs.TimeBody.{year_seconds};
 ghost use Rattle.std.specs.Prelude.{◌≡◌, ◌+◌, ◌*◌, ◌%◌, ◌<◌, IfSome, option_map};
 
@@ -24,6 +24,17 @@ fn utc_behind(start: u64, passed: u64) -> Option<u64>
 {
     let ticks = start.saturating_add(passed);
     if ticks < END { Some(ticks) } else { None }
+}
+
+/// The UTC time so many ticks behind 1970-01-01T00:00:00; none behind the year 9999.
+pub(crate) fn utc_at(ticks: u64) -> Option<TimeOfDay>
+    ensures { option_map (λ t. time_of t) result ≡ option_map (λ t. in_utc t) (spec.within_years ticks) }
+{
+    if ticks < END {
+        Some(TimeOfDay::Utc(UtcTime { ticks }))
+    } else {
+        None
+    }
 }
 
 /// The time of a year of 365 days so many ticks behind another: behind its last day comes the first again.

@@ -2,3 +2,5 @@ pub mod Bounds
 pub mod Channels
 pub mod Selecting
 pub mod Selectors
+pub mod Stamps
+pub mod Viewed

@@ -2,7 +2,7 @@
 -- A message without words has no command.
 use Rattle.std.specs.Prelude.{ℕ, ◌==◌, Bool, true, false, not, ◌&&◌, if◌then◌else◌, Option, Some, None}
 use Rattle.mil_word.specs.Fields.{address_of, sub_of, code_of, is_broadcast, is_transmit, is_mode, is_receive}
-use Rattle.ch11_f1.specs.BodyReading.{Message}
+use Rattle.ch11_layout.specs.Stamps.{Recorded}
 use Rattle.ch11_layout.specs.BlockStatus.{is_on_line_b}
 use Rattle.ch11_layout.specs.Layouts.{word_of, first_word, commands_in}
 use Rattle.mil_word.specs.declared.Line.{Line}
@@ -53,14 +53,14 @@ selects_two (BetweenAll sender sender_subaddress receiver_subaddress) first seco
     && transmits sender_subaddress second
 selects_two _ first second = false
 
-abbrev pub second_word : Message → ℕ
+abbrev pub second_word : Recorded → ℕ
 second_word m = word_of m.bytes 1
 
 abbrev pub is_any : Selector → Bool
 is_any Any = true
 is_any _ = false
 
-abbrev pub selects_commands : Selector → Message → Bool
+abbrev pub selects_commands : Selector → Recorded → Bool
 selects_commands selector m =
     if commands_in m == 0 then is_any selector
     else if commands_in m == 1 then selects_one selector (first_word m)

@@ -1,16 +1,18 @@
 //! One way to choose messages of a recording, for all commands that look at one: by channel, line, the selector of
-//! a rule, errors, number and time; and a mark for each channel.
+//! a rule, errors, number and time; what its time stamps are, channel by channel; and a mark for each channel.
 //!
-//! It may know: words, bodies, layouts, rules, numbers and words of a text. Its tests: `command_tests`. Its wrong
-//! bodies: `edits/`.
+//! It may know: words, headers, bodies, layouts, the reader, the packets of a stream, rules, numbers and words of a
+//! text. Its tests: `command_tests`. Its wrong bodies: `edits/`.
 #![tactic(auto)]
 
 mod bounds;
 mod channels;
 mod selection;
 mod selectors;
+mod stamps;
 
 pub use bounds::{Bound, read_bound};
 pub use channels::{CHANNELS, mark_channel, no_channels};
 pub use selection::Selection;
 pub use selectors::{is_of, is_on, selects_commands};
+pub use stamps::{Stamps, read_stamps};

@@ -1,16 +1,16 @@
 //! A selection of messages.
 ghost use Rattle.bench_select.specs.Selecting as spec;
-ghost use Rattle.std.specs.Prelude.{◌≡◌};
+ghost use Rattle.std.specs.Prelude.{◌≡◌, ◌+◌, true};
 
 use crate::bounds::Bound;
 use crate::selectors::{is_of, is_on, selects_commands};
-use ch11_layout::View;
+use ch11_layout::{StampKind, View};
 use judge_rules::Selector;
 use mil_word::Line;
 
 /// Which messages of a recording are chosen: those that meet all that is said here.
-#[derive(Clone, Copy, Debug, PartialEq, Eq)]
-pub struct Selection {
+#[derive(Clone, Copy, Debug)]
+pub struct Selection<'o> {
     /// Of this channel, 1 to 65,535; `None` for all.
     pub channel: Option<u16>,
     /// On this line of the bus; `None` for both.
@@ -23,12 +23,15 @@ pub struct Selection {
     pub from: Option<Bound>,
     /// Up to this one, which is chosen too.
     pub to: Option<Bound>,
+    /// The first time of day of each channel whose stamps are times of day, as `read_stamps` finds them: times count
+    /// from there, and from tick 0 in a channel without one.
+    pub origins: &'o [Option<u64>],
 }
 
-impl Selection {
+impl Selection<'_> {
     /// All messages.
-    pub fn all() -> Selection
-        ensures { result ≡ spec.all }
+    pub fn all() -> Selection<'static>
+        ensures { spec.is_all result ≡ true }
     {
         Selection {
             channel: None,
@@ -37,41 +40,126 @@ impl Selection {
             errors: false,
             from: None,
             to: None,
+            origins: &[],
         }
     }
 
-    /// Whether the message of this number of the file, counted from 1, on this channel, is chosen.
+    /// The same selection, whose times count from these times of day, one for each channel.
+    pub fn counting_from<'p>(&self, origins: &'p [Option<u64>]) -> Selection<'p>
+        ensures { spec.IsCountedFrom origins.now self.now result }
+    {
+        Selection {
+            channel: self.channel,
+            line: self.line,
+            selector: self.selector,
+            errors: self.errors,
+            from: self.from,
+            to: self.to,
+            origins,
+        }
+    }
+
+    /// Whether nothing is asked of a message, so that all are chosen.
+    pub fn is_all(&self) -> bool
+        ensures { result ≡ spec.is_all self.now }
+    {
+        self.channel.is_none()
+            && self.line.is_none()
+            && self.selector.is_none()
+            && !self.errors
+            && self.from.is_none()
+            && self.to.is_none()
+    }
+
+    /// Whether a bound is a time.
+    pub fn is_timed(&self) -> bool
+        ensures { result ≡ spec.is_timed self.now }
+    {
+        is_time(self.from) || is_time(self.to)
+    }
+
+    /// Whether the message of this number of the file, counted from 1, on this channel, is chosen. One whose time is
+    /// not known is never chosen by a time.
     pub fn selects(&self, number: u64, channel: u16, view: &View<'_>) -> bool
         ensures { result ≡ spec.selects self.now number channel view.now }
     {
+        let origin = origin_by(view.kind(), self.origins, channel);
         is_of(self.channel, channel)
             && is_on(self.line, view)
             && (!self.errors || view.has_error())
-            && is_from(self.from, number, view.stamp())
-            && is_up_to(self.to, number, view.stamp())
+            && is_from(self.from, origin, number, view.time())
+            && is_up_to(self.to, origin, number, view.time())
             && is_about(self.selector, view)
     }
 }
 
-/// Whether the message of a number and a stamp is the first one of a bound, or behind it.
-fn is_from(bound: Option<Bound>, number: u64, stamp: u64) -> bool
-    ensures { result ≡ spec.is_from bound number stamp }
+/// Whether a bound is a time.
+fn is_time(bound: Option<Bound>) -> bool
+    ensures { result ≡ spec.is_time bound }
+{
+    matches!(bound, Some(Bound::Time(_)))
+}
+
+/// The tick from which times count in a channel.
+fn origin_by(kind: StampKind, origins: &[Option<u64>], channel: u16) -> u64
+    ensures { result ≡ spec.origin_by kind origins.now channel }
+{
+    match kind {
+        StampKind::TimeOfDay => first_in(origins, usize::from(channel)),
+        StampKind::Counter | StampKind::Unknown => 0,
+    }
+}
+
+/// The first time of day of a channel, 0 where none is known.
+fn first_in(origins: &[Option<u64>], place: usize) -> u64
+    ensures { result ≡ spec.first_in origins.now place }
+{
+    if place < origins.len() {
+        origins[place].unwrap_or(0)
+    } else {
+        0
+    }
+}
+
+/// Whether a time is so many ticks behind an origin, or later.
+fn is_behind(origin: u64, first: u64, time: Option<u64>) -> bool
+    ensures { result ≡ spec.is_behind (origin + first) time }
+{
+    match time {
+        None => false,
+        Some(time) => origin <= time && first <= time - origin,
+    }
+}
+
+/// Whether a time is so many ticks behind an origin, or earlier.
+fn is_before(origin: u64, last: u64, time: Option<u64>) -> bool
+    ensures { result ≡ spec.is_before (origin + last) time }
+{
+    match time {
+        None => false,
+        Some(time) => time.saturating_sub(origin) <= last,
+    }
+}
+
+/// Whether the message of a number and a time is the first one of a bound, or behind it.
+fn is_from(bound: Option<Bound>, origin: u64, number: u64, time: Option<u64>) -> bool
+    ensures { result ≡ spec.is_from bound origin number time }
 {
     match bound {
         None => true,
         Some(Bound::Number(first)) => first <= number,
-        Some(Bound::Time(first)) => first <= stamp,
+        Some(Bound::Time(first)) => is_behind(origin, first, time),
     }
 }
 
 /// Whether it is the last one of a bound, or before it.
-fn is_up_to(bound: Option<Bound>, number: u64, stamp: u64) -> bool
-    ensures { result ≡ spec.is_up_to bound number stamp }
+fn is_up_to(bound: Option<Bound>, origin: u64, number: u64, time: Option<u64>) -> bool
+    ensures { result ≡ spec.is_up_to bound origin number time }
 {
     match bound {
         None => true,
         Some(Bound::Number(last)) => number <= last,
-        Some(Bound::Time(last)) => stamp <= last,
+        Some(Bound::Time(last)) => is_before(origin, last, time),
     }
 }
 

@@ -1,7 +1,7 @@
-use Rattle.std.proofs.Common.{ap, ◌∙◌, arith}
+use Rattle.std.proofs.Common.{ap, ◌∙◌}
 use Rattle.bench_clock.specs.TimeBody.{packet_time}
 use Rattle.bench_clock.proofs.Rises.{told_time}
 use Rattle.bench_clock.proofs.marks.told_in.Goals as goal
 
 pub returns : goal.returns
-returns c = told_time c.args.header.now c.args.bytes.now c.read_time.result (omega (arith, c.if-header-ne-TIME_DATA.false)) (c.read_time.ensures ∙ ap packet_time c.body_in.ensures)
+returns c = told_time c.args.named c.args.header.now c.args.bytes.now c.read_time.result (cc) (c.read_time.ensures ∙ ap packet_time c.body_in.ensures)
