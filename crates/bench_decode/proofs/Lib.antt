@@ -1,4 +1,3 @@
 pub mod Counts
-pub mod Packets
 pub mod Passing
 mod Answered

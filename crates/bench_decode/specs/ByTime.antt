@@ -4,9 +4,10 @@ use Rattle.std.specs.Prelude.{◌≡◌, ℕ, ◌+◌, Bool, List, [], ◌∷◌
 use Rattle.std.specs.List.{filter}
 use Rattle.std.specs.List.Sorted.{IsPermutation, IsNonDecreasingBy, IsStableByKey}
 use Rattle.std.specs.Ordering.{nat_cmp}
-use Rattle.ch11_f1.specs.BodyReading.{Message}
+use Rattle.ch11_layout.specs.Stamps.{Recorded, recorded}
 use Rattle.ch11_f1.specs.Views.{message_of}
-use Rattle.ch11_reader.specs.Contents.{Heard, channels_of, count_in}
+use Rattle.ch11_reader.specs.Contents.{count_in}
+use Rattle.bench_select.specs.Viewed.{channels_of, Viewed}
 use Rattle.bench_select.specs.declared.selection.Selection.{Selection}
 use Rattle.bench_select.specs.Selecting.{selects}
 use Rattle.bench_decode.specs.declared.chosen.Chosen.{Chosen}
@@ -18,10 +19,10 @@ pub record Told : Type 0 where
   pub number : ℕ
   pub channel : ℕ
   pub in_channel : ℕ
-  pub message : Message
+  pub message : Recorded
 
 -- the messages of a history, newest first
-abbrev pub told : List Heard → List Told
+abbrev pub told : List Viewed → List Told
 told [] = []
 told (h ∷ earlier) =
     record {
@@ -35,7 +36,7 @@ abbrev pub is_chosen : Selection → Told → Bool
 is_chosen s t = selects s t.number t.channel t.message
 
 -- those that a selection chooses, oldest first
-abbrev pub chosen : Selection → List Heard → List Told
+abbrev pub chosen : Selection → List Viewed → List Told
 chosen s history = reverse (filter (is_chosen s) (told history))
 
 abbrev pub told_of : Chosen → Told
@@ -43,7 +44,7 @@ told_of c = record {
   number = c.place.number;
   channel = c.place.channel;
   in_channel = c.place.in_channel;
-  message = message_of c.seen;
+  message = recorded c.kind (message_of c.seen);
 }
 
 abbrev pub stamp_of : Chosen → ℕ
@@ -59,6 +60,6 @@ pub record AreByTime (messages : List Told) (sorted : List Chosen) : Type 0 wher
   pub stable : IsStableByKey stamp_of nat_cmp found sorted
 
 -- what was found of a history so far, and how many messages each channel had
-pub record AreChosen (s : Selection) (history : List Heard) (c : Choosing) : Type 0 where
+pub record AreChosen (s : Selection) (history : List Viewed) (c : Choosing) : Type 0 where
   pub found : map told_of c.found.items ≡ chosen s history
   pub counts : AreCounts (channels_of history) c.numbers.counts.items

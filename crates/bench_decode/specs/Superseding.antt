@@ -5,7 +5,7 @@ use Rattle.std.specs.Prelude.{if◌then◌else◌}
 use Rattle.mil_word.specs.Fields.{address_of, count_of, code_of, is_mode, is_transmit, is_broadcast, has_bit}
 use Rattle.mil_word.specs.Fields.{has_message_error, has_instrumentation, has_busy}
 use Rattle.mil_mode.specs.Table.{is_known, data_word_count}
-use Rattle.ch11_f1.specs.BodyReading.{Message}
+use Rattle.ch11_layout.specs.Stamps.{Recorded}
 use Rattle.ch11_layout.specs.BlockStatus.{has_word_count_error, has_sync_type_error}
 use Rattle.ch11_layout.specs.Layouts.{size_of, word_of, first_word, commands_in, data_start, first_gap, second_gap}
 
@@ -23,38 +23,38 @@ is_answerable command = not (is_broadcast command) && (not (is_mode command) || 
 
 -- the word at a place, read as a command, and the status word that answers it: right behind it where the terminal
 -- transmits, else behind the data words, the last one
-abbrev pub command_at : ℕ → Message → ℕ
+abbrev pub command_at : ℕ → Recorded → ℕ
 command_at place m = word_of m.bytes place
 
-abbrev pub answer_place : ℕ → Message → ℕ
+abbrev pub answer_place : ℕ → Recorded → ℕ
 answer_place place m = if is_transmit (command_at place m) then place + 1 else size_of m - 1
 
-abbrev pub answer_at : ℕ → Message → ℕ
+abbrev pub answer_at : ℕ → Recorded → ℕ
 answer_at place m = word_of m.bytes (answer_place place m)
 
 -- behind it stand the status word and the data words that go with the command, and nothing else; a status word that
 -- tells of a message error or of a busy terminal may stand alone
-abbrev pub is_whole : ℕ → Message → Bool
+abbrev pub is_whole : ℕ → Recorded → Bool
 is_whole place m = size_of m == place + 2 + data_words_of (command_at place m)
 
-abbrev pub is_excused : ℕ → Message → Bool
+abbrev pub is_excused : ℕ → Recorded → Bool
 is_excused place m =
     is_transmit (command_at place m)
     && (size_of m == place + 2 && (has_message_error (answer_at place m) || has_busy (answer_at place m)))
 
-abbrev pub is_answered : ℕ → Message → Bool
+abbrev pub is_answered : ℕ → Recorded → Bool
 is_answered place m =
     nat_lt (place + 1) (size_of m)
     && (is_answerable (command_at place m)
     && (address_of (answer_at place m) == address_of (command_at place m) && (is_whole place m || is_excused place m)))
 
 -- one reply came, and words are not as they are due by number or sync
-abbrev pub is_suspect : Message → Bool
+abbrev pub is_suspect : Recorded → Bool
 is_suspect m =
     (has_word_count_error m.block || has_sync_type_error m.block) && (not (first_gap m == 0) && second_gap m == 0)
 
 -- the word right behind the commands, where a status word is due, is one that the terminal that is due could give
-abbrev pub due_address : Message → ℕ
+abbrev pub due_address : Recorded → ℕ
 due_address m = address_of (word_of m.bytes (commands_in m - 1))
 
 abbrev pub has_reserved : ℕ → Bool
@@ -63,37 +63,37 @@ has_reserved status = has_bit 7 status || (has_bit 6 status || has_bit 5 status)
 abbrev pub could_be_of : ℕ → ℕ → Bool
 could_be_of address status = address_of status == address && not (has_instrumentation status || has_reserved status)
 
-abbrev pub has_front_word : Message → Bool
+abbrev pub has_front_word : Recorded → Bool
 has_front_word m = nat_lt (commands_in m) (data_start m)
 
-abbrev pub has_own_status : Message → Bool
+abbrev pub has_own_status : Recorded → Bool
 has_own_status m = has_front_word m && could_be_of (due_address m) (word_of m.bytes (commands_in m))
 
 -- how many words the controller has to send behind the commands
-abbrev pub controller_words : Message → ℕ
+abbrev pub controller_words : Recorded → ℕ
 controller_words m =
     if commands_in m == 2 || is_transmit (first_word m) then 0 else data_words_of (first_word m)
 
 -- a place is the first one from one up to another, that one included, whose word is answered
-pub record IsFirstAnswered (from to : ℕ) (m : Message) (place : ℕ) : Type 0 where
+pub record IsFirstAnswered (from to : ℕ) (m : Recorded) (place : ℕ) : Type 0 where
   pub low : from ≤ place
   pub high : place ≤ to
   pub answered : is_answered place m ≡ true
   pub first : (earlier : ℕ) → from ≤ earlier → earlier < place → is_answered earlier m ≡ false
 
 -- no word of these is answered
-abbrev pub IsAnsweredNowhere : ℕ → ℕ → Message → Type 0
+abbrev pub IsAnsweredNowhere : ℕ → ℕ → Recorded → Type 0
 IsAnsweredNowhere from to m = (place : ℕ) → from ≤ place → place ≤ to → is_answered place m ≡ false
 
-abbrev pub last_place : Message → ℕ
+abbrev pub last_place : Recorded → ℕ
 last_place m = commands_in m + controller_words m
 
 -- the second command of a message stands where the controller's words do, and no word before it is answered
-pub record IsSecond (m : Message) (place : ℕ) : Type 0 where
+pub record IsSecond (m : Recorded) (place : ℕ) : Type 0 where
   pub suspect : is_suspect m ≡ true
   pub other : has_own_status m ≡ false
   pub told : IsFirstAnswered (commands_in m) (last_place m) m place
 
 -- there is none
-pub record HasNoSecond (m : Message) : Type 0 where
+pub record HasNoSecond (m : Recorded) : Type 0 where
   pub none : is_suspect m ≡ true → has_own_status m ≡ false → IsAnsweredNowhere (commands_in m) (last_place m) m

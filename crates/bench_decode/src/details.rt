@@ -40,15 +40,20 @@ pub fn put_details(line: &mut TextLine, place: &Place, view: &View<'_>) {
 
 /// Puts where a message stands, and its time.
 fn put_place(line: &mut TextLine, place: &Place, view: &View<'_>) {
-    let time = Time::of(view.stamp());
     line.put_labelled(b"message ", place.number);
     line.put_labelled(b", channel ", u64::from(place.channel));
     line.put_labelled(b", number ", place.in_channel);
     line.put(b" there, line ");
     line.put(&[letter_of(view)]);
-    line.put_labelled(b"\n", time.seconds);
-    line.put_decimals(time);
-    line.put(b" s\n");
+    match view.time() {
+        Some(ticks) => {
+            let time = Time::of(ticks);
+            line.put_labelled(b"\n", time.seconds);
+            line.put_decimals(time);
+            line.put(b" s\n");
+        }
+        None => line.put(b"\n-\n"),
+    }
 }
 
 /// Puts the block status word and the gap times word.

@@ -5,6 +5,7 @@
 //! tests: `command_tests`, and of packets as they come `ch11_stream_tests`. Its wrong bodies: `edits/`.
 #![tactic(auto)]
 
+mod by_time;
 mod chosen;
 mod details;
 mod digits;
@@ -13,18 +14,19 @@ mod line;
 mod messages;
 mod modes;
 mod numbers;
+mod printing;
 mod readings;
 mod replies;
 mod streaming;
 mod superseding;
 mod times;
-mod whole;
 
+pub use by_time::decode_by_time;
 pub use chosen::{Chosen, messages_by_time};
 pub use details::put_details;
 pub use line::{Shown, TextLine};
 pub use messages::{Place, write_columns, write_message};
 pub use numbers::Numbers;
-pub use streaming::decode_from;
+pub use printing::Output;
+pub use streaming::decode;
 pub use times::Time;
-pub use whole::{Output, decode};

@@ -25,6 +25,9 @@ const REPLIES: usize = 77;
 
 const WORDS: usize = 103;
 
+/// Where '-' stands in the place of a time, at the end of its column.
+const UNTIMED: usize = 20;
+
 /// The least number that has more digits than its column.
 const WIDE: u64 = 10_000_000;
 
@@ -52,12 +55,12 @@ pub fn write_columns<W: Write>(line: &mut TextLine, out: &mut W) -> io::Result<(
     Ok(())
 }
 
-/// Writes a message as people read it, on one line: its number, its time in seconds, its channel, its number there, the
-/// line, the form in the words of a script with what a mode command asks, the status words with the names of their bits
-/// and the response times, the data words, and the names of the bits of its block status word. A second command, which
-/// supersedes the first, stands with its answer in the place of the status words. A message of no known form has its
-/// block status word, its gap times word and all its words as hexadecimal digits. What waits in `line` may go to the
-/// writer before or behind; a fault is the writer's.
+/// Writes a message as people read it, on one line: its number, its time in seconds, '-' where none is known, its
+/// channel, its number there, the line, the form in the words of a script with what a mode command asks, the status
+/// words with the names of their bits and the response times, the data words, and the names of the bits of its block
+/// status word. A second command, which supersedes the first, stands with its answer in the place of the status words.
+/// A message of no known form has its block status word, its gap times word and all its words as hexadecimal digits.
+/// What waits in `line` may go to the writer before or behind; a fault is the writer's.
 pub fn write_message<W: Write>(
     line: &mut TextLine,
     out: &mut W,
@@ -94,9 +97,12 @@ pub(crate) fn letter_of(view: &View<'_>) -> u8
 /// Puts the columns in front of the form.
 #[inline(always)]
 fn put_place(line: &mut TextLine, place: &Place, view: &View<'_>) {
-    let time = Time::of(view.stamp());
+    let Some(ticks) = view.time() else {
+        return put_wide_place(line, place, None, letter_of(view));
+    };
+    let time = Time::of(ticks);
     if place.number >= WIDE || place.in_channel >= WIDE || time.seconds >= LONG {
-        return put_wide_place(line, place, time, letter_of(view));
+        return put_wide_place(line, place, Some(time), letter_of(view));
     }
     line.put_front(
         &in_columns(place.number as u32, 1),
@@ -108,12 +114,20 @@ fn put_place(line: &mut TextLine, place: &Place, view: &View<'_>) {
     );
 }
 
-/// Puts the same of numbers that their columns may have no room for.
-fn put_wide_place(line: &mut TextLine, place: &Place, time: Time, letter: u8) {
+/// Puts the same of numbers that their columns may have no room for, or of no time, which is '-'.
+fn put_wide_place(line: &mut TextLine, place: &Place, time: Option<Time>, letter: u8) {
     line.put_right(place.number, 7);
     line.put(b" ");
-    line.put_right(time.seconds, 5);
-    line.put_decimals(time);
+    match time {
+        Some(time) => {
+            line.put_right(time.seconds, 5);
+            line.put_decimals(time);
+        }
+        None => {
+            line.fill_to(UNTIMED);
+            line.put(b"-");
+        }
+    }
     line.put(b" ");
     line.put_right(u64::from(place.channel), 7);
     line.put(b" ");

@@ -1,5 +1,5 @@
 -- Stretches printed in their order, and the text of packets with skips among them.
-use Rattle.std.proofs.Common.{◌≡◌, ℕ, zero, suc, ◌+◌, ◌<◌, ◌≤◌, ◌^◌, true, false, ltb, List, [], ◌∷◌, ◌++◌, length, drop, Option, Some, Result, Ok, Err, refl, sym, ap, subst, ◌∙◌, append_assoc, arith}
+use Rattle.std.proofs.Common.{◌≡◌, Bool, ℕ, zero, suc, ◌+◌, ◌<◌, ◌≤◌, ◌^◌, true, false, ltb, List, [], ◌∷◌, ◌++◌, length, drop, Option, Some, Result, Ok, Err, refl, sym, ap, subst, ◌∙◌, append_assoc, arith}
 use Rattle.std.proofs.lemmas.Bool.{le-ltb, lt-ltb}
 use Rattle.std.proofs.lemmas.List.{append-nil}
 use Rattle.std.specs.Io.KnownBytes.{Appends}
@@ -21,16 +21,16 @@ use Rattle.bench_dump.specs.DumpText.{packet_line}
 use Rattle.bench_dump.specs.Printing.{Carries}
 use Rattle.bench_dump.specs.SkippingText.{skip_line, skip_lines, skips_before, skips_behind, file_text}
 use Rattle.bench_dump.specs.StretchText.{IsFew, stretch_lines}
-use Rattle.bench_dump.specs.TimedText.{timed_in_order, timed_lines, timed_text}
+use Rattle.bench_dump.specs.TimedText.{kind_asked, timed_in_order, timed_lines, timed_text}
 use Rattle.bench_dump.proofs.Packets.{carries_both}
 use Rattle.bench_dump.proofs.Steps.{appends_both, carries_nothing}
 use Rattle.bench_dump.proofs.Timeless.{plain_text}
 
 -- the lines of stretches, behind so many messages
-abbrev pub lines_in_turn : List Mark → ℕ → List Stretch → List ℕ
-lines_in_turn clock before [] = []
-lines_in_turn clock before (Read p ∷ others) = packet_line p.offset p.header (length p.messages) ++ (timed_lines clock before p.header.channel p.messages ++ lines_in_turn clock (before + length p.messages) others)
-lines_in_turn clock before (Skipped s ∷ others) = skip_line s ++ lines_in_turn clock before others
+abbrev pub lines_in_turn : List Mark → Bool → ℕ → List Stretch → List ℕ
+lines_in_turn clock timed before [] = []
+lines_in_turn clock timed before (Read p ∷ others) = packet_line p.offset p.header (length p.messages) ++ (timed_lines clock (kind_asked timed p.header) before p.header.channel p.messages ++ lines_in_turn clock timed (before + length p.messages) others)
+lines_in_turn clock timed before (Skipped s ∷ others) = skip_line s ++ lines_in_turn clock timed before others
 
 -- ---- stretches stand in the order of their offsets
 
@@ -75,73 +75,73 @@ first_packet offset (Read p ∷ others) o = o.0
 first_packet offset (Skipped s ∷ others) o = first_packet offset others (in_order_from offset (suc s.offset) others (omega (arith, o.0)) o.1)
 
 -- a skip in front of all packets comes first
-skip_first : (clock : List Mark) (before : ℕ) (s : Skip) (skips : List Skip) (ps : List Found) → FirstFrom (suc s.offset) ps → timed_in_order clock before (s ∷ skips) ps ≡ skip_line s ++ timed_in_order clock before skips ps
-skip_first clock before s skips [] o = refl
-skip_first clock before s skips (p ∷ ps) o =
+skip_first : (clock : List Mark) (timed : Bool) (before : ℕ) (s : Skip) (skips : List Skip) (ps : List Found) → FirstFrom (suc s.offset) ps → timed_in_order clock timed before (s ∷ skips) ps ≡ skip_line s ++ timed_in_order clock timed before skips ps
+skip_first clock timed before s skips [] o = refl
+skip_first clock timed before s skips (p ∷ ps) o =
     let test : ltb s.offset p.offset ≡ true = lt-ltb s.offset p.offset (omega (arith, o)) in
-    rw test (append_assoc (skip_line s) (skip_lines (skips_before p.offset skips)) (packet_line p.offset p.header (length p.messages) ++ (timed_lines clock before p.header.channel p.messages ++ timed_in_order clock (before + length p.messages) (skips_behind p.offset skips) ps)))
+    rw test (append_assoc (skip_line s) (skip_lines (skips_before p.offset skips)) (packet_line p.offset p.header (length p.messages) ++ (timed_lines clock (kind_asked timed p.header) before p.header.channel p.messages ++ timed_in_order clock timed (before + length p.messages) (skips_behind p.offset skips) ps)))
 
-turn_is_order : (clock : List Mark) (before offset : ℕ) (ss : List Stretch) → InOrder offset ss → lines_in_turn clock before ss ≡ timed_in_order clock before (skips_among ss) (packets_among ss)
-turn_is_order clock before offset [] o = refl
-turn_is_order clock before offset (Read p ∷ others) o =
+turn_is_order : (clock : List Mark) (timed : Bool) (before offset : ℕ) (ss : List Stretch) → InOrder offset ss → lines_in_turn clock timed before ss ≡ timed_in_order clock timed before (skips_among ss) (packets_among ss)
+turn_is_order clock timed before offset [] o = refl
+turn_is_order clock timed before offset (Read p ∷ others) o =
     let none = none_in_front p.offset others o.1 in
-    rw (none.0, none.1, turn_is_order clock (before + length p.messages) p.offset others o.1) refl
-turn_is_order clock before offset (Skipped s ∷ others) o =
-    ap (λ (l : List ℕ). skip_line s ++ l) (turn_is_order clock before (suc s.offset) others o.1) ∙ sym (skip_first clock before s (skips_among others) (packets_among others) (first_packet (suc s.offset) others o.1))
+    rw (none.0, none.1, turn_is_order clock timed (before + length p.messages) p.offset others o.1) refl
+turn_is_order clock timed before offset (Skipped s ∷ others) o =
+    ap (λ (l : List ℕ). skip_line s ++ l) (turn_is_order clock timed before (suc s.offset) others o.1) ∙ sym (skip_first clock timed before s (skips_among others) (packets_among others) (first_packet (suc s.offset) others o.1))
 
-whole_text : (clock : List Mark) (file : List ℕ) → lines_in_turn clock 0 (stretches_in file) ≡ timed_text clock (skips_in file) (packets_read file)
-whole_text clock file = turn_is_order clock 0 0 (stretches_in file) (stretches_in_order (length file) 0 file)
+whole_text : (clock : List Mark) (timed : Bool) (file : List ℕ) → lines_in_turn clock timed 0 (stretches_in file) ≡ timed_text clock timed (skips_in file) (packets_read file)
+whole_text clock timed file = turn_is_order clock timed 0 0 (stretches_in file) (stretches_in_order (length file) 0 file)
 
 -- ---- the stretches so far, newest first, were printed
 
-pub record IsPrinted (clock : List Mark) (file : List ℕ) (got gets : Option (List ℕ)) (waits : List ℕ) (now : Reading) : Type 0 where
+pub record IsPrinted (clock : List Mark) (timed : Bool) (file : List ℕ) (got gets : Option (List ℕ)) (waits : List ℕ) (now : Reading) : Type 0 where
   pub earlier : List Stretch
   pub between : IsBetween file now earlier
   pub more : List ℕ
   pub carried : Carries got [] gets waits more
-  pub lines : (others : List Stretch) → more ++ lines_in_turn clock (total_in now.earlier) others ≡ lines_in_turn clock 0 (in_turn earlier others)
+  pub lines : (others : List Stretch) → more ++ lines_in_turn clock timed (total_in now.earlier) others ≡ lines_in_turn clock timed 0 (in_turn earlier others)
 
-pub nothing_printed : (clock : List Mark) (file : List ℕ) (got : Option (List ℕ)) (waits : List ℕ) → waits ≡ [] → IsPrinted clock file got got waits (at_start (Some file))
-nothing_printed clock file got waits none = rw none record { earlier = []; between = between_start file; more = []; carried = carries_nothing got []; lines = λ others. refl }
+pub nothing_printed : (clock : List Mark) (timed : Bool) (file : List ℕ) (got : Option (List ℕ)) (waits : List ℕ) → waits ≡ [] → IsPrinted clock timed file got got waits (at_start (Some file))
+nothing_printed clock timed file got waits none = rw none record { earlier = []; between = between_start file; more = []; carried = carries_nothing got []; lines = λ others. refl }
 
 regroup : (more packet messages rest : List ℕ) → (more ++ (packet ++ messages)) ++ rest ≡ more ++ (packet ++ (messages ++ rest))
 regroup more packet messages rest = simp append_assoc
 
 -- the line of the packet that was read, and those of its messages
-abbrev lines_of : List Mark → Reading → Packet → List ℕ
-lines_of clock now p = packet_line p.offset p.header p.count ++ timed_lines clock p.before p.header.channel now.given
+abbrev lines_of : List Mark → Bool → Reading → Packet → List ℕ
+lines_of clock timed now p = packet_line p.offset p.header p.count ++ timed_lines clock (kind_asked timed p.header) p.before p.header.channel now.given
 
-sound_printed : (clock : List Mark) (file : List ℕ) (got mid gets : Option (List ℕ)) (waits then : List ℕ) (before now : Reading) (p : Packet) → IsStep before now p → IsPrinted clock file got mid waits before
-    → Carries mid waits gets then (lines_of clock now p) → IsPrinted clock file got gets then now
-sound_printed clock file got mid gets waits then before now p s g on = record {
+sound_printed : (clock : List Mark) (timed : Bool) (file : List ℕ) (got mid gets : Option (List ℕ)) (waits then : List ℕ) (before now : Reading) (p : Packet) → IsStep before now p → IsPrinted clock timed file got mid waits before
+    → Carries mid waits gets then (lines_of clock timed now p) → IsPrinted clock timed file got gets then now
+sound_printed clock timed file got mid gets waits then before now p s g on = record {
   earlier = Read (last_found now p) ∷ g.earlier;
   between = between_sound file before now g.earlier p s g.between;
-  more = g.more ++ lines_of clock now p;
-  carried = carries_both got mid gets [] waits then g.more (lines_of clock now p) g.carried on;
+  more = g.more ++ lines_of clock timed now p;
+  carried = carries_both got mid gets [] waits then g.more (lines_of clock timed now p) g.carried on;
   lines = λ others.
       let total : length now.given + total_in before.earlier ≡ total_in before.earlier + length now.given = omega arith in
       let front : p.before ≡ total_in before.earlier = ap (λ (x : Packet). x.before) s.listed in
       let count : p.count ≡ length now.given = ap (λ (x : Packet). x.count) s.listed in
-      regroup g.more (packet_line p.offset p.header p.count) (timed_lines clock p.before p.header.channel now.given) (lines_in_turn clock (total_in now.earlier) others)
+      regroup g.more (packet_line p.offset p.header p.count) (timed_lines clock (kind_asked timed p.header) p.before p.header.channel now.given) (lines_in_turn clock timed (total_in now.earlier) others)
       ∙ ap (λ (l : List ℕ). g.more ++ l) (rw (s.entered, total, front, count) refl) ∙ g.lines (Read (last_found now p) ∷ others);
 }
 
-skip_printed : (clock : List Mark) (file : List ℕ) (got mid gets : Option (List ℕ)) (waits then : List ℕ) (before now : Reading) (s : Skip) → IsSkip before now s → IsPrinted clock file got mid waits before
-    → Carries mid waits gets then (skip_lines (s ∷ [])) → IsPrinted clock file got gets then now
-skip_printed clock file got mid gets waits then before now s k g on = record {
+skip_printed : (clock : List Mark) (timed : Bool) (file : List ℕ) (got mid gets : Option (List ℕ)) (waits then : List ℕ) (before now : Reading) (s : Skip) → IsSkip before now s → IsPrinted clock timed file got mid waits before
+    → Carries mid waits gets then (skip_lines (s ∷ [])) → IsPrinted clock timed file got gets then now
+skip_printed clock timed file got mid gets waits then before now s k g on = record {
   earlier = Skipped s ∷ g.earlier;
   between = between_skipped file before now g.earlier s k g.between;
   more = g.more ++ skip_lines (s ∷ []);
   carried = carries_both got mid gets [] waits then g.more (skip_lines (s ∷ [])) g.carried on;
   lines = λ others.
-      append_assoc g.more (skip_lines (s ∷ [])) (lines_in_turn clock (total_in now.earlier) others)
+      append_assoc g.more (skip_lines (s ∷ [])) (lines_in_turn clock timed (total_in now.earlier) others)
       ∙ ap (λ (l : List ℕ). g.more ++ l) (rw (append-nil (skip_line s), k.same) refl) ∙ g.lines (Skipped s ∷ others);
 }
 
-pub stretch_printed : (clock : List Mark) (file : List ℕ) (got mid gets : Option (List ℕ)) (waits then : List ℕ) (before now : Reading) (s : stretch.Stretch) → IsNextStretch (Ok (Some s)) before now
-    → IsPrinted clock file got mid waits before → Carries mid waits gets then (stretch_lines clock s now.given) → IsPrinted clock file got gets then now
-stretch_printed clock file got mid gets waits then before now (stretches.Sound p) s g on = sound_printed clock file got mid gets waits then before now p s g on
-stretch_printed clock file got mid gets waits then before now (stretches.Skipped k) s g on = skip_printed clock file got mid gets waits then before now k s g on
+pub stretch_printed : (clock : List Mark) (timed : Bool) (file : List ℕ) (got mid gets : Option (List ℕ)) (waits then : List ℕ) (before now : Reading) (s : stretch.Stretch) → IsNextStretch (Ok (Some s)) before now
+    → IsPrinted clock timed file got mid waits before → Carries mid waits gets then (stretch_lines clock timed s now.given) → IsPrinted clock timed file got gets then now
+stretch_printed clock timed file got mid gets waits then before now (stretches.Sound p) s g on = sound_printed clock timed file got mid gets waits then before now p s g on
+stretch_printed clock timed file got mid gets waits then before now (stretches.Skipped k) s g on = skip_printed clock timed file got mid gets waits then before now k s g on
 
 -- the messages of a stretch that was read can be numbered
 pub stretch_few : (before now : Reading) (s : stretch.Stretch) → IsNextStretch (Ok (Some s)) before now → IsFew s now.given
@@ -151,12 +151,14 @@ stretch_few before now (stretches.Sound p) s =
     omega (arith, front, few)
 stretch_few before now (stretches.Skipped k) s = tt
 
-pub all_printed : (clock : List Mark) (file : List ℕ) (got mid gets : Option (List ℕ)) (waits : List ℕ) (now last : Reading) → IsEnd now last → IsPrinted clock file got mid waits now → Appends mid gets waits
-    → Appends got gets (timed_text clock (skips_in file) (packets_read file))
-all_printed clock file got mid gets waits now last e g then =
-    let whole : g.more ≡ lines_in_turn clock 0 (stretches_in file) = sym (append-nil g.more) ∙ g.lines [] ∙ ap (lines_in_turn clock 0) (sym (between_end file now last g.earlier e g.between)) in
-    subst (Appends got gets) (g.carried.kept ∙ whole ∙ whole_text clock file) (appends_both got mid gets g.carried.sent waits g.carried.taken then)
+pub all_printed : (clock : List Mark) (timed : Bool) (file : List ℕ) (got mid gets : Option (List ℕ)) (waits : List ℕ) (now last : Reading) → IsEnd now last → IsPrinted clock timed file got mid waits now → Appends mid gets waits
+    → Appends got gets (timed_text clock timed (skips_in file) (packets_read file))
+all_printed clock timed file got mid gets waits now last e g then =
+    let whole : g.more ≡ lines_in_turn clock timed 0 (stretches_in file) = sym (append-nil g.more) ∙ g.lines [] ∙ ap (lines_in_turn clock timed 0) (sym (between_end file now last g.earlier e g.between)) in
+    subst (Appends got gets) (g.carried.kept ∙ whole ∙ whole_text clock timed file) (appends_both got mid gets g.carried.sent waits g.carried.taken then)
 
--- by a clock that tells no time it is the dump
-pub plain_skipping : (clock : List Mark) (file : List ℕ) (got gets : Option (List ℕ)) → clock ≡ [] → Appends got gets (timed_text clock (skips_in file) (packets_read file)) → Appends got gets (file_text true file)
-plain_skipping clock file got gets none is = subst (Appends got gets) (ap (λ (c : List Mark). timed_text c (skips_in file) (packets_read file)) none ∙ plain_text true file) is
+-- by a clock that tells no time, where none is asked for, it is the dump
+pub plain_skipping : (clock : List Mark) (timed : Bool) (file : List ℕ) (got gets : Option (List ℕ)) → clock ≡ [] → timed ≡ false → Appends got gets (timed_text clock timed (skips_in file) (packets_read file)) → Appends got gets (file_text true file)
+plain_skipping clock timed file got gets none asked is =
+    subst (Appends got gets)
+    (ap (λ (c : List Mark). timed_text c timed (skips_in file) (packets_read file)) none ∙ ap (λ (b : Bool). timed_text [] b (skips_in file) (packets_read file)) asked ∙ plain_text true file) is

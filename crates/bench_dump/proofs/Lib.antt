@@ -1,5 +1,6 @@
 pub mod InTurn
 pub mod Packets
+mod Refused
 pub mod Placing
 pub mod SkipLines
 pub mod Steps

@@ -1,5 +1,5 @@
 -- Packets of a dump, one after the other.
-use Rattle.std.proofs.Common.{◌≡◌, false, ℕ, zero, suc, ◌+◌, ◌≤◌, ◌<◌, List, [], ◌∷◌, ◌++◌, length, take, drop, Option, None, Some, get_or, refl, sym, ap, subst, ◌∙◌, append_assoc, add-one, arith}
+use Rattle.std.proofs.Common.{◌≡◌, Bool, false, ℕ, zero, suc, ◌+◌, ◌≤◌, ◌<◌, List, [], ◌∷◌, ◌++◌, length, take, drop, Option, None, Some, get_or, refl, sym, ap, subst, ◌∙◌, append_assoc, add-one, arith}
 use Rattle.std.specs.Prelude.{slice_get}
 use Rattle.std.proofs.lemmas.Option.{slice_get-get_or}
 use Rattle.std.proofs.lemmas.List.{drop_all}
@@ -12,7 +12,7 @@ use Rattle.ch11_reader.specs.declared.skip.Skip.{Skip}
 use Rattle.bench_clock.specs.declared.clock.Mark.{Mark}
 use Rattle.bench_dump.specs.DumpText.{packet_line}
 use Rattle.bench_dump.specs.SkippingText.{skip_lines, skips_before, skips_behind}
-use Rattle.bench_dump.specs.TimedText.{timed_lines, timed_in_order, timed_text}
+use Rattle.bench_dump.specs.TimedText.{kind_asked, timed_lines, timed_in_order, timed_text}
 use Rattle.bench_dump.specs.Printing.{Carries}
 use Rattle.bench_dump.proofs.Steps.{appends_both, carries_nothing}
 
@@ -79,18 +79,6 @@ length_listing earlier (p ∷ ps) = ap suc (length_listing (p ∷ earlier) ps)
 pub same_count : (ps : List Found) (entries : List Packet) → entries ≡ listing ps → length entries ≡ length ps
 same_count ps entries listed = ap length listed ∙ length_listing [] ps
 
--- the lines of the packets before a place, and of the skips in front of them, were put
-pub record IsPrinting (got gets : Option (List ℕ)) (waits : List ℕ) (clock : List Mark) (place : ℕ) (rest : List Skip) (skips : List Skip) (ps : List Found) : Type 0 where
-  pub more : List ℕ
-  pub carried : Carries got [] gets waits more
-  pub lines : more ++ timed_in_order clock (total_in (take place ps)) rest (drop place ps) ≡ timed_text clock skips ps
-
-pub begins : (got : Option (List ℕ)) (waits : List ℕ) (clock : List Mark) (skips : List Skip) (ps : List Found) → waits ≡ [] → IsPrinting got got waits clock 0 skips skips ps
-begins got waits clock skips ps none = record { more = []; carried = rw none (carries_nothing got []); lines = refl }
-
-regroup : (more front packet messages rest : List ℕ) → (more ++ (front ++ (packet ++ messages))) ++ rest ≡ more ++ (front ++ (packet ++ (messages ++ rest)))
-regroup more front packet messages rest = simp append_assoc
-
 -- text that was carried on twice
 pub carries_both : (got mid gets : Option (List ℕ)) (waiting waits then more line : List ℕ) → Carries got waiting mid waits more → Carries mid waits gets then line → Carries got waiting gets then (more ++ line)
 carries_both got mid gets waiting waits then more line a b = record {
@@ -98,43 +86,6 @@ carries_both got mid gets waiting waits then more line a b = record {
   taken = appends_both got mid gets a.sent b.sent a.taken b.taken;
   kept = append_assoc a.sent b.sent then ∙ ap (λ (l : List ℕ). a.sent ++ l) b.kept ∙ sym (append_assoc a.sent waits line) ∙ ap (λ (l : List ℕ). l ++ line) a.kept ∙ append_assoc waiting more line;
 }
-
--- text that was put, and then carried on with more
-pub puts_and_carries : (mid gets : Option (List ℕ)) (waits put then packet messages : List ℕ) → put ≡ waits ++ packet → Carries mid put gets then messages → Carries mid waits gets then (packet ++ messages)
-puts_and_carries mid gets waits put then packet messages line on =
-    record { sent = on.sent; taken = on.taken; kept = on.kept ∙ ap (λ (l : List ℕ). l ++ messages) line ∙ append_assoc waits packet messages }
-
-pub goes_on : (got mid middle gets : Option (List ℕ)) (waits between put then : List ℕ) (clock : List Mark) (place : ℕ) (rest behind skips : List Skip) (ps : List Found) (e : Packet) → (a : IsAt 0 ps place e) → IsPrinting got mid waits clock place rest skips ps
-    → Carries mid waits middle between (skip_lines (skips_before e.offset rest)) → behind ≡ skips_behind e.offset rest
-    → put ≡ between ++ packet_line e.offset e.header e.count → Carries middle put gets then (timed_lines clock e.before e.header.channel a.packet.messages) → IsPrinting got gets then clock (place + 1) behind skips ps
-goes_on got mid middle gets waits between put then clock place rest behind skips ps e a g over left line on = record {
-  more = g.more ++ (front ++ (packet ++ messages));
-  carried = carries_both got mid gets [] waits then g.more (front ++ (packet ++ messages)) g.carried (carries_both mid middle gets waits between then front (packet ++ messages) over (puts_and_carries middle gets between put then packet messages line on));
-  lines = regroup g.more front packet messages (timed_in_order clock (total_in (take (place + 1) ps)) behind (drop (place + 1) ps)) ∙ ap (λ (l : List ℕ). g.more ++ l) here ∙ g.lines;
-}
-  where
-    front : List ℕ
-    front = skip_lines (skips_before e.offset rest)
-
-    packet : List ℕ
-    packet = packet_line e.offset e.header e.count
-
-    messages : List ℕ
-    messages = timed_lines clock e.before e.header.channel a.packet.messages
-
-    before : e.before ≡ total_in (take place ps)
-    before = omega (arith, a.before)
-
-    here : skip_lines (skips_before e.offset rest) ++ (packet_line e.offset e.header e.count ++ (timed_lines clock e.before e.header.channel a.packet.messages ++ timed_in_order clock (total_in (take (place + 1) ps)) behind (drop (place + 1) ps)))
-        ≡ timed_in_order clock (total_in (take place ps)) rest (drop place ps)
-    here = rw (add-one, a.split, a.next, left, a.offset, a.header, a.count, before) refl
-
-pub ends : (got mid middle gets : Option (List ℕ)) (waits last : List ℕ) (clock : List Mark) (place : ℕ) (rest skips : List Skip) (ps : List Found) → length ps ≤ place → IsPrinting got mid waits clock place rest skips ps
-    → Carries mid waits middle last (skip_lines rest) → Appends middle gets last → Appends got gets (timed_text clock skips ps)
-ends got mid middle gets waits last clock place rest skips ps past g over then =
-    let whole : g.more ++ skip_lines rest ≡ timed_text clock skips ps = ap (λ (qs : List Found). g.more ++ timed_in_order clock (total_in (take place ps)) rest qs) (sym (drop_all place ps past)) ∙ g.lines in
-    let all = carries_both got mid middle [] waits last g.more (skip_lines rest) g.carried over in
-    subst (Appends got gets) (all.kept ∙ whole) (appends_both got middle gets all.sent last all.taken then)
 
 -- a flush keeps what the writer got
 pub kept : (old mid new : Option (List ℕ)) (text : List ℕ) → Appends old mid text → Keeps mid new → Appends old new text

@@ -4,7 +4,9 @@ use Rattle.std.proofs.lemmas.List.{append-nil}
 use Rattle.std.specs.Io.KnownBytes.{Appends}
 use Rattle.ch11_f1.specs.BodyReading.{Message}
 use Rattle.bench_clock.specs.declared.clock.Mark.{Mark}
-use Rattle.bench_clock.specs.Clock.{time_at}
+use Rattle.ch11_layout.specs.Stamps.{ticks_of}
+use Rattle.ch11_layout.specs.declared.stamps.StampKind.{StampKind}
+use Rattle.bench_clock.specs.Clock.{time_of_stamp}
 use Rattle.bench_dump.specs.DumpText.{bus_words}
 use Rattle.bench_dump.specs.TimedText.{timed_line, timed_lines}
 use Rattle.bench_dump.specs.Printing.{Carries}
@@ -38,25 +40,25 @@ pub carries_nothing : (got : Option (List ℕ)) (waiting : List ℕ) → Carries
 carries_nothing got waiting = record { sent = []; taken = appends_nothing got; kept = sym (append-nil waiting) }
 
 -- the lines of the messages so far were put
-pub record IsGoing (got : Option (List ℕ)) (waiting : List ℕ) (gets : Option (List ℕ)) (waits : List ℕ) (clock : List Mark) (before number channel : ℕ) (all rest : List Message) : Type 0 where
+pub record IsGoing (got : Option (List ℕ)) (waiting : List ℕ) (gets : Option (List ℕ)) (waits : List ℕ) (clock : List Mark) (kind : StampKind) (before number channel : ℕ) (all rest : List Message) : Type 0 where
   pub more : List ℕ
   pub carried : Carries got waiting gets waits more
   pub counted : number + length rest ≡ before + length all
-  pub lines : more ++ timed_lines clock number channel rest ≡ timed_lines clock before channel all
+  pub lines : more ++ timed_lines clock kind number channel rest ≡ timed_lines clock kind before channel all
 
-pub begins : (got : Option (List ℕ)) (waiting : List ℕ) (clock : List Mark) (before channel : ℕ) (all : List Message) → IsGoing got waiting got waiting clock before before channel all all
-begins got waiting clock before channel all = record { more = []; carried = carries_nothing got waiting; counted = refl; lines = refl }
+pub begins : (got : Option (List ℕ)) (waiting : List ℕ) (clock : List Mark) (kind : StampKind) (before channel : ℕ) (all : List Message) → IsGoing got waiting got waiting clock kind before before channel all all
+begins got waiting clock kind before channel all = record { more = []; carried = carries_nothing got waiting; counted = refl; lines = refl }
 
-pub goes_on : (got mid gets : Option (List ℕ)) (waiting waits put then : List ℕ) (clock : List Mark) (before number channel : ℕ) (all rest others : List Message) (m : Message) → IsGoing got waiting mid waits clock before number channel all rest → rest ≡ m ∷ others
-    → put ≡ waits ++ timed_line (time_at clock m.stamp) (number + 1) channel m → Carries mid put gets then [] → IsGoing got waiting gets then clock before (number + 1) channel all others
-goes_on got mid gets waiting waits put then clock before number channel all rest others m g is line on = record {
-  more = g.more ++ timed_line (time_at clock m.stamp) (number + 1) channel m;
-  carried = carries_on got mid gets waiting waits put then g.more (timed_line (time_at clock m.stamp) (number + 1) channel m) g.carried line on;
+pub goes_on : (got mid gets : Option (List ℕ)) (waiting waits put then : List ℕ) (clock : List Mark) (kind : StampKind) (before number channel : ℕ) (all rest others : List Message) (m : Message) → IsGoing got waiting mid waits clock kind before number channel all rest → rest ≡ m ∷ others
+    → put ≡ waits ++ timed_line (time_of_stamp clock kind (ticks_of kind m.stamp)) (number + 1) channel m → Carries mid put gets then [] → IsGoing got waiting gets then clock kind before (number + 1) channel all others
+goes_on got mid gets waiting waits put then clock kind before number channel all rest others m g is line on = record {
+  more = g.more ++ timed_line (time_of_stamp clock kind (ticks_of kind m.stamp)) (number + 1) channel m;
+  carried = carries_on got mid gets waiting waits put then g.more (timed_line (time_of_stamp clock kind (ticks_of kind m.stamp)) (number + 1) channel m) g.carried line on;
   counted = omega (arith, g.counted, ap length is);
-  lines = append_assoc g.more (timed_line (time_at clock m.stamp) (number + 1) channel m) (timed_lines clock (number + 1) channel others) ∙ ap (λ (ms : List Message). g.more ++ timed_lines clock number channel ms) (sym is) ∙ g.lines;
+  lines = append_assoc g.more (timed_line (time_of_stamp clock kind (ticks_of kind m.stamp)) (number + 1) channel m) (timed_lines clock kind (number + 1) channel others) ∙ ap (λ (ms : List Message). g.more ++ timed_lines clock kind number channel ms) (sym is) ∙ g.lines;
 }
 
-pub ends : (got gets : Option (List ℕ)) (waiting waits : List ℕ) (clock : List Mark) (before number channel : ℕ) (all rest : List Message) → IsGoing got waiting gets waits clock before number channel all rest → rest ≡ [] → Carries got waiting gets waits (timed_lines clock before channel all)
-ends got gets waiting waits clock before number channel all rest g is =
-    let whole : g.more ≡ timed_lines clock before channel all = sym (append-nil g.more) ∙ ap (λ (ms : List Message). g.more ++ timed_lines clock number channel ms) (sym is) ∙ g.lines in
+pub ends : (got gets : Option (List ℕ)) (waiting waits : List ℕ) (clock : List Mark) (kind : StampKind) (before number channel : ℕ) (all rest : List Message) → IsGoing got waiting gets waits clock kind before number channel all rest → rest ≡ [] → Carries got waiting gets waits (timed_lines clock kind before channel all)
+ends got gets waiting waits clock kind before number channel all rest g is =
+    let whole : g.more ≡ timed_lines clock kind before channel all = sym (append-nil g.more) ∙ ap (λ (ms : List Message). g.more ++ timed_lines clock kind number channel ms) (sym is) ∙ g.lines in
     record { sent = g.carried.sent; taken = g.carried.taken; kept = g.carried.kept ∙ ap (λ (l : List ℕ). waiting ++ l) whole }

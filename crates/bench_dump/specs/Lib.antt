@@ -1,4 +1,5 @@
 pub mod DumpText
+pub mod Passes
 pub mod Places
 pub mod Printing
 pub mod Reads

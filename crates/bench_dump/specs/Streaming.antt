@@ -1,5 +1,5 @@
 -- What a dump of a recording comes to whose bytes a reader gives.
-use Rattle.std.specs.Prelude.{◌≡◌, ℕ, false, List, [], Option, Result, Ok, Err}
+use Rattle.std.specs.Prelude.{◌≡◌, ℕ, Bool, false, List, [], Option, Result, Ok, Err}
 use Rattle.std.specs.Io.KnownBytes.{Appends}
 use Rattle.ch11_reader.specs.Indexed.{found_in}
 use Rattle.ch11_reader.specs.Recording.{packets_in}
@@ -17,11 +17,11 @@ Dumps (Err (faults.Refused r)) file got gets = packets_in file ≡ Err r
 Dumps (Err faults.Memory) file got gets = Unit {0}
 Dumps (Err faults.Device) file got gets = Unit {0}
 
--- The same with the time of day behind each stamp, as a clock tells it.
-abbrev pub DumpsBy : {A : Type 0} → List Mark → Result A StreamFault → List ℕ → Option (List ℕ) → Option (List ℕ)
+-- The same with the time of day behind each stamp, its own or as a clock tells it, where it is asked for.
+abbrev pub DumpsBy : {A : Type 0} → List Mark → Bool → Result A StreamFault → List ℕ → Option (List ℕ) → Option (List ℕ)
     → Type 0
-DumpsBy clock (Ok x) file got gets = (packets_in file ≡ Ok (found_in file))
-    × Appends got gets (timed_text clock [] (found_in file))
-DumpsBy clock (Err (faults.Refused r)) file got gets = packets_in file ≡ Err r
-DumpsBy clock (Err faults.Memory) file got gets = Unit {0}
-DumpsBy clock (Err faults.Device) file got gets = Unit {0}
+DumpsBy clock timed (Ok x) file got gets = (packets_in file ≡ Ok (found_in file))
+    × Appends got gets (timed_text clock timed [] (found_in file))
+DumpsBy clock timed (Err (faults.Refused r)) file got gets = packets_in file ≡ Err r
+DumpsBy clock timed (Err faults.Memory) file got gets = Unit {0}
+DumpsBy clock timed (Err faults.Device) file got gets = Unit {0}

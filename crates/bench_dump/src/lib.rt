@@ -1,7 +1,7 @@
-//! The command `bench dump`: a recording as lines of text, also as its packets come.
+//! The command `bench dump`: a recording as lines of text, in passes over it.
 //!
-//! It may know: headers, bodies, the reader, the packets of a stream, times, numbers of a text. Its tests:
-//! `ch11_tests`, and of packets as they come `ch11_stream_tests`. Its wrong bodies: `edits/`.
+//! It may know: headers, bodies, layouts, the reader, the packets of a stream with `ch11_check`, times, numbers of a
+//! text. Its tests: `ch11_tests`, `ch11_stream_tests`. Its wrong bodies: `edits/`.
 #![tactic(auto)]
 
 mod digits;
@@ -9,8 +9,9 @@ mod input;
 mod laws;
 mod lines;
 mod output;
+mod passes;
 mod places;
-mod skipping_stream;
+mod skipping;
 mod skips;
 mod streaming;
 mod text;
@@ -19,7 +20,6 @@ pub use digits::place_decimal;
 pub use input::{read_all, read_sized};
 pub use laws::timeless_is_plain;
 pub use lines::put_words;
-pub use output::{dump, dump_with_times};
+pub use passes::{dump, dump_with_times};
 pub use places::{place_bus_words, place_bytes};
-pub use skipping_stream::dump_skipping_from;
-pub use streaming::{dump_from, dump_with_times_from};
+pub use skipping::dump_skipping;

@@ -1,6 +1,6 @@
 //! The lines of skipped bytes.
 ghost use Rattle.bench_dump.specs.Printing.{Carries};
-ghost use Rattle.bench_dump.specs.SkippingText.{skip_line, skip_lines, skips_before, skips_behind};
+ghost use Rattle.bench_dump.specs.SkippingText.{skip_line, skip_lines};
 ghost use Rattle.ch11_reader.specs.Codes.{fault_code};
 ghost use Rattle.ch11_stream.specs.Feeding.{IsOther};
 ghost use Rattle.std.specs.Io.KnownBytes.{Appends};
@@ -44,30 +44,6 @@ fn put_skip_line(text: &mut Text, skip: &Skip) -> Result<(), AllocError>
     text.put(letters(&skip.fault))?;
     text.put(b"\n")?;
     Ok(())
-}
-
-/// Prints the first skips, as long as they lie in front of an offset, and answers those behind them.
-pub(crate) fn dump_skips_before<'s, W: Write>(
-    text: &mut Text,
-    out: &mut W,
-    skips: &'s [Skip],
-    offset: usize,
-) -> Result<&'s [Skip], StreamFault>
-    ensures printed { IfOk result (λ behind. Carries (W.contents out.old) text.old (W.contents out.new) text.new
-        (skip_lines (skips_before offset skips.now))) }
-    ensures behind { IfOk result (λ behind. behind.now ≡ skips_behind offset skips.now) }
-    ensures failed { IfErr result IsOther }
-{
-    let mut rest = skips;
-    'skips: while let Some((skip, others)) = rest.split_first() {
-        if skip.offset >= offset {
-            break;
-        }
-        put_skip_line(text, skip)?;
-        hand_on(text, out)?;
-        rest = others;
-    }
-    Ok(rest)
 }
 
 /// Prints all these skips.

@@ -1,4 +1,4 @@
-//! A dump of a recording whose packets come from a reader.
+//! The lines of a recording in one pass over its packets.
 ghost use Rattle.bench_dump.specs.Streaming.{Dumps, DumpsBy};
 ghost use Rattle.std.specs.Prelude.{◌≡◌, ℕ, List, Some};
 
@@ -9,10 +9,10 @@ use ch11_stream::{Advance, Packets, StreamFault};
 use std::alloc::Global;
 use std::io::Write;
 
-/// Prints a recording as its packets come from a reader, in memory for the largest packet of messages or of time: the
-/// text that `dump` prints of all bytes that the reader has left. A recording that can't be read is refused with its
-/// first fault, and then the writer may have got lines of packets in front of it.
-pub fn dump_from<R: Advance + Drop, W: Write>(
+/// Prints a recording as its packets come from a reader, without times of day, in memory for the largest packet of
+/// messages or of time. A recording that can't be read is refused with its first fault, and then the writer may have
+/// got lines of packets in front of it.
+pub(crate) fn print_packets<R: Advance + Drop, W: Write>(
     alloc: Global,
     input: R,
     out: &mut W,
@@ -20,26 +20,33 @@ pub fn dump_from<R: Advance + Drop, W: Write>(
     ensures { (file : List ℕ) → R.remaining input ≡ Some file
         → Dumps result file (W.contents out.old) (W.contents out.new) }
 {
-    let clock = Clock::of(alloc, &[], &[])?;
-    dump_with_times_from(alloc, input, &clock, out)
+    let clock = Clock::unset(alloc);
+    print_packets_by(alloc, input, &clock, false, out)
 }
 
-/// The same with the time of day behind each stamp, where the clock tells one. By the recording's own clock, as
-/// `clock_from` makes it in a pass before this one, it is the text that `dump_with_times` prints.
-pub fn dump_with_times_from<R: Advance + Drop, W: Write>(
+/// The same with the time of day behind each stamp, where it is one or the clock tells one, if they are asked for.
+pub(crate) fn print_packets_by<R: Advance + Drop, W: Write>(
     alloc: Global,
     input: R,
     clock: &Clock,
+    timed: bool,
     out: &mut W,
 ) -> Result<(), StreamFault>
     ensures { (file : List ℕ) → R.remaining input ≡ Some file
-        → DumpsBy clock.now result file (W.contents out.old) (W.contents out.new) }
+        → DumpsBy clock.now timed result file (W.contents out.old) (W.contents out.new) }
 {
     let mut packets = Packets::over(alloc, input)?;
     let mut text = Text::new(alloc);
     'packets: for _made in 0..u64::MAX {
         match packets.next() {
-            Ok(Some(packet)) => dump_packet(&mut text, out, &packet, clock, packets.messages())?,
+            Ok(Some(packet)) => dump_packet(
+                &mut text,
+                out,
+                &packet,
+                clock,
+                timed,
+                packets.messages(),
+            )?,
             Ok(None) => {
                 text.finish(out)?;
                 return Ok(());

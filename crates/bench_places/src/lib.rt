@@ -9,5 +9,5 @@ mod messages;
 mod places;
 mod sought;
 
-pub use places::{latest_place, nth_place, number_in_channel, place_before};
+pub use places::{latest_place, message_numbered, nth_place, number_in_channel, place_before};
 pub use sought::Sought;

@@ -1,13 +1,13 @@
 //! The places of messages.
 ghost use Rattle.bench_places.specs.Places.{count_in_channel, count_to, latest_of, is_sought, numbered, place_before};
-ghost use Rattle.bench_places.specs.Places.{place_of};
+ghost use Rattle.bench_places.specs.Places.{message_of_number, place_of};
 ghost use Rattle.bench_places.specs.Places.{places_behind};
-ghost use Rattle.ch11_f1.specs.Views.{message_of};
+ghost use Rattle.bench_select.specs.Viewed.{viewed_in};
 ghost use Rattle.std.specs.Prelude.{◌≡◌, ◌≤◌, ◌<◌, ◌+◌, ◌^◌, ◌∷◌, [], drop, length, MatchOption, Some, if◌then◌else◌};
 
 use crate::messages::Following;
 use crate::sought::Sought;
-use ch11_f1::Seen;
+use ch11_layout::View;
 use ch11_reader::Index;
 
 /// The messages behind so many of these.
@@ -35,9 +35,9 @@ fn nth_behind(messages: Following<'_, '_>, sought: &Sought, before: u64, n: u64)
     let mut left = n;
     let mut place = before;
     let mut rest = messages;
-    'messages: while let Some((channel, seen)) = rest.next() {
+    'messages: while let Some((channel, view)) = rest.next() {
         place += 1;
-        if sought.is_met(channel, &seen) {
+        if sought.is_met(channel, &view) {
             left -= 1;
             if left == 0 {
                 return Some(place);
@@ -62,15 +62,15 @@ pub fn nth_place(index: &Index<'_>, sought: &Sought, from: u64, n: u64) -> Optio
 /// The place of a message where it meets what is asked of it, and else the latest one so far.
 fn later_of(
     latest: Option<u64>,
-    heard: &Option<(u16, Seen<'_>)>,
+    heard: &Option<(u16, View<'_>)>,
     sought: &Sought,
     place: u64,
 ) -> Option<u64>
     ensures { MatchOption heard.now (result ≡ latest)
-        (λ h. result ≡ (if is_sought sought.now (h.0, message_of h.1) then Some place else latest)) }
+        (λ h. result ≡ (if is_sought sought.now (h.0, h.1) then Some place else latest)) }
 {
     match heard {
-        Some((channel, seen)) if sought.is_met(*channel, seen) => Some(place),
+        Some((channel, view)) if sought.is_met(*channel, view) => Some(place),
         _ => latest,
     }
 }
@@ -101,10 +101,23 @@ pub fn place_before(index: &Index<'_>, sought: &Sought) -> u64
     }
 }
 
+/// The message of a number, counted from 1, with its channel; `None` where there is none. The messages are walked from
+/// the first one on.
+#[tactic(auto, using(crate::proofs::Packets::no_message_past))]
+pub fn message_numbered<'a>(index: &Index<'a>, number: u64) -> Option<(u16, View<'a>)>
+    ensures { result ≡ message_of_number number (viewed_in index.now) }
+{
+    if number == 0 || index.total() < number {
+        return None;
+    }
+    let mut rest = past(Following::all(index), number - 1);
+    rest.next()
+}
+
 /// 1 where the message is of the channel, and else 0.
-fn one_if_of(heard: &Option<(u16, Seen<'_>)>, channel: u16) -> u64
+fn one_if_of(heard: &Option<(u16, View<'_>)>, channel: u16) -> u64
     ensures value { MatchOption heard.now (result ≡ 0)
-        (λ h. result ≡ count_in_channel channel ((h.0, message_of h.1) ∷ [])) }
+        (λ h. result ≡ count_in_channel channel ((h.0, h.1) ∷ [])) }
     ensures few { result ≤ 1 }
 {
     match heard {

@@ -1,10 +1,8 @@
 //! What is asked of a message.
 ghost use Rattle.bench_places.specs.Places.{is_sought};
-ghost use Rattle.ch11_f1.specs.Views.{message_of};
 ghost use Rattle.std.specs.Prelude.{◌≡◌};
 
 use bench_select::selects_commands;
-use ch11_f1::Seen;
 use ch11_layout::View;
 use judge_rules::Selector;
 
@@ -13,7 +11,7 @@ use judge_rules::Selector;
 pub enum Sought {
     /// To be of this channel.
     Channel(u16),
-    /// To have a later stamp than so many ticks of 0.1 µs.
+    /// To be later than so many ticks of 0.1 µs.
     Later(u64),
     /// To have the commands that a selector asks for.
     Commands(Selector),
@@ -21,13 +19,13 @@ pub enum Sought {
 
 impl Sought {
     /// Whether a message of a channel meets it.
-    pub(crate) fn is_met(&self, channel: u16, seen: &Seen<'_>) -> bool
-        ensures { result ≡ is_sought self.now (channel, message_of seen.now) }
+    pub(crate) fn is_met(&self, channel: u16, view: &View<'_>) -> bool
+        ensures { result ≡ is_sought self.now (channel, view.now) }
     {
         match self {
             Sought::Channel(one) => channel == *one,
-            Sought::Later(ticks) => *ticks < seen.stamp,
-            Sought::Commands(selector) => selects_commands(*selector, &View::of(seen)),
+            Sought::Later(ticks) => view.has_time() && *ticks < view.stamp(),
+            Sought::Commands(selector) => selects_commands(*selector, view),
         }
     }
 }

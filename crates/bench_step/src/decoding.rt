@@ -8,8 +8,7 @@ ghost use Rattle.std.specs.Prelude.{◌≡◌, []};
 use crate::manners::Manner;
 use crate::replies::Reply;
 use bench_decode::{Place, Shown, TextLine, write_message};
-use bench_places::number_in_channel;
-use ch11_layout::View;
+use bench_places::{message_numbered, number_in_channel};
 use ch11_reader::Index;
 use replay::ReplayError;
 use std::alloc::{AllocError, Global};
@@ -43,7 +42,7 @@ impl Decoder {
     /// The text of the message of a number, counted from 1 over the file; none where there is no such message.
     pub(crate) fn decode(&mut self, index: &Index<'_>, number: u64) -> Result<(), AllocError> {
         self.text.clear();
-        let Some((channel, seen)) = index.message(number) else {
+        let Some((channel, view)) = message_numbered(index, number) else {
             return Ok(());
         };
         let place = Place {
@@ -51,7 +50,7 @@ impl Decoder {
             channel,
             in_channel: number_in_channel(index, channel, number),
         };
-        if write_message(&mut self.line, &mut self.text, &place, &View::of(&seen)).is_err() {
+        if write_message(&mut self.line, &mut self.text, &place, &view).is_err() {
             return Err(AllocError);
         }
         if self.line.finish(&mut self.text).is_err() {

@@ -1,11 +1,11 @@
 use Rattle.std.proofs.Common.{◌≡◌, ◌≤◌, drop, take}
-use Rattle.ch11_reader.specs.Contents.{heard_in}
+use Rattle.bench_select.specs.Viewed.{viewed_in}
 use Rattle.bench_places.specs.Places.{count_in_channel}
 use Rattle.bench_places.proofs.places.number_in_channel.Given as goal
 
 abbrev pub invariant-loop-passed : goal.invariant-loop-passed
 invariant-loop-passed l = record {
-  rest : l.rest ≡ drop l._passed (heard_in l.index);
-  counted : l.count ≡ count_in_channel l.channel (take l._passed (heard_in l.index));
+  rest : l.rest ≡ drop l._passed (viewed_in l.index);
+  counted : l.count ≡ count_in_channel l.channel (take l._passed (viewed_in l.index));
   few : l.count ≤ l._passed;
 }
