@@ -5,7 +5,7 @@ use Rattle.std.proofs.lemmas.Bool.{cases_eq, eq-eqb, ne_eqb}
 use Rattle.std.proofs.lemmas.List.{length-set, get_or-set_same, get_or-set_other}
 use Rattle.std.proofs.lemmas.List.Concat.{flat_map-cons}
 use Rattle.mil_word.specs.Fields.{has_message_error, has_instrumentation, has_service_request, has_broadcast_received, has_busy, has_subsystem_flag, has_control_acceptance, has_terminal_flag}
-use Rattle.ch11_f1.specs.BodyReading.{Message}
+use Rattle.ch11_layout.specs.Stamps.{Recorded}
 use Rattle.bench_stat.specs.declared.flows.Flow.{Flow}
 use Rattle.bench_stat.specs.declared.slices.Slice.{Slice}
 use Rattle.bench_stat.specs.Sendings.{is_failed, sending_of}
@@ -24,7 +24,7 @@ use Rattle.bench_stat.specs.Replies.{has_reserved, status_words, all_status_word
 use Rattle.bench_stat.specs.Slices.{overlap, IsBusy, with_part}
 use Rattle.bench_stat.proofs.Counting.{one_more, counted_more, summed_more}
 
-abbrev flow_with : (Message → Bool) → Message → List Message → List ℕ → Flow
+abbrev flow_with : (Recorded → Bool) → Recorded → List Recorded → List ℕ → Flow
 flow_with failed m earlier more = record {
   messages = capped (length (m ∷ earlier));
   errors = capped (count_by failed (m ∷ earlier));
@@ -34,11 +34,11 @@ flow_with failed m earlier more = record {
   greatest_gap = greatest (more ++ gaps earlier);
 }
 
-abbrev with_more : Bool → Message → Flow → Flow → Flow
+abbrev with_more : Bool → Recorded → Flow → Flow → Flow
 with_more failed m f g = record g { messages = capped (f.messages + 1); errors = capped (f.errors + one_if failed); begun = m.stamp; ended = Some (end_of m) }
 
 -- with the gap behind the message before, unless the stamp falls
-gap_more : (fell : Bool) (failed : Message → Bool) (m n : Message) (earlier : List Message)
+gap_more : (fell : Bool) (failed : Recorded → Bool) (m n : Recorded) (earlier : List Recorded)
     → with_more (failed m) m (flow_by failed (n ∷ earlier)) (if fell then flow_by failed (n ∷ earlier) else with_this_gap (gap_behind (end_of n) m) (flow_by failed (n ∷ earlier)))
     ≡ flow_with failed m (n ∷ earlier) (if fell then [] else gap_behind (end_of n) m ∷ [])
 gap_more true failed m n earlier =
@@ -50,17 +50,17 @@ gap_more false failed m n earlier =
     let b = counted_more failed m (n ∷ earlier) in
     cc
 
-pub flow_by_more : (failed : Message → Bool) (m : Message) (history : List Message) → with_message_by (failed m) m (flow_by failed history) ≡ flow_by failed (m ∷ history)
+pub flow_by_more : (failed : Recorded → Bool) (m : Recorded) (history : List Recorded) → with_message_by (failed m) m (flow_by failed history) ≡ flow_by failed (m ∷ history)
 flow_by_more failed m [] =
     let a = one_more m [] in
     let b = counted_more failed m [] in
     cc
 flow_by_more failed m (n ∷ earlier) = gap_more (nat_lt m.stamp n.stamp) failed m n earlier
 
-pub flow_more : (m : Message) (history : List Message) → with_message m (flow_of history) ≡ flow_of (m ∷ history)
+pub flow_more : (m : Recorded) (history : List Recorded) → with_message m (flow_of history) ≡ flow_of (m ∷ history)
 flow_more m history = flow_by_more is_failed m history
 
-pub traffic_more : (m : Message) (history : List Message) → with_traffic m (traffic_of history) ≡ traffic_of (m ∷ history)
+pub traffic_more : (m : Recorded) (history : List Recorded) → with_traffic m (traffic_of history) ≡ traffic_of (m ∷ history)
 traffic_more m history =
     let a = one_more m history in
     let b = summed_more size_of m history in
@@ -68,7 +68,7 @@ traffic_more m history =
     let e = stretch_more m history in
     cc
 
-pub errors_more : (m : Message) (history : List Message) → with_errors m (errors_of history) ≡ errors_of (m ∷ history)
+pub errors_more : (m : Recorded) (history : List Recorded) → with_errors m (errors_of history) ≡ errors_of (m ∷ history)
 errors_more m history =
     let a = counted_more is_failed m history in
     let b = counted_more is_silent m history in
@@ -82,7 +82,7 @@ errors_more m history =
 abbrev pub none : Flow
 none = flow_of []
 
-choice_at : (choice : Option ℕ) (failed : Bool) (m : Message) (flows : List Flow) (k : ℕ) → k < length flows
+choice_at : (choice : Option ℕ) (failed : Bool) (m : Recorded) (flows : List Flow) (k : ℕ) → k < length flows
     → get_or (with_choice choice failed m flows) k none ≡ (if is_of k choice then with_message_by failed m (get_or flows k none) else get_or flows k none)
 choice_at None failed m flows k within = refl
 choice_at (Some command) failed m flows k within = elim (cases_eq (entry_of command) k) [
@@ -94,7 +94,7 @@ choice_at (Some command) failed m flows k within = elim (cases_eq (entry_of comm
     new : Flow
     new = with_message_by failed m (get_or flows (entry_of command) none)
 
-choice_many : (choice : Option ℕ) (failed : Bool) (m : Message) (flows : List Flow) → length (with_choice choice failed m flows) ≡ length flows
+choice_many : (choice : Option ℕ) (failed : Bool) (m : Recorded) (flows : List Flow) → length (with_choice choice failed m flows) ≡ length flows
 choice_many None failed m flows = refl
 choice_many (Some command) failed m flows = length-set flows (entry_of command) (with_message_by failed m (get_or flows (entry_of command) none))
 
@@ -141,14 +141,14 @@ is_not : (b : Bool) → (b ≡ true → ⊥) → b ≡ false
 is_not true never = absurd (never refl)
 is_not false never = refl
 
-once : (e : Message → Bool) (failed a b : Bool) (m : Message) (hs : List Message) → a ≡ b → (a ≡ true → failed ≡ e m)
+once : (e : Recorded → Bool) (failed a b : Bool) (m : Recorded) (hs : List Recorded) → a ≡ b → (a ≡ true → failed ≡ e m)
     → (if a then with_message_by failed m (flow_by e hs) else flow_by e hs) ≡ flow_by e (if a || b then m ∷ hs else hs)
 once e failed true true m hs same told = ap (λ (f : Bool). with_message_by f m (flow_by e hs)) (told refl) ∙ flow_by_more e m hs
 once e failed false false m hs same told = refl
 once e failed true false m hs same told = absurd cc
 once e failed false true m hs same told = absurd cc
 
-each_once : (e : Message → Bool) (first second a b : Bool) (m : Message) (hs : List Message) → (a ≡ true → b ≡ true → ⊥) → (a ≡ true → first ≡ e m) → (b ≡ true → second ≡ e m)
+each_once : (e : Recorded → Bool) (first second a b : Bool) (m : Recorded) (hs : List Recorded) → (a ≡ true → b ≡ true → ⊥) → (a ≡ true → first ≡ e m) → (b ≡ true → second ≡ e m)
     → (if b then with_message_by second m (if a then with_message_by first m (flow_by e hs) else flow_by e hs) else (if a then with_message_by first m (flow_by e hs) else flow_by e hs)) ≡ flow_by e (if a || b then m ∷ hs else hs)
 each_once e first second true true m hs never one two = absurd (never refl refl)
 each_once e first second true false m hs never one two = ap (λ (f : Bool). with_message_by f m (flow_by e hs)) (one refl) ∙ flow_by_more e m hs
@@ -156,7 +156,7 @@ each_once e first second false true m hs never one two = ap (λ (f : Bool). with
 each_once e first second false false m hs never one two = refl
 
 -- the flows of entries, where both commands are of one entry, and where they are not
-pub entries_same : (m : Message) (history : List Message) (flows : List Flow) → is_same (sending_of m).first (sending_of m).second ≡ true → AreEntries history flows
+pub entries_same : (m : Recorded) (history : List Recorded) (flows : List Flow) → is_same (sending_of m).first (sending_of m).second ≡ true → AreEntries history flows
     → AreEntries (m ∷ history) (with_choice (sending_of m).first (is_first_failed (sending_of m)) m flows)
 entries_same m history flows same are = record {
   many = choice_many a failed m flows ∙ are.many;
@@ -176,7 +176,7 @@ entries_same m history flows same are = record {
     told : (k : ℕ) → is_of k a ≡ true → failed ≡ is_error_of k m
     told k of = fault_same (is_failed m) (sending_of m).sender_failed (is_same a b) k a b same of (sym (together k a b same) ∙ of)
 
-pub entries_apart : (m : Message) (history : List Message) (flows : List Flow) → is_same (sending_of m).first (sending_of m).second ≡ false → AreEntries history flows
+pub entries_apart : (m : Recorded) (history : List Recorded) (flows : List Flow) → is_same (sending_of m).first (sending_of m).second ≡ false → AreEntries history flows
     → AreEntries (m ∷ history) (with_choice (sending_of m).second (sending_of m).sender_failed m (with_choice (sending_of m).first (is_first_failed (sending_of m)) m flows))
 entries_apart m history flows other are = record {
   many = choice_many b senders m (with_choice a failed m flows) ∙ choice_many a failed m flows ∙ are.many;
@@ -222,10 +222,10 @@ statuses_more [] words = refl
 statuses_more (word ∷ more) words = ap (with_status word) (statuses_more more words) ∙ status_more word (more ++ words)
 
 -- the status words behind the data words of one more message, and those in front of them
-pub replies_more : (m : Message) (history : List Message) (back front : List ℕ) → status_words m ≡ back ++ front → with_statuses back (with_statuses front (replies_of history)) ≡ replies_of (m ∷ history)
+pub replies_more : (m : Recorded) (history : List Recorded) (back front : List ℕ) → status_words m ≡ back ++ front → with_statuses back (with_statuses front (replies_of history)) ≡ replies_of (m ∷ history)
 replies_more m history back front are =
     ap (with_statuses back) (statuses_more front (all_status_words history)) ∙ statuses_more back (front ++ all_status_words history)
     ∙ ap replies_with (sym (append_assoc back front (all_status_words history)) ∙ ap (λ (ws : List ℕ). ws ++ all_status_words history) (sym are) ∙ sym (flat_map-cons status_words m history))
 
-pub part_more : (m : Message) (history : List Message) (s : Slice) → IsBusy history s → IsBusy (m ∷ history) (with_part m s)
+pub part_more : (m : Recorded) (history : List Recorded) (s : Slice) → IsBusy history s → IsBusy (m ∷ history) (with_part m s)
 part_more m history s busy = rw busy (summed_more (overlap s.begin s.«end») m history)

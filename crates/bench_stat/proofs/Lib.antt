@@ -4,7 +4,7 @@ pub mod Present
 pub mod Histories
 mod Stretched
 pub mod Following
-pub mod Packets
 pub mod Streamed
 mod Counted
+mod Kinding
 mod Telling

@@ -1,11 +1,12 @@
 -- The figures of the channels, packet by packet.
-use Rattle.std.proofs.Common.{◌≡◌, inl, inr, ℕ, ◌+◌, ◌<◌, List, [], ◌∷◌, ◌++◌, length, reverse, Bool, true, false, cond, Option, None, Some, refl, sym, ap, subst, ◌∙◌, append_assoc, arith}
+use Rattle.std.proofs.Common.{◌≡◌, inl, inr, ℕ, zero, suc, ◌+◌, ◌-◌, ◌<◌, ◌≤◌, List, [], ◌∷◌, ◌++◌, length, reverse, Bool, true, false, cond, Option, None, Some, refl, sym, ap, subst, ◌∙◌, append_assoc, arith}
 use Rattle.std.specs.Prelude.{◌==◌, ◌&&◌, nat_eq, if◌then◌else◌}
 use Rattle.std.specs.HashMap.{get}
 use Rattle.std.proofs.lemmas.Bool.{cases_eq, eq-eqb, ne_eqb}
 use Rattle.std.proofs.lemmas.List.{append-nil, map-append, map_push, reverse-append}
 use Rattle.ch11_header.specs.declared.header.Header.{Header}
 use Rattle.ch11_f1.specs.BodyReading.{Message, messages_in, ok_or_none}
+use Rattle.ch11_layout.specs.Stamps.{Recorded, kind_of}
 use Rattle.ch11_reader.specs.declared.packet.Packet.{Packet}
 use Rattle.ch11_reader.specs.Recording.{Found, body_of, holds_messages}
 use Rattle.ch11_reader.specs.Contents.{total_in}
@@ -17,7 +18,7 @@ use Rattle.bench_stat.specs.declared.channels.ChannelFigures.{ChannelFigures}
 use Rattle.bench_stat.specs.declared.streaming.TallyByChannel.{TallyByChannel}
 use Rattle.bench_stat.specs.declared.tally.Tally.{Tally}
 use Rattle.bench_stat.specs.Chosen.{picked, chosen, history_of}
-use Rattle.bench_stat.specs.Figures.{channels_below, figures_among, figures_of_channel, has_channel, headers, is_listed}
+use Rattle.bench_stat.specs.Figures.{channels_below, figures_among, figures_of_channel, has_channel, headers, is_listed, statistics}
 use Rattle.bench_stat.specs.Steps.{tally_of}
 use Rattle.bench_stat.specs.Streaming.{AreTalliesOf, IsPacketBehind, tally_in, tally_or_none, with_figures}
 use Rattle.bench_stat.proofs.Present.{at_channel, channel_absent, channel_present, of_other_channel, of_other_kind}
@@ -25,41 +26,41 @@ use Rattle.bench_stat.proofs.Present.{at_channel, channel_absent, channel_presen
 -- ---- one packet more
 
 -- the selected messages of a packet, where it is of the channel
-abbrev own : Selection → ℕ → List Found → Found → List Message
-own s channel ps q = if q.header.channel == channel then picked s channel (total_in ps) q.messages else []
+abbrev own : Selection → ℕ → List Found → Found → List Recorded
+own s channel ps q = if q.header.channel == channel then picked s (kind_of q.header) channel (total_in ps) q.messages else []
 
 chosen_both : (s : Selection) (channel before : ℕ) (ps qs : List Found) → chosen s channel before (ps ++ qs) ≡ chosen s channel before ps ++ chosen s channel (before + total_in ps) qs
 chosen_both s channel before [] qs = let same : before ≡ before + 0 = omega arith in ap (λ (n : ℕ). chosen s channel n qs) same
 chosen_both s channel before (p ∷ ps) qs =
-    let mine = if p.header.channel == channel then picked s channel before p.messages else [] in
+    let mine = if p.header.channel == channel then picked s (kind_of p.header) channel before p.messages else [] in
     let next = before + length p.messages in
     let place : next + total_in ps ≡ before + total_in (p ∷ ps) = omega arith in
-    ap (λ (l : List Message). mine ++ l) (chosen_both s channel next ps qs ∙ ap (λ (n : ℕ). chosen s channel next ps ++ chosen s channel n qs) place)
+    ap (λ (l : List Recorded). mine ++ l) (chosen_both s channel next ps qs ∙ ap (λ (n : ℕ). chosen s channel next ps ++ chosen s channel n qs) place)
     ∙ sym (append_assoc mine (chosen s channel next ps) (chosen s channel (before + total_in (p ∷ ps)) qs))
 
 pub history_more : (s : Selection) (channel : ℕ) (ps : List Found) (q : Found) → history_of s (ps ++ q ∷ []) channel ≡ reverse (own s channel ps q) ++ history_of s ps channel
 history_more s channel ps q =
     let place : 0 + total_in ps ≡ total_in ps = omega arith in
-    ap reverse (chosen_both s channel 0 ps (q ∷ []) ∙ ap (λ (n : ℕ). chosen s channel 0 ps ++ chosen s channel n (q ∷ [])) place ∙ ap (λ (l : List Message). chosen s channel 0 ps ++ l) (append-nil (own s channel ps q)))
+    ap reverse (chosen_both s channel 0 ps (q ∷ []) ∙ ap (λ (n : ℕ). chosen s channel 0 ps ++ chosen s channel n (q ∷ [])) place ∙ ap (λ (l : List Recorded). chosen s channel 0 ps ++ l) (append-nil (own s channel ps q)))
     ∙ reverse-append (chosen s channel 0 ps) (own s channel ps q)
 
-history_here : (s : Selection) (ps : List Found) (q : Found) → history_of s (ps ++ q ∷ []) q.header.channel ≡ reverse (picked s q.header.channel (total_in ps) q.messages) ++ history_of s ps q.header.channel
+history_here : (s : Selection) (ps : List Found) (q : Found) → history_of s (ps ++ q ∷ []) q.header.channel ≡ reverse (picked s (kind_of q.header) q.header.channel (total_in ps) q.messages) ++ history_of s ps q.header.channel
 history_here s ps q =
     history_more s q.header.channel ps q
-    ∙ ap (λ (b : Bool). reverse (if b then picked s q.header.channel (total_in ps) q.messages else []) ++ history_of s ps q.header.channel) (eq-eqb q.header.channel q.header.channel refl)
+    ∙ ap (λ (b : Bool). reverse (if b then picked s (kind_of q.header) q.header.channel (total_in ps) q.messages else []) ++ history_of s ps q.header.channel) (eq-eqb q.header.channel q.header.channel refl)
 
 pub history_other : (s : Selection) (channel : ℕ) (ps : List Found) (q : Found) → (q.header.channel ≡ channel → ⊥) → history_of s (ps ++ q ∷ []) channel ≡ history_of s ps channel
 history_other s channel ps q other =
-    history_more s channel ps q ∙ ap (λ (b : Bool). reverse (if b then picked s channel (total_in ps) q.messages else []) ++ history_of s ps channel) (ne_eqb q.header.channel channel other)
+    history_more s channel ps q ∙ ap (λ (b : Bool). reverse (if b then picked s (kind_of q.header) channel (total_in ps) q.messages else []) ++ history_of s ps channel) (ne_eqb q.header.channel channel other)
 
 history_same : (s : Selection) (channel : ℕ) (ps : List Found) (q : Found) → q.messages ≡ [] → history_of s (ps ++ q ∷ []) channel ≡ history_of s ps channel
-history_same s channel ps q none = history_more s channel ps q ∙ ap (λ (l : List Message). reverse l ++ history_of s ps channel) (go (q.header.channel == channel))
+history_same s channel ps q none = history_more s channel ps q ∙ ap (λ (l : List Recorded). reverse l ++ history_of s ps channel) (go (q.header.channel == channel))
   where
-    go : (b : Bool) → (if b then picked s channel (total_in ps) q.messages else []) ≡ []
-    go true = ap (picked s channel (total_in ps)) none
+    go : (b : Bool) → (if b then picked s (kind_of q.header) channel (total_in ps) q.messages else []) ≡ []
+    go true = ap (picked s (kind_of q.header) channel (total_in ps)) none
     go false = refl
 
-headers_more : (ps : List Found) (q : Found) → headers (ps ++ q ∷ []) ≡ headers ps ++ q.header ∷ []
+pub headers_more : (ps : List Found) (q : Found) → headers (ps ++ q ∷ []) ≡ headers ps ++ q.header ∷ []
 headers_more ps q = map-append (λ (p : Found). p.header) ps (q ∷ [])
 
 has_same : (channel : ℕ) (ps : List Found) (q : Found) → (has : has_channel channel (headers ps ++ q.header ∷ []) ≡ has_channel channel (headers ps)) → has_channel channel (headers (ps ++ q ∷ [])) ≡ has_channel channel (headers ps)
@@ -70,7 +71,7 @@ has_same channel ps q has = ap (has_channel channel) (headers_more ps q) ∙ has
 tally_same : (s : Selection) (channel : ℕ) (ps : List Found) (q : Found) → has_channel channel (headers (ps ++ q ∷ [])) ≡ has_channel channel (headers ps) → history_of s (ps ++ q ∷ []) channel ≡ history_of s ps channel
     → tally_in s ps channel ≡ tally_in s (ps ++ q ∷ []) channel
 tally_same s channel ps q has history =
-    ap (λ (h : List Message). if is_listed s (headers ps) channel then Some (tally_of channel h) else None) (sym history)
+    ap (λ (h : List Recorded). if is_listed s (headers ps) channel then Some (tally_of channel h) else None) (sym history)
     ∙ ap (λ (b : Bool). if is_chosen s.channel channel && b then Some (tally_of channel (history_of s (ps ++ q ∷ []) channel)) else None) (sym has)
 
 tally_unchosen : (s : Selection) (channel : ℕ) (ps : List Found) → is_chosen s.channel channel ≡ false → tally_in s ps channel ≡ None
@@ -89,7 +90,7 @@ tally_absent s channel ps is has =
 -- ---- all channels
 
 pub nothing_yet : (s : Selection) (t : TallyByChannel) → ((channel : ℕ) → get nat_eq t.channels channel ≡ None) → AreTalliesOf s [] t
-nothing_yet s t empty = record { each = λ channel. empty channel ∙ sym (go (is_chosen s.channel channel) channel); none = λ channel is. refl }
+nothing_yet s t empty = record { each = λ channel. empty channel ∙ sym (go (is_chosen s.channel channel) channel); above = λ channel past. empty channel; none = λ channel is. refl }
   where
     go : (b : Bool) (channel : ℕ) → (if b && false then Some (tally_of channel []) else None) ≡ None
     go true channel = refl
@@ -114,6 +115,7 @@ passed_other s ps q t are empty other = record {
   each = λ channel.
       are.each channel
       ∙ tally_same s channel ps q (has_same channel ps q (of_other_kind channel (headers ps) q.header other)) (history_same s channel ps q (empty (ne_eqb q.header.kind 25 other)));
+  above = are.above;
   none = none_more s ps q t are empty;
 }
 
@@ -126,6 +128,7 @@ passed_channel s ps q t are empty unchosen = record {
         tally_unchosen s channel ps is ∙ sym (tally_unchosen s channel (ps ++ q ∷ []) is)
     | inr other ↦ tally_same s channel ps q (has_same channel ps q (of_other_channel channel (headers ps) q.header other)) (history_other s channel ps q other)
   ];
+  above = are.above;
   none = none_more s ps q t are empty;
 }
 
@@ -139,15 +142,18 @@ begun s ps t channel are is = ap (tally_or_none channel) (are.each channel) ∙ 
 
 -- a packet whose messages were counted
 pub counted : (s : Selection) (ps : List Found) (q : Found) (t next : TallyByChannel) (tally : Tally) → AreTalliesOf s ps t → (holds_messages q.header ≡ false → q.messages ≡ []) → q.header.kind ≡ 25 → is_chosen s.channel q.header.channel ≡ true
-    → tally ≡ tally_of q.header.channel (reverse (picked s q.header.channel (total_in ps) q.messages) ++ history_of s ps q.header.channel)
-    → ((channel : ℕ) → get nat_eq next.channels channel ≡ (if q.header.channel == channel then Some tally else get nat_eq t.channels channel)) → AreTalliesOf s (ps ++ q ∷ []) next
-counted s ps q t next tally are empty kind is one put = record {
+    → tally ≡ tally_of q.header.channel (reverse (picked s (kind_of q.header) q.header.channel (total_in ps) q.messages) ++ history_of s ps q.header.channel)
+    → ((channel : ℕ) → get nat_eq next.channels channel ≡ (if q.header.channel == channel then Some tally else get nat_eq t.channels channel)) → t.end ≤ next.end → q.header.channel < next.end → AreTalliesOf s (ps ++ q ∷ []) next
+counted s ps q t next tally are empty kind is one put kept reach = record {
   each = λ channel. elim (cases_eq q.header.channel channel) [
     | inl here ↦ subst (λ (k : ℕ). get nat_eq next.channels k ≡ tally_in s (ps ++ q ∷ []) k) here own_channel
     | inr other ↦
         put channel ∙ ap (λ (b : Bool). if b then Some tally else get nat_eq t.channels channel) (ne_eqb q.header.channel channel other) ∙ are.each channel
         ∙ tally_same s channel ps q (has_same channel ps q (of_other_channel channel (headers ps) q.header other)) (history_other s channel ps q other)
   ];
+  above = λ channel past.
+      let other : q.header.channel ≡ channel → ⊥ = λ same. omega (arith, same, past, reach) in
+      put channel ∙ ap (λ (b : Bool). if b then Some tally else get nat_eq t.channels channel) (ne_eqb q.header.channel channel other) ∙ are.above channel (omega (arith, past, kept));
   none = none_more s ps q t are empty;
 }
   where
@@ -161,20 +167,20 @@ counted s ps q t next tally are empty kind is one put = record {
 
 pub packet_counted : (s : Selection) (ps : List Found) (q : Found) (p : Packet) (messages : List Message) (t next : TallyByChannel) (before after : Tally) → AreTalliesOf s ps t → IsPacketBehind ps q p messages
     → p.header.kind ≡ 25 → is_chosen s.channel p.header.channel ≡ true → before ≡ tally_or_none p.header.channel (get nat_eq t.channels p.header.channel)
-    → ((history : List Message) → before ≡ tally_of p.header.channel history → after ≡ tally_of p.header.channel (reverse (picked s p.header.channel p.before messages) ++ history))
-    → ((channel : ℕ) → get nat_eq next.channels channel ≡ (if p.header.channel == channel then Some after else get nat_eq t.channels channel)) → AreTalliesOf s (ps ++ q ∷ []) next
-packet_counted s ps q p messages t next before after are b kind is begins noted put =
+    → ((history : List Recorded) → before ≡ tally_of p.header.channel history → after ≡ tally_of p.header.channel (reverse (picked s (kind_of p.header) p.header.channel p.before messages) ++ history))
+    → ((channel : ℕ) → get nat_eq next.channels channel ≡ (if p.header.channel == channel then Some after else get nat_eq t.channels channel)) → t.end ≤ next.end → p.header.channel < next.end → AreTalliesOf s (ps ++ q ∷ []) next
+packet_counted s ps q p messages t next before after are b kind is begins noted put kept reach =
     counted s ps q t next after are b.other (ap (λ (h : Header). h.kind) b.header ∙ kind) (ap (λ (h : Header). is_chosen s.channel h.channel) b.header ∙ is) one
-    (λ channel. put channel ∙ ap (λ (h : Header). if h.channel == channel then Some after else get nat_eq t.channels channel) (sym b.header))
+    (λ channel. put channel ∙ ap (λ (h : Header). if h.channel == channel then Some after else get nat_eq t.channels channel) (sym b.header)) kept (omega (arith, reach, ap (λ (h : Header). h.channel) b.header))
   where
-    base : after ≡ tally_of p.header.channel (reverse (picked s p.header.channel p.before messages) ++ history_of s ps p.header.channel)
+    base : after ≡ tally_of p.header.channel (reverse (picked s (kind_of p.header) p.header.channel p.before messages) ++ history_of s ps p.header.channel)
     base = noted (history_of s ps p.header.channel) (begins ∙ begun s ps t p.header.channel are is)
 
-    one : after ≡ tally_of q.header.channel (reverse (picked s q.header.channel (total_in ps) q.messages) ++ history_of s ps q.header.channel)
+    one : after ≡ tally_of q.header.channel (reverse (picked s (kind_of q.header) q.header.channel (total_in ps) q.messages) ++ history_of s ps q.header.channel)
     one =
-        base ∙ ap (λ (h : Header). tally_of h.channel (reverse (picked s h.channel p.before messages) ++ history_of s ps h.channel)) (sym b.header)
-        ∙ ap (λ (n : ℕ). tally_of q.header.channel (reverse (picked s q.header.channel n messages) ++ history_of s ps q.header.channel)) b.before
-        ∙ ap (λ (ms : List Message). tally_of q.header.channel (reverse (picked s q.header.channel (total_in ps) ms) ++ history_of s ps q.header.channel)) (sym b.given)
+        base ∙ ap (λ (h : Header). tally_of h.channel (reverse (picked s (kind_of h) h.channel p.before messages) ++ history_of s ps h.channel)) (sym b.header)
+        ∙ ap (λ (n : ℕ). tally_of q.header.channel (reverse (picked s (kind_of q.header) q.header.channel n messages) ++ history_of s ps q.header.channel)) b.before
+        ∙ ap (λ (ms : List Message). tally_of q.header.channel (reverse (picked s (kind_of q.header) q.header.channel (total_in ps) ms) ++ history_of s ps q.header.channel)) (sym b.given)
 
 pub packet_of_other_kind : (s : Selection) (ps : List Found) (q : Found) (p : Packet) (messages : List Message) (t : TallyByChannel) → AreTalliesOf s ps t → IsPacketBehind ps q p messages → (p.header.kind ≡ 25 → ⊥) → AreTalliesOf s (ps ++ q ∷ []) t
 packet_of_other_kind s ps q p messages t are b other = passed_other s ps q t are b.other (λ e. other (ap (λ (h : Header). h.kind) (sym b.header) ∙ e))
@@ -233,3 +239,17 @@ next_figures s n ps t figures more are is with = with ∙ go (get nat_eq t.chann
     go : (o : Option Tally) → get nat_eq t.channels n ≡ o → with_figures o figures ≡ figures_among s (channels_below s (n + 1) (headers ps)) ps
     go None got = same_figures s n ps t figures are got is
     go (Some tally) got = more_figures s n ps t figures tally are got is
+
+-- from the end on there are no figures
+rest_figures : (s : Selection) (n k : ℕ) (ps : List Found) (t : TallyByChannel) (figures : List ChannelFigures) → AreTalliesOf s ps t → t.end ≤ n → figures ≡ figures_among s (channels_below s n (headers ps)) ps
+    → figures ≡ figures_among s (channels_below s (n + k) (headers ps)) ps
+rest_figures s n zero ps t figures are past is = let same : n ≡ n + 0 = omega arith in is ∙ ap (λ (m : ℕ). figures_among s (channels_below s m (headers ps)) ps) same
+rest_figures s n (suc k) ps t figures are past is =
+    let next : n + k + 1 ≡ n + suc k = omega arith in
+    same_figures s (n + k) ps t figures are (are.above (n + k) (omega (arith, past))) (rest_figures s n k ps t figures are past is) ∙ ap (λ (m : ℕ). figures_among s (channels_below s m (headers ps)) ps) next
+
+pub all_figures : (s : Selection) (n : ℕ) (ps : List Found) (t : TallyByChannel) (figures : List ChannelFigures) → AreTalliesOf s ps t → t.end ≤ n → n ≤ 65536 → figures ≡ figures_among s (channels_below s n (headers ps)) ps
+    → figures ≡ statistics s ps
+all_figures s n ps t figures are past within is =
+    let whole : n + (65536 - n) ≡ 65536 = omega (arith, within) in
+    rest_figures s n (65536 - n) ps t figures are past is ∙ ap (λ (m : ℕ). figures_among s (channels_below s m (headers ps)) ps) whole

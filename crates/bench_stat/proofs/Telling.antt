@@ -11,6 +11,7 @@ use Rattle.std.proofs.lemmas.List.Folds.{list_any-append}
 use Rattle.std.proofs.lemmas.List.Sums.{count_by-le-length, length-filter}
 use Rattle.ch11_header.specs.Flags.{has_overflow}
 use Rattle.ch11_f1.specs.BodyReading.{Message}
+use Rattle.ch11_layout.specs.Stamps.{Recorded, kind_of}
 use Rattle.ch11_reader.specs.declared.packet.Packet.{Packet}
 use Rattle.ch11_reader.specs.Listing.{listed_behind, listing_behind, listing}
 use Rattle.ch11_reader.specs.Recording.{Found}
@@ -104,17 +105,17 @@ told_elsewhere : (shown : Shown) (s : Selection) (channel : ℕ) (ps : List Foun
     → IsTold shown s ps channel t → IsTold shown s (ps ++ q ∷ []) channel t
 told_elsewhere shown s channel ps q p messages t b other is = record {
   losses = is.losses ∙ sym (losses_elsewhere channel ps q p b.listed other);
-  messages = passed_elsewhere (λ (h : List Message). IsFollowed shown h t.messages) s channel ps q p messages b.behind other is.messages;
+  messages = passed_elsewhere (λ (h : List Recorded). IsFollowed shown h t.messages) s channel ps q p messages b.behind other is.messages;
 }
 
 -- one of the channel
 pub told_here : (shown : Shown) (s : Selection) (ps : List Found) (q : Found) (p : Packet) (messages : List Message) (old new : Told) → IsListedBehind ps q p messages → IsTold shown s ps p.header.channel old
     → ((packets : List Packet) → length packets < 2 ^ 64 - 1 → old.losses ≡ losses_of p.header.channel packets → new.losses ≡ losses_of p.header.channel (packets ++ p ∷ []))
-    → ((history : List Message) → IsFollowed shown history old.messages → IsFollowed shown (reverse (picked s p.header.channel p.before messages) ++ history) new.messages)
+    → ((history : List Recorded) → IsFollowed shown history old.messages → IsFollowed shown (reverse (picked s (kind_of p.header) p.header.channel p.before messages) ++ history) new.messages)
     → IsTold shown s (ps ++ q ∷ []) p.header.channel new
 told_here shown s ps q p messages old new b is noted counted = record {
   losses = noted (listing ps) (few_listed ps b.few) is.losses ∙ ap (losses_of p.header.channel) (sym (listing_one ps q p b.listed));
-  messages = counted_here (λ (h : List Message). IsFollowed shown h new.messages) s p.header.channel ps q p messages b.behind refl (counted (history_of s ps p.header.channel) is.messages);
+  messages = counted_here (λ (h : List Recorded). IsFollowed shown h new.messages) s p.header.channel ps q p messages b.behind refl (counted (history_of s ps p.header.channel) is.messages);
 }
 
 -- ---- all channels

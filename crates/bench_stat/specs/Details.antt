@@ -4,14 +4,14 @@
 use Rattle.std.specs.Prelude.{ℕ, ◌==◌, Bool, ◌&&◌, List, length}
 use Rattle.std.specs.List.{filter}
 use Rattle.ch11_header.specs.Flags.{has_overflow}
-use Rattle.ch11_f1.specs.BodyReading.{Message}
+use Rattle.ch11_layout.specs.Stamps.{Recorded}
 use Rattle.ch11_reader.specs.declared.packet.Packet.{Packet}
 use Rattle.bench_stat.specs.declared.details.Details.{Details}
 use Rattle.bench_stat.specs.declared.losses.Losses.{Losses}
 use Rattle.bench_stat.specs.Flows.{flow_of}
 use Rattle.bench_stat.specs.Replies.{replies_of}
 
-abbrev pub details_of : List Message → Details
+abbrev pub details_of : List Recorded → Details
 details_of history = record { flow = flow_of history; replies = replies_of history }
 
 -- packets of a channel with the overflow flag

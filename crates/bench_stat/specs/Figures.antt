@@ -5,11 +5,11 @@ use Rattle.std.specs.Prelude.{if◌then◌else◌, List, [], ◌∷◌, length, 
 use Rattle.std.specs.List.{sum_by, count_by, filter, list_any, range_with_len}
 use Rattle.mil_word.specs.Fields.{field_values}
 use Rattle.ch11_header.specs.declared.header.Header.{Header}
-use Rattle.ch11_f1.specs.BodyReading.{Message}
-use Rattle.ch11_reader.specs.declared.packet.Packet.{Packet}
+use Rattle.ch11_layout.specs.Stamps.{Recorded}
+use Rattle.ch11_layout.specs.declared.stamps.StampKind.{StampKind}
+use Rattle.ch11_layout.specs.declared.stamps.StampKind.TheVariants.{Counter, TimeOfDay, Unknown}
 use Rattle.ch11_reader.specs.Contents.{capped}
 use Rattle.ch11_reader.specs.Recording.{Found, holds_messages}
-use Rattle.bench_select.specs.Channels.{AreMarks}
 use Rattle.bench_select.specs.declared.selection.Selection.{Selection}
 use Rattle.bench_select.specs.Selectors.{is_chosen}
 use Rattle.bench_stat.specs.Chosen.{history_of}
@@ -26,15 +26,31 @@ use Rattle.bench_stat.specs.Sendings.{calls, is_failed, is_retry_behind, latest,
 use Rattle.bench_stat.specs.Stretches.{span, stretches_of}
 pub use Rattle.bench_stat.specs.Measures.{one_if, duration, end_of, least, greatest}
 
+-- what the stamps of messages are; where they are of more than one kind, no times are known
+abbrev pub joined : Option StampKind → StampKind → StampKind
+joined None kind = kind
+joined (Some Counter) Counter = Counter
+joined (Some Counter) TimeOfDay = Unknown
+joined (Some Counter) Unknown = Unknown
+joined (Some TimeOfDay) Counter = Unknown
+joined (Some TimeOfDay) TimeOfDay = TimeOfDay
+joined (Some TimeOfDay) Unknown = Unknown
+joined (Some Unknown) kind = Unknown
+
+abbrev pub stamps_of : List Recorded → Option StampKind
+stamps_of [] = None
+stamps_of (m ∷ earlier) = Some (joined (stamps_of earlier) m.kind)
+
 -- messages, words and times of a channel: from the least stamp to the greatest one and to the greatest end of a
 -- message, and its stretches
-abbrev pub traffic_of : List Message → Traffic
+abbrev pub traffic_of : List Recorded → Traffic
 traffic_of history = record {
   messages = capped (length history);
   words = capped (sum_by size_of history);
   busy = capped (sum_by duration history);
-  begin = least (2 ^ 64 - 1) (map (λ (m : Message). m.stamp) history);
-  last = greatest (map (λ (m : Message). m.stamp) history);
+  stamps = stamps_of history;
+  begin = least (2 ^ 64 - 1) (map (λ (m : Recorded). m.stamp) history);
+  last = greatest (map (λ (m : Recorded). m.stamp) history);
   «end» = greatest (map end_of history);
   stretches = stretches_of history;
 }
@@ -44,27 +60,27 @@ abbrev pub share_of : ℕ → ℕ → Option ℕ
 share_of busy time = if time == 0 then None else Some (capped (busy * 10000 / time))
 
 -- that of the span
-abbrev pub load : List Message → Option ℕ
+abbrev pub load : List Recorded → Option ℕ
 load history = share_of (capped (sum_by duration history)) (span history)
 
 -- errors by their kind, one message under each kind that its block status word names
-abbrev pub is_silent : Message → Bool
+abbrev pub is_silent : Recorded → Bool
 is_silent m = has_response_timeout m.block
 
-abbrev pub is_miscounted : Message → Bool
+abbrev pub is_miscounted : Recorded → Bool
 is_miscounted m = has_word_count_error m.block
 
-abbrev pub is_of_other_sync : Message → Bool
+abbrev pub is_of_other_sync : Recorded → Bool
 is_of_other_sync m = has_sync_type_error m.block
 
-abbrev pub is_unsound : Message → Bool
+abbrev pub is_unsound : Recorded → Bool
 is_unsound m = has_invalid_word_error m.block
 
 -- an error of none of these kinds
-abbrev pub is_otherwise_failed : Message → Bool
+abbrev pub is_otherwise_failed : Recorded → Bool
 is_otherwise_failed m = is_failed m && not (is_silent m || (is_miscounted m || (is_of_other_sync m || is_unsound m)))
 
-abbrev pub errors_of : List Message → Errors
+abbrev pub errors_of : List Recorded → Errors
 errors_of history = record {
   messages = capped (count_by is_failed history);
   response = capped (count_by is_silent history);
@@ -111,11 +127,11 @@ unfoldable pub terminals_of : List Call → List TerminalFigures
 terminals_of cs = map (λ address. figures_of (calls_to address cs)) (range_with_len 0 field_values)
 
 -- how many messages are a retry on the other line of the one before
-abbrev pub retries : List Message → ℕ
+abbrev pub retries : List Recorded → ℕ
 retries [] = 0
 retries (m ∷ earlier) = one_if (is_retry_behind (latest earlier) (sending_of m)) + retries earlier
 
-abbrev pub figures_of_channel : ℕ → List Message → ChannelFigures
+abbrev pub figures_of_channel : ℕ → List Recorded → ChannelFigures
 figures_of_channel channel history = record {
   channel = channel;
   traffic = traffic_of history;
@@ -130,14 +146,6 @@ has_channel channel hs = list_any (λ (h : Header). holds_messages h && (h.chann
 
 abbrev pub headers : List Found → List Header
 headers ps = map (λ (p : Found). p.header) ps
-
--- the headers that an index lists
-abbrev pub headers_listed : List Packet → List Header
-headers_listed entries = map (λ (e : Packet). e.header) entries
-
--- there is a mark at each channel that has such packets, and at no other
-abbrev pub ArePresent : List Bool → List Header → Type 0
-ArePresent marks hs = AreMarks (λ channel. has_channel channel hs) marks
 
 -- the selection is of the channel, and there are such packets of it
 abbrev pub is_listed : Selection → List Header → ℕ → Bool

@@ -4,7 +4,7 @@ use Rattle.std.specs.Prelude.{ℕ, ◌+◌, ◌-◌, ◌^◌, Bool, nat_lt, if�
 use Rattle.std.specs.Prelude.{Option, None, Some, min, max}
 use Rattle.std.specs.List.{count_by}
 use Rattle.mil_word.specs.Timing.{contiguous_gap}
-use Rattle.ch11_f1.specs.BodyReading.{Message}
+use Rattle.ch11_layout.specs.Stamps.{Recorded}
 use Rattle.bench_stat.specs.declared.flows.Flow.{Flow}
 use Rattle.bench_stat.specs.Sendings.{is_failed}
 use Rattle.ch11_reader.specs.Contents.{capped}
@@ -13,26 +13,26 @@ use Rattle.bench_stat.specs.Stretches.{latest_stamp}
 pub use Rattle.bench_stat.specs.Measures.{end_of}
 
 -- the end of the latest of messages that stand newest first
-abbrev pub latest_end : List Message → Option ℕ
+abbrev pub latest_end : List Recorded → Option ℕ
 latest_end [] = None
 latest_end (m ∷ earlier) = Some (end_of m)
 
 -- the gap between a message and one before it that ended then, in ticks
-abbrev pub gap_behind : ℕ → Message → ℕ
+abbrev pub gap_behind : ℕ → Recorded → ℕ
 gap_behind end m = capped (m.stamp - end + contiguous_gap)
 
 -- that between a message and the one before it; none where the stamp falls, since another recording begins there
-abbrev pub gap_before : List Message → Message → List ℕ
+abbrev pub gap_before : List Recorded → Recorded → List ℕ
 gap_before [] m = []
 gap_before (latest ∷ earlier) m = if nat_lt m.stamp latest.stamp then [] else gap_behind (end_of latest) m ∷ []
 
 -- the gaps between messages that stand newest first
-abbrev pub gaps : List Message → List ℕ
+abbrev pub gaps : List Recorded → List ℕ
 gaps [] = []
 gaps (m ∷ earlier) = gap_before earlier m ++ gaps earlier
 
 -- a flow, in which an error is told so
-abbrev pub flow_by : (Message → Bool) → List Message → Flow
+abbrev pub flow_by : (Recorded → Bool) → List Recorded → Flow
 flow_by failed history = record {
   messages = capped (length history);
   errors = capped (count_by failed history);
@@ -42,18 +42,18 @@ flow_by failed history = record {
   greatest_gap = greatest (gaps history);
 }
 
-abbrev pub flow_of : List Message → Flow
+abbrev pub flow_of : List Recorded → Flow
 flow_of history = flow_by is_failed history
 
 -- a flow with one more gap, and with one more message
 abbrev pub with_this_gap : ℕ → Flow → Flow
 with_this_gap gap f = record f { least_gap = min gap f.least_gap; greatest_gap = max gap f.greatest_gap }
 
-abbrev pub with_gap : Option ℕ → Message → Flow → Flow
+abbrev pub with_gap : Option ℕ → Recorded → Flow → Flow
 with_gap None m f = f
 with_gap (Some end) m f = if nat_lt m.stamp f.begun then f else with_this_gap (gap_behind end m) f
 
-abbrev pub with_message_by : Bool → Message → Flow → Flow
+abbrev pub with_message_by : Bool → Recorded → Flow → Flow
 with_message_by failed m f = record (with_gap f.ended m f) {
   messages = capped (f.messages + 1);
   errors = capped (f.errors + one_if failed);
@@ -61,5 +61,5 @@ with_message_by failed m f = record (with_gap f.ended m f) {
   ended = Some (end_of m);
 }
 
-abbrev pub with_message : Message → Flow → Flow
+abbrev pub with_message : Recorded → Flow → Flow
 with_message m f = with_message_by (is_failed m) m f

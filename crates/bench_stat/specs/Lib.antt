@@ -13,3 +13,4 @@ pub mod Streaming
 pub mod Details
 pub mod Times
 pub mod Told
+pub mod Kinds

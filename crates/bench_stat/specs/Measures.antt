@@ -1,7 +1,7 @@
 -- How long messages take, and how numbers are put together (own choice).
 use Rattle.std.specs.Prelude.{ℕ, ◌+◌, ◌*◌, ◌-◌, Bool, if◌then◌else◌, List, [], ◌∷◌, min, max}
 use Rattle.mil_word.specs.Timing.{word_time, contiguous_gap}
-use Rattle.ch11_f1.specs.BodyReading.{Message}
+use Rattle.ch11_layout.specs.Stamps.{Recorded}
 use Rattle.ch11_layout.specs.Layouts.{size_of, first_gap, second_gap}
 use Rattle.ch11_reader.specs.Contents.{capped}
 
@@ -10,11 +10,11 @@ one_if b = if b then 1 else 0
 
 -- how long a message takes, in ticks: 200 a word, and what lies between its words. A gap is measured from the middle
 -- of a parity bit to the middle of a sync, which is 20 ticks where nothing lies between (4.3.3.7, 4.3.3.8).
-abbrev pub duration : Message → ℕ
+abbrev pub duration : Recorded → ℕ
 duration m = word_time * size_of m + ((first_gap m - contiguous_gap) + (second_gap m - contiguous_gap))
 
 -- the end of a message, in ticks
-abbrev pub end_of : Message → ℕ
+abbrev pub end_of : Recorded → ℕ
 end_of m = capped (m.stamp + duration m)
 
 -- the least number of a list, or a bound

@@ -4,7 +4,7 @@ use Rattle.std.specs.List.{count_by, flat_map}
 use Rattle.mil_word.specs.Fields.{has_bit, has_message_error, has_instrumentation, has_service_request}
 use Rattle.mil_word.specs.Fields.{has_broadcast_received, has_busy, has_subsystem_flag, has_control_acceptance}
 use Rattle.mil_word.specs.Fields.{has_terminal_flag}
-use Rattle.ch11_f1.specs.BodyReading.{Message}
+use Rattle.ch11_layout.specs.Stamps.{Recorded}
 use Rattle.ch11_layout.specs.Layouts.{size_of, word_of, commands_in, data_start, data_end}
 use Rattle.bench_stat.specs.declared.replies.Replies.{Replies}
 use Rattle.ch11_reader.specs.Contents.{capped}
@@ -15,14 +15,14 @@ abbrev pub has_reserved : ℕ → Bool
 has_reserved status = has_bit 7 status || (has_bit 6 status || has_bit 5 status)
 
 -- the word at a place, if that is before another
-abbrev pub word_before : Message → ℕ → ℕ → List ℕ
+abbrev pub word_before : Recorded → ℕ → ℕ → List ℕ
 word_before m place end = if nat_lt place end then word_of m.bytes place ∷ [] else []
 
 -- the status words of a message, behind the data words and in front of them; newest first, as those of all messages
-abbrev pub status_words : Message → List ℕ
+abbrev pub status_words : Recorded → List ℕ
 status_words m = word_before m (data_end m) (size_of m) ++ word_before m (commands_in m) (data_start m)
 
-abbrev pub all_status_words : List Message → List ℕ
+abbrev pub all_status_words : List Recorded → List ℕ
 all_status_words history = flat_map status_words history
 
 abbrev pub replies_with : List ℕ → Replies
@@ -39,7 +39,7 @@ replies_with words = record {
   terminal = capped (count_by has_terminal_flag words);
 }
 
-abbrev pub replies_of : List Message → Replies
+abbrev pub replies_of : List Recorded → Replies
 replies_of history = replies_with (all_status_words history)
 
 -- one more status word

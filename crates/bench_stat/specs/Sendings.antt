@@ -4,7 +4,7 @@ use Rattle.std.specs.Prelude.{ℕ, ◌==◌, Bool, true, false, not, ◌&&◌, n
 use Rattle.std.specs.Prelude.{Some}
 use Rattle.std.specs.List.{flat_map}
 use Rattle.mil_word.specs.Fields.{address_of, is_mode, is_transmit}
-use Rattle.ch11_f1.specs.BodyReading.{Message}
+use Rattle.ch11_layout.specs.Stamps.{Recorded}
 use Rattle.ch11_layout.specs.BlockStatus.{is_on_line_b, has_error}
 use Rattle.ch11_layout.specs.Layouts.{size_of, word_of, is_between, first_gap, second_gap}
 use Rattle.bench_stat.specs.declared.sendings.Sending.{Sending}
@@ -14,15 +14,15 @@ use Rattle.bench_stat.specs.declared.calls.CallKind.{CallKind}
 use Rattle.bench_stat.specs.declared.calls.CallKind.TheVariants.{Receive, Transmit, Mode}
 
 -- the bus word at a place, if there is one
-abbrev pub word_at : ℕ → Message → Option ℕ
+abbrev pub word_at : ℕ → Recorded → Option ℕ
 word_at place m = if nat_lt place (size_of m) then Some (word_of m.bytes place) else None
 
 -- the message had an error
-abbrev pub is_failed : Message → Bool
+abbrev pub is_failed : Recorded → Bool
 is_failed m = has_error m.block
 
 -- line, error, whose it is, and command words of a message
-abbrev pub sending_of : Message → Sending
+abbrev pub sending_of : Recorded → Sending
 sending_of m = record {
   line_b = is_on_line_b m.block;
   failed = is_failed m;
@@ -55,11 +55,11 @@ calls_by s one two (Some first) (Some second) =
 abbrev pub calls_sent : Sending → ℕ → ℕ → List Call
 calls_sent s one two = calls_by s one two s.first s.second
 
-abbrev pub calls_of : Message → List Call
+abbrev pub calls_of : Recorded → List Call
 calls_of m = calls_sent (sending_of m) (first_gap m) (second_gap m)
 
 -- all calls of a channel's messages; both stand newest first
-abbrev pub calls : List Message → List Call
+abbrev pub calls : List Recorded → List Call
 calls history = flat_map calls_of history
 
 -- both are absent, or the same word
@@ -81,6 +81,6 @@ is_retry_behind None now = false
 is_retry_behind (Some before) now = is_retry before now
 
 -- how the latest message was sent
-abbrev pub latest : List Message → Option Sending
+abbrev pub latest : List Recorded → Option Sending
 latest [] = None
 latest (m ∷ earlier) = Some (sending_of m)

@@ -1,5 +1,5 @@
 -- The figures of the channels of a recording whose packets were read so far.
-use Rattle.std.specs.Prelude.{◌≡◌, ℕ, false, nat_eq, if◌then◌else◌, List, [], ◌∷◌, ◌++◌, Option, None, Some}
+use Rattle.std.specs.Prelude.{◌≡◌, ◌≤◌, ℕ, false, nat_eq, if◌then◌else◌, List, [], ◌∷◌, ◌++◌, Option, None, Some}
 use Rattle.std.specs.HashMap.{get}
 use Rattle.ch11_f1.specs.BodyReading.{Message}
 use Rattle.ch11_reader.specs.declared.packet.Packet.{Packet}
@@ -28,9 +28,11 @@ abbrev pub with_figures : Option Tally → List ChannelFigures → List ChannelF
 with_figures None figures = figures
 with_figures (Some tally) figures = figures ++ tally.figures ∷ []
 
--- each channel that is listed has its figures, and no other; a channel without packets of messages has no messages
+-- each channel that is listed has its figures, and no other, so none from the end on; a channel without packets of
+-- messages has no messages
 pub record AreTalliesOf (s : Selection) (ps : List Found) (so_far : TallyByChannel) : Type 0 where
   pub each : (channel : ℕ) → get nat_eq so_far.channels channel ≡ tally_in s ps channel
+  pub above : (channel : ℕ) → so_far.end ≤ channel → get nat_eq so_far.channels channel ≡ None
   pub none : (channel : ℕ) → has_channel channel (headers ps) ≡ false → history_of s ps channel ≡ []
 
 -- the packet behind others is listed so, and has these messages

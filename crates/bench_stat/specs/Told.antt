@@ -4,6 +4,7 @@ use Rattle.std.specs.HashMap.{get}
 use Rattle.std.specs.List.{list_any}
 use Rattle.std.specs.Option.{is_some}
 use Rattle.ch11_f1.specs.BodyReading.{Message}
+use Rattle.ch11_layout.specs.Stamps.{Recorded}
 use Rattle.ch11_reader.specs.declared.packet.Packet.{Packet}
 use Rattle.ch11_reader.specs.Listing.{listed_behind, listing}
 use Rattle.ch11_reader.specs.Recording.{Found}
@@ -20,7 +21,7 @@ use Rattle.bench_stat.specs.Slices.{AreBusy}
 use Rattle.bench_stat.specs.Streaming.{IsPacketBehind}
 
 -- this is told of messages, newest first
-pub record IsFollowed (shown : Shown) (history : List Message) (f : Followed) : Type 0 where
+pub record IsFollowed (shown : Shown) (history : List Recorded) (f : Followed) : Type 0 where
   pub details : shown.long ≡ true → f.details ≡ Some (details_of history)
   pub flows : shown.by_subaddress ≡ true → AreEntries history f.flows.items
   pub load : shown.load ≡ true → AreBusy history f.slices.items

@@ -1,7 +1,7 @@
 //! Messages by terminal, direction and subaddress.
 ghost use Rattle.bench_stat.specs.Entries as spec;
 ghost use Rattle.bench_stat.specs.Entries.{AreEntries, is_same as are_same, with_choice};
-ghost use Rattle.ch11_f1.specs.BodyReading.{Message};
+ghost use Rattle.ch11_layout.specs.Stamps.{Recorded};
 ghost use Rattle.std.specs.Prelude.{◌≡◌, ◌∷◌, [], List, length, IfOk};
 
 use crate::flows::Flow;
@@ -68,7 +68,7 @@ fn is_first_failed(sending: &Sending) -> bool
 /// One more message, for the entries of its commands; its error is for that of one of them.
 pub(crate) fn note_entries(entries: &mut [Flow], view: &View<'_>)
     requires { length entries.old ≡ ENTRIES }
-    ensures { (history : List Message) → AreEntries history entries.old
+    ensures { (history : List Recorded) → AreEntries history entries.old
         → AreEntries (view.now ∷ history) entries.new }
 {
     let sending = Sending::of(view);

@@ -1,6 +1,6 @@
 //! How messages follow one another.
 ghost use Rattle.bench_stat.specs.Flows as spec;
-ghost use Rattle.ch11_f1.specs.BodyReading.{Message};
+ghost use Rattle.ch11_layout.specs.Stamps.{Recorded};
 ghost use Rattle.std.specs.Prelude.{◌≡◌, ◌∷◌, [], List};
 
 use crate::counts::{counted, more};
@@ -78,7 +78,7 @@ impl Flow {
     /// One more message, behind the others.
     pub fn note(&mut self, view: &View<'_>)
         ensures new { self.new ≡ spec.with_message view.now self.old }
-        ensures flow { (history : List Message) → self.old ≡ spec.flow_of history
+        ensures flow { (history : List Recorded) → self.old ≡ spec.flow_of history
             → self.new ≡ spec.flow_of (view.now ∷ history) }
     {
         self.note_message(view);

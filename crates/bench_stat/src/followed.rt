@@ -5,7 +5,7 @@ ghost use Rattle.bench_stat.specs.Entries.{AreEntries};
 ghost use Rattle.bench_stat.specs.Slices.{AreBusy};
 ghost use Rattle.bench_stat.specs.Told.{IsFollowed};
 ghost use Rattle.bench_stat.specs.declared.shown.Shown.{Shown as ShownValue};
-ghost use Rattle.ch11_f1.specs.BodyReading.{Message};
+ghost use Rattle.ch11_layout.specs.Stamps.{Recorded};
 ghost use Rattle.std.specs.Prelude.{◌≡◌, ◌+◌, ◌<◌, ◌^◌, ◌++◌, ◌∷◌, [], List, Some, IfOk, length, reverse, true};
 
 use crate::chosen::next_selected;
@@ -17,7 +17,7 @@ use crate::slices::{Slice, idle_slices, note_slices};
 use crate::traffic::Traffic;
 use bench_select::Selection;
 use ch11_f1::Messages;
-use ch11_layout::View;
+use ch11_layout::{StampKind, View};
 use std::alloc::{AllocError, Global};
 
 /// What is told of messages, as far as it is shown.
@@ -52,7 +52,7 @@ impl Followed {
 
     /// One more message.
     fn count(&mut self, view: &View<'_>)
-        ensures { (shown : ShownValue) (history : List Message) → IsFollowed shown history self.old
+        ensures { (shown : ShownValue) (history : List Recorded) → IsFollowed shown history self.old
             → IsFollowed shown (view.now ∷ history) self.new }
     {
         count_details(&mut self.details, view);
@@ -60,17 +60,19 @@ impl Followed {
         count_load(&mut self.slices, view);
     }
 
-    /// The selected ones of a packet's messages, which stand behind so many of the file.
+    /// The selected ones of a packet's messages, whose stamps are of this kind, and which stand behind so many of the
+    /// file.
     pub(crate) fn count_selected(
         &mut self,
         selection: &Selection,
+        kind: StampKind,
         channel: u16,
         before: u64,
         messages: Messages<'_>,
     )
         requires { before + length messages < 2 ^ 64 }
-        ensures { (shown : ShownValue) (history : List Message) → IsFollowed shown history self.old
-            → IsFollowed shown (reverse (picked selection.now channel before messages.entry) ++ history) self.new }
+        ensures { (shown : ShownValue) (history : List Recorded) → IsFollowed shown history self.old
+            → IsFollowed shown (reverse (picked selection.now kind channel before messages.entry) ++ history) self.new }
     {
         let mut number = before;
         let mut rest = messages;
@@ -78,6 +80,7 @@ impl Followed {
             &mut rest,
             &mut number,
             selection,
+            kind,
             channel,
         ) {
             self.count(&view);
@@ -116,7 +119,7 @@ fn first_slices(alloc: Global, shown: bool, traffic: &Traffic) -> Result<Vec<Sli
 
 /// One more message in details, where there are any.
 fn count_details(details: &mut Option<Details>, view: &View<'_>)
-    ensures { (history : List Message) → details.old ≡ Some (details_of history)
+    ensures { (history : List Recorded) → details.old ≡ Some (details_of history)
         → details.new ≡ Some (details_of (view.now ∷ history)) }
 {
     if let Some(details) = details {
@@ -126,7 +129,7 @@ fn count_details(details: &mut Option<Details>, view: &View<'_>)
 
 /// One more message in flows, where there are any.
 fn count_flows(flows: &mut Vec<Flow>, view: &View<'_>)
-    ensures { (history : List Message) → AreEntries history flows.old.items
+    ensures { (history : List Recorded) → AreEntries history flows.old.items
         → AreEntries (view.now ∷ history) flows.new.items }
 {
     if flows.len() == ENTRIES {
@@ -136,7 +139,7 @@ fn count_flows(flows: &mut Vec<Flow>, view: &View<'_>)
 
 /// One more message in slices.
 fn count_load(slices: &mut Vec<Slice>, view: &View<'_>)
-    ensures { (history : List Message) → AreBusy history slices.old.items
+    ensures { (history : List Recorded) → AreBusy history slices.old.items
         → AreBusy (view.now ∷ history) slices.new.items }
 {
     note_slices(slices.as_mut_slice(), view);

@@ -11,7 +11,11 @@ ghost use Rattle.std.specs.Prelude.{nat_eq};
 ghost use Rattle.std.specs.Prelude.{◌≡◌, ◌+◌, ◌<◌, ◌^◌, ◌++◌, ◌∷◌, [], ℕ, List, None, Some, IfOk, OnOk, length};
 
 use crate::channels::ChannelFigures;
+use crate::details::Details;
+use crate::flows::Flow;
+use crate::losses::Losses;
 use crate::shown::Shown;
+use crate::slices::Slice;
 use crate::told::Told;
 use bench_select::Selection;
 use ch11_f1::Messages;
@@ -93,6 +97,39 @@ impl ToldChannels {
     {
         self.channels.get(&channel)
     }
+
+    /// What the packets of a channel say of messages that are missing; of one that is not told of, what no packets say.
+    pub(crate) fn losses(&self, channel: u16) -> Losses {
+        match self.of(channel) {
+            Some(told) => told.losses,
+            None => Losses::none(),
+        }
+    }
+
+    /// How the messages of a channel follow one another, and its status words; those of no messages where they are not
+    /// told.
+    pub(crate) fn details(&self, channel: u16) -> Details {
+        match self.of(channel) {
+            Some(told) => told.messages.details.unwrap_or(Details::none()),
+            None => Details::none(),
+        }
+    }
+
+    /// A flow for each command word without its last field, 0 to 2047; none where they are not told.
+    pub(crate) fn flows(&self, channel: u16) -> &[Flow] {
+        match self.of(channel) {
+            Some(told) => told.messages.flows.as_slice(),
+            None => &[],
+        }
+    }
+
+    /// How busy a channel is in each of 20 slices of its figures' span; none where that is not told.
+    pub(crate) fn load(&self, channel: u16) -> &[Slice] {
+        match self.of(channel) {
+            Some(told) => told.messages.slices.as_slice(),
+            None => &[],
+        }
+    }
 }
 
 /// What is told of the channels of these figures beside them, for all bytes that a reader has left, as their packets
@@ -100,7 +137,7 @@ impl ToldChannels {
 /// where it is by subaddress. It counts in the selected messages; their load is that in slices of the figures' spans. A
 /// recording that can't be read is refused with its first fault, K1 to K5, N2 or F1 to F3; want of memory and the
 /// reader's failure are the others.
-pub fn told_from<R: Advance + Drop>(
+pub fn told_channels<R: Advance + Drop>(
     alloc: Global,
     input: R,
     selection: &Selection,

@@ -1,9 +1,8 @@
-//! The command `bench stat`: figures of each channel and each terminal of a recording, as a value and as text, also
-//! as its packets come.
+//! The command `bench stat`: figures of each channel and each terminal of a recording, as a value and as text.
 //!
-//! It may know: words, headers, bodies, layouts, the reader, the packets of a stream, selections, the dump, times,
-//! words of a text. Its tests: `command_tests`, and of packets as they come `ch11_stream_tests`. Its wrong bodies:
-//! `edits/`.
+//! It may know: words, headers, bodies, layouts, the reader, the packets of a stream, selections, times, names of
+//! channels, words of a text. Its tests: `command_tests`, and of packets as they come `ch11_stream_tests`. Its wrong
+//! bodies: `edits/`.
 #![tactic(auto)]
 
 mod calls;
@@ -16,6 +15,7 @@ mod errors;
 mod flows;
 mod followed;
 mod following_packets;
+mod kinds;
 mod losses;
 mod page;
 mod printing;
@@ -25,12 +25,10 @@ mod senders;
 mod sendings;
 mod shown;
 mod slices;
-mod statistics;
 mod streaming;
 mod stretches;
 mod tables;
 mod tally;
-mod tells;
 mod terminals;
 mod times;
 mod told;
@@ -39,11 +37,12 @@ mod units;
 
 pub use calls::{Call, CallKind};
 pub use channels::ChannelFigures;
-pub use details::{Details, flows_by_subaddress, load_over_time};
+pub use details::Details;
 pub use errors::Errors;
 pub use flows::Flow;
 pub use followed::Followed;
-pub use following_packets::{ToldChannels, told_from};
+pub use following_packets::{ToldChannels, told_channels};
+pub use kinds::{KindFigures, print_kinds, read_kinds};
 pub use losses::Losses;
 pub use page::print_page;
 pub use replies::Replies;
@@ -51,11 +50,9 @@ pub use rows::print_tables;
 pub use sendings::Sending;
 pub use shown::Shown;
 pub use slices::Slice;
-pub use statistics::stat;
-pub use streaming::stat_from;
+pub use streaming::stat;
 pub use stretches::Stretches;
 pub use tally::Tally;
-pub use tells::{Indexed, Tells};
 pub use terminals::TerminalFigures;
 pub use times::Times;
 pub use told::Told;

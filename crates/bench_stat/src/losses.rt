@@ -2,12 +2,10 @@
 ghost use Rattle.bench_stat.specs.Details as spec;
 ghost use Rattle.ch11_reader.specs.Contents.{capped};
 ghost use Rattle.bench_stat.specs.Figures.{one_if};
-ghost use Rattle.ch11_reader.specs.Listing.{listing};
 ghost use Rattle.ch11_reader.specs.declared.packet.Packet.{Packet as PacketValue};
-ghost use Rattle.std.specs.List.{filter};
 ghost use Rattle.std.specs.Prelude.{◌≡◌, ℕ, ◌+◌, ◌-◌, ◌<◌, ◌^◌, ◌++◌, ◌∷◌, [], List, length};
 
-use ch11_reader::{Index, Packet};
+use ch11_reader::Packet;
 
 /// How many packets of a channel say that messages are missing.
 #[derive(Clone, Copy, Debug, PartialEq, Eq)]
@@ -19,17 +17,6 @@ pub struct Losses {
 }
 
 impl Losses {
-    /// What the packets of a channel say.
-    pub fn of(index: &Index<'_>, channel: u16) -> Losses
-        ensures { result ≡ spec.losses_of channel (listing index.now) }
-    {
-        let packets = index.packets();
-        Losses {
-            overflows: overflows(packets, channel),
-            jumps: jumps(packets, channel),
-        }
-    }
-
     /// What no packets say.
     pub(crate) fn none() -> Losses
         ensures { (channel : ℕ) → result ≡ spec.losses_of channel [] }
@@ -60,24 +47,6 @@ fn one_more(count: usize, holds: bool) -> usize
     } else {
         count
     }
-}
-
-fn overflows(packets: &[Packet], channel: u16) -> usize
-    ensures { result ≡ length (filter (spec.overflows channel) packets.now) }
-{
-    packets
-        .iter()
-        .filter(|packet| has_overflow(packet, channel))
-        .count()
-}
-
-fn jumps(packets: &[Packet], channel: u16) -> usize
-    ensures { result ≡ length (filter (spec.jumps channel) packets.now) }
-{
-    packets
-        .iter()
-        .filter(|packet| is_jump(packet, channel))
-        .count()
 }
 
 fn has_overflow(packet: &Packet, channel: u16) -> bool

@@ -2,6 +2,7 @@
 
 use crate::channels::ChannelFigures;
 use crate::flows::Flow;
+use crate::following_packets::ToldChannels;
 use crate::printing::{
     print_errors, print_falls, print_load_line, print_retries, print_terminals, print_times,
     print_traffic,
@@ -9,50 +10,50 @@ use crate::printing::{
 use crate::replies::Replies;
 use crate::shown::Shown;
 use crate::tables::{print_load, print_subaddresses};
-use crate::tells::Tells;
 use crate::times::Times;
 use crate::traffic::Traffic;
 use crate::units::{rate, write_hundredths, write_time};
 use bench_clock::Clock;
-use std::alloc::Global;
+use bench_names::ChannelNames;
 use std::io;
 use std::io::Write;
 use text_lines::WriteFault;
 
 /// Writes the figures of each channel as lines aligned for people, with what more is shown of it, which is told of the
-/// same messages. Times of day are those of the clock; a channel of which it tells none has no line of them. It fails
-/// for want of memory, and where the writer does.
-pub fn print_page<W: Write, T: Tells>(
-    alloc: Global,
+/// same messages. Times of day are those of the clock; a channel of which it tells none has no line of them. The name
+/// of a channel stands behind its number. It fails where the writer does.
+pub fn print_page<W: Write>(
     out: &mut W,
-    told: &T,
+    told: &ToldChannels,
     figures: &[ChannelFigures],
     shown: &Shown,
     clock: &Clock,
+    names: &ChannelNames<'_>,
 ) -> Result<(), WriteFault> {
     if shown.long {
         print_losses(out, told, figures)?;
     }
     for channel in figures {
         let times = shown.times_of(clock, channel);
+        print_name(out, channel.channel, names)?;
         print_head(out, told, channel, shown.long, times)?;
         if shown.by_subaddress {
-            let flows = told.flows(alloc, channel.channel)?;
-            print_subaddresses(out, flows.as_slice(), channel.traffic.span())?;
+            let flows = told.flows(channel.channel);
+            print_subaddresses(out, flows, channel.traffic.known_span())?;
         } else {
             print_terminals(out, &channel.terminals)?;
         }
         if shown.load {
-            print_load_of(alloc, out, told, channel)?;
+            print_load_of(out, told, channel)?;
         }
     }
     Ok(())
 }
 
 /// Writes which channels have packets that say that messages are missing.
-fn print_losses<W: Write, T: Tells>(
+fn print_losses<W: Write>(
     out: &mut W,
-    told: &T,
+    told: &ToldChannels,
     figures: &[ChannelFigures],
 ) -> io::Result<()> {
     for channel in figures {
@@ -69,16 +70,24 @@ fn print_losses<W: Write, T: Tells>(
     Ok(())
 }
 
+/// Writes the number of a channel, and its name if it has one.
+fn print_name<W: Write>(out: &mut W, channel: u16, names: &ChannelNames<'_>) -> io::Result<()> {
+    write!(out, "channel {channel}")?;
+    if let Some(name) = names.name(channel) {
+        write!(out, " {name}")?;
+    }
+    writeln!(out, "")
+}
+
 /// Writes the figures of a channel but its tables.
-fn print_head<W: Write, T: Tells>(
+fn print_head<W: Write>(
     out: &mut W,
-    told: &T,
+    told: &ToldChannels,
     figures: &ChannelFigures,
     long: bool,
     times: Option<Times>,
 ) -> io::Result<()> {
     let channel = figures.channel;
-    writeln!(out, "channel {channel}")?;
     if !long {
         print_traffic(out, &figures.traffic, times)?;
         print_errors(out, &figures.errors)?;
@@ -86,7 +95,7 @@ fn print_head<W: Write, T: Tells>(
     }
     let details = told.details(channel);
     print_long_traffic(out, &figures.traffic, times)?;
-    print_gaps(out, &details.flow)?;
+    print_gaps(out, &details.flow, figures.traffic.has_times())?;
     print_errors(out, &figures.errors)?;
     print_retries(out, figures.retries)?;
     print_replies(out, &details.replies)
@@ -101,12 +110,15 @@ fn print_long_traffic<W: Write>(
 ) -> io::Result<()> {
     let (messages, words) = (traffic.messages, traffic.words);
     write!(out, "  span      ")?;
-    write_time(out, traffic.span())?;
+    match traffic.known_span() {
+        Some(span) => write_time(out, span)?,
+        None => write!(out, "-")?,
+    }
     writeln!(out, "")?;
-    print_falls(out, &traffic.stretches)?;
+    print_falls(out, traffic)?;
     print_times(out, times)?;
     write!(out, "  messages  {messages}")?;
-    if let Some(rate) = rate(messages, traffic.span()) {
+    if let Some(rate) = rate(messages, traffic.known_span().unwrap_or(0)) {
         write!(out, ", ")?;
         write_hundredths(out, rate)?;
         write!(out, " a second")?;
@@ -115,9 +127,10 @@ fn print_long_traffic<W: Write>(
     print_load_line(out, traffic)
 }
 
-/// Writes the least and the greatest gap between two messages, '-' where there are fewer than two.
-fn print_gaps<W: Write>(out: &mut W, flow: &Flow) -> io::Result<()> {
-    if flow.messages < 2 {
+/// Writes the least and the greatest gap between two messages, '-' where there are fewer than two or times are not
+/// known.
+fn print_gaps<W: Write>(out: &mut W, flow: &Flow, timed: bool) -> io::Result<()> {
+    if flow.messages < 2 || !timed {
         return writeln!(out, "  gaps      -");
     }
     write!(out, "  gaps      ")?;
@@ -139,13 +152,17 @@ fn print_replies<W: Write>(out: &mut W, replies: &Replies) -> io::Result<()> {
     writeln!(out)
 }
 
-/// Writes the load over time of a channel, nothing where no time passed; where stamps fall, a line in its place.
-fn print_load_of<W: Write, T: Tells>(
-    alloc: Global,
+/// Writes the load over time of a channel, nothing where no time passed; where stamps fall or times are not known, a
+/// line in its place.
+fn print_load_of<W: Write>(
     out: &mut W,
-    told: &T,
+    told: &ToldChannels,
     figures: &ChannelFigures,
 ) -> Result<(), WriteFault> {
+    if !figures.traffic.has_times() {
+        writeln!(out, "  load      -")?;
+        return Ok(());
+    }
     if figures.traffic.stretches.falls > 0 {
         writeln!(out, "  load      over time is not told where stamps fall")?;
         return Ok(());
@@ -153,7 +170,7 @@ fn print_load_of<W: Write, T: Tells>(
     if figures.traffic.span() == 0 {
         return Ok(());
     }
-    let slices = told.load(alloc, figures)?;
-    print_load(out, slices.as_slice())?;
+    let slices = told.load(figures.channel);
+    print_load(out, slices)?;
     Ok(())
 }

@@ -3,7 +3,6 @@
 use crate::channels::ChannelFigures;
 use crate::counts::more;
 use crate::errors::Errors;
-use crate::stretches::Stretches;
 use crate::terminals::TerminalFigures;
 use crate::times::Times;
 use crate::traffic::Traffic;
@@ -50,15 +49,21 @@ pub(crate) fn end_row<W: Write>(out: &mut W, times: Option<Times>) -> io::Result
     writeln!(out, "")
 }
 
-/// Writes how much a channel carried. The span is in µs.
+/// Writes how much a channel carried. The span is in µs, '-' where times are not known.
 pub(crate) fn print_traffic<W: Write>(
     out: &mut W,
     traffic: &Traffic,
     times: Option<Times>,
 ) -> io::Result<()> {
-    let (whole, part) = tenths(traffic.span());
-    writeln!(out, "  span      {whole}.{part} us")?;
-    print_falls(out, &traffic.stretches)?;
+    write!(out, "  span      ")?;
+    match traffic.known_span() {
+        Some(span) => {
+            let (whole, part) = tenths(span);
+            writeln!(out, "{whole}.{part} us")?;
+        }
+        None => writeln!(out, "-")?,
+    }
+    print_falls(out, traffic)?;
     print_times(out, times)?;
     let (messages, words) = (traffic.messages, traffic.words);
     writeln!(out, "  messages  {messages}")?;
@@ -66,10 +71,11 @@ pub(crate) fn print_traffic<W: Write>(
     print_load_line(out, traffic)
 }
 
-/// Writes how often stamps fall, and of how many stretches the span is; nothing where they don't.
-pub(crate) fn print_falls<W: Write>(out: &mut W, stretches: &Stretches) -> io::Result<()> {
-    let falls = stretches.falls;
-    if falls == 0 {
+/// Writes how often stamps fall, and of how many stretches the span is; nothing where they don't, or times are not
+/// known.
+pub(crate) fn print_falls<W: Write>(out: &mut W, traffic: &Traffic) -> io::Result<()> {
+    let falls = traffic.stretches.falls;
+    if falls == 0 || !traffic.has_times() {
         return Ok(());
     }
     let parts = more(falls, 1);
@@ -97,14 +103,14 @@ pub(crate) fn print_times<W: Write>(out: &mut W, times: Option<Times>) -> io::Re
     writeln!(out, "")
 }
 
-/// Writes the bus load in per cent, '-' where no time passed.
+/// Writes the bus load in per cent, '-' where no time passed or times are not known.
 pub(crate) fn print_load_line<W: Write>(out: &mut W, traffic: &Traffic) -> io::Result<()> {
     match traffic.load() {
-        Some(load) => {
+        Some(load) if traffic.has_times() => {
             let (whole, part) = hundredths(load);
             writeln!(out, "  bus load  {whole}.{part:02} %")
         }
-        None => writeln!(out, "  bus load  -"),
+        _ => writeln!(out, "  bus load  -"),
     }
 }
 

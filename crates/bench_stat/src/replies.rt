@@ -1,6 +1,6 @@
 //! Status words by their bits.
 ghost use Rattle.bench_stat.specs.Replies as spec;
-ghost use Rattle.ch11_f1.specs.BodyReading.{Message};
+ghost use Rattle.ch11_layout.specs.Stamps.{Recorded};
 ghost use Rattle.std.specs.Prelude.{◌≡◌, ◌∷◌, [], List};
 
 use crate::counts::{counted, more};
@@ -84,7 +84,7 @@ impl Replies {
 
     /// One more message.
     pub fn note(&mut self, view: &View<'_>)
-        ensures { (history : List Message) → self.old ≡ spec.replies_of history
+        ensures { (history : List Recorded) → self.old ≡ spec.replies_of history
             → self.new ≡ spec.replies_of (view.now ∷ history) }
     {
         let layout = view.layout();

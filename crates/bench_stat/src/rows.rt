@@ -3,14 +3,13 @@
 use crate::channels::ChannelFigures;
 use crate::entries::parts_of;
 use crate::flows::Flow;
+use crate::following_packets::ToldChannels;
 use crate::printing::{NAMES, TIMES, end_row, print_rows};
 use crate::shown::Shown;
 use crate::slices::Slice;
-use crate::tells::Tells;
 use crate::times::Times;
 use crate::units::{rate, write_hundredths, write_time_of_day, write_us};
 use bench_clock::{Clock, TimeOfDay};
-use std::alloc::Global;
 use std::io;
 use std::io::Write;
 use text_lines::WriteFault;
@@ -28,12 +27,11 @@ const LOAD: &str = "channel,begin_us,end_us,load_percent";
 /// Writes the figures as rows of comma-separated values: those of the channels where they are asked for, then those of
 /// terminals or of subaddresses, then the load over time where it is asked for; each table behind a row with the names
 /// of its columns, and an empty line between two of them. Times of day are those of the clock, in two rows of a
-/// channel's figures, and in two columns behind the others of terminals and of subaddresses. It fails for want of
-/// memory, and where the writer does.
-pub fn print_tables<W: Write, T: Tells>(
-    alloc: Global,
+/// channel's figures, and in two columns behind the others of terminals and of subaddresses. It fails where the
+/// writer does.
+pub fn print_tables<W: Write>(
     out: &mut W,
-    told: &T,
+    told: &ToldChannels,
     figures: &[ChannelFigures],
     shown: &Shown,
     clock: &Clock,
@@ -50,8 +48,8 @@ pub fn print_tables<W: Write, T: Tells>(
     for channel in figures {
         let times = shown.times_of(clock, channel);
         if shown.by_subaddress {
-            let flows = told.flows(alloc, channel.channel)?;
-            write_flows(out, channel, flows.as_slice(), times)?;
+            let flows = told.flows(channel.channel);
+            write_flows(out, channel, flows, times)?;
         } else {
             print_rows(out, channel, times)?;
         }
@@ -59,8 +57,8 @@ pub fn print_tables<W: Write, T: Tells>(
     if shown.load {
         writeln!(out, "\n{LOAD}")?;
         for channel in figures {
-            let slices = told.load(alloc, channel)?;
-            write_slices(out, channel, slices.as_slice())?;
+            let slices = told.load(channel.channel);
+            write_slices(out, channel, slices)?;
         }
     }
     Ok(())
@@ -78,13 +76,14 @@ fn write_names<W: Write>(out: &mut W, shown: &Shown) -> io::Result<()> {
 }
 
 /// What stands in a row of a figure: a count, hundredths, a time in ticks, or a time of day; nothing where there is
-/// none.
+/// none, and '-' for a time that is not known.
 #[derive(Clone, Copy)]
 enum Value {
     Count(u64),
     Hundredths(Option<u64>),
     Ticks(Option<u64>),
     Day(Option<TimeOfDay>),
+    Unknown,
 }
 
 /// Writes the row of a figure.
@@ -96,14 +95,15 @@ fn write_figure<W: Write>(out: &mut W, channel: u16, name: &str, value: Value) -
         Value::Ticks(Some(ticks)) => write_us(out, ticks)?,
         Value::Day(time) => write_time_of_day(out, time, "")?,
         Value::Hundredths(None) | Value::Ticks(None) => {}
+        Value::Unknown => write!(out, "-")?,
     }
     writeln!(out, "")
 }
 
 /// Writes a row for each figure of a channel.
-fn write_figures<W: Write, T: Tells>(
+fn write_figures<W: Write>(
     out: &mut W,
-    told: &T,
+    told: &ToldChannels,
     figures: &ChannelFigures,
     times: Option<Times>,
 ) -> io::Result<()> {
@@ -114,9 +114,20 @@ fn write_figures<W: Write, T: Tells>(
     write_figure(out, channel, "sequence_jumps", Value::Count(jumps))?;
     write_traffic(out, figures, times)?;
     let details = told.details(channel);
+    let timed = figures.traffic.has_times();
     let (least, greatest) = gaps_of(&details.flow);
-    write_figure(out, channel, "least_gap_us", Value::Ticks(least))?;
-    write_figure(out, channel, "greatest_gap_us", Value::Ticks(greatest))?;
+    write_figure(
+        out,
+        channel,
+        "least_gap_us",
+        if_timed(timed, Value::Ticks(least)),
+    )?;
+    write_figure(
+        out,
+        channel,
+        "greatest_gap_us",
+        if_timed(timed, Value::Ticks(greatest)),
+    )?;
     write_errors(out, figures)?;
     let words = Value::Count(details.replies.words);
     write_figure(out, channel, "status_words", words)?;
@@ -124,6 +135,11 @@ fn write_figures<W: Write, T: Tells>(
         writeln!(out, "{channel},status_{name},{count}")?;
     }
     Ok(())
+}
+
+/// A figure of times where they are known.
+fn if_timed(timed: bool, value: Value) -> Value {
+    if timed { value } else { Value::Unknown }
 }
 
 /// The least and the greatest gap between two messages, where there are two.
@@ -142,8 +158,13 @@ fn write_traffic<W: Write>(
     times: Option<Times>,
 ) -> io::Result<()> {
     let (channel, traffic) = (figures.channel, &figures.traffic);
-    let (span, load) = (traffic.span(), traffic.load());
-    write_figure(out, channel, "span_us", Value::Ticks(Some(span)))?;
+    let (span, load, timed) = (traffic.span(), traffic.load(), traffic.has_times());
+    write_figure(
+        out,
+        channel,
+        "span_us",
+        if_timed(timed, Value::Ticks(Some(span))),
+    )?;
     if let Some(times) = times {
         write_figure(out, channel, "first_time", Value::Day(times.first))?;
         write_figure(out, channel, "last_time", Value::Day(times.last))?;
@@ -151,8 +172,13 @@ fn write_traffic<W: Write>(
     write_figure(out, channel, "messages", Value::Count(traffic.messages))?;
     write_figure(out, channel, "words", Value::Count(traffic.words))?;
     let rate = Value::Hundredths(rate(traffic.messages, span));
-    write_figure(out, channel, "messages_per_second", rate)?;
-    write_figure(out, channel, "bus_load_percent", Value::Hundredths(load))
+    write_figure(out, channel, "messages_per_second", if_timed(timed, rate))?;
+    write_figure(
+        out,
+        channel,
+        "bus_load_percent",
+        if_timed(timed, Value::Hundredths(load)),
+    )
 }
 
 /// Writes a row for each kind of error, behind one for all messages with an error, then one for the retries.
@@ -180,7 +206,7 @@ fn write_flows<W: Write>(
     flows: &[Flow],
     times: Option<Times>,
 ) -> io::Result<()> {
-    let (channel, span) = (figures.channel, figures.traffic.span());
+    let (channel, span) = (figures.channel, figures.traffic.known_span());
     for (entry, flow) in flows.iter().enumerate() {
         if flow.messages > 0 {
             write_flow(out, channel, entry, flow, span)?;
@@ -191,13 +217,14 @@ fn write_flows<W: Write>(
 }
 
 /// Writes the row of an entry, a terminal, a direction and a subaddress, but its end. Its gaps are empty for a single
-/// message, and its rate where no time passed. The span is the channel's, in ticks.
+/// message, and its rate where no time passed; all three are '-' where times are not known. The span is the channel's,
+/// in ticks.
 fn write_flow<W: Write>(
     out: &mut W,
     channel: u16,
     entry: usize,
     flow: &Flow,
-    span: u64,
+    span: Option<u64>,
 ) -> io::Result<()> {
     let (address, direction, subaddress) = parts_of(entry);
     let (messages, errors) = (flow.messages, flow.errors);
@@ -205,6 +232,9 @@ fn write_flow<W: Write>(
         out,
         "{channel},{address},{direction},{subaddress},{messages},{errors},"
     )?;
+    let Some(span) = span else {
+        return write!(out, "-,-,-");
+    };
     if messages > 1 {
         write_us(out, flow.least_gap)?;
         write!(out, ",")?;

@@ -1,6 +1,6 @@
 //! The load of a channel over time.
 ghost use Rattle.bench_stat.specs.Slices as spec;
-ghost use Rattle.ch11_f1.specs.BodyReading.{Message};
+ghost use Rattle.ch11_layout.specs.Stamps.{Recorded};
 ghost use Rattle.std.specs.Prelude.{◌≡◌, ◌∷◌, [], List, length, map, IfOk};
 
 use crate::counts::more;
@@ -61,7 +61,7 @@ pub(crate) fn idle_slices(alloc: Global, begin: u64, end: u64) -> Result<Vec<Sli
 
 /// One more message.
 pub(crate) fn note_slices(slices: &mut [Slice], view: &View<'_>)
-    ensures { (history : List Message) → spec.AreBusy history slices.old
+    ensures { (history : List Recorded) → spec.AreBusy history slices.old
         → spec.AreBusy (view.now ∷ history) slices.new }
 {
     'slices: for slice in slices.iter_mut() {

@@ -4,12 +4,12 @@ ghost use Rattle.bench_stat.specs.Chosen.{picked};
 ghost use Rattle.bench_stat.specs.Figures.{statistics};
 ghost use Rattle.bench_stat.specs.Steps.{tally_of};
 ghost use Rattle.bench_stat.specs.Streaming.{AreTalliesOf, IsPacketBehind, tally_or_none, with_figures};
-ghost use Rattle.ch11_f1.specs.BodyReading.{Message};
+ghost use Rattle.ch11_layout.specs.Stamps.{Recorded};
 ghost use Rattle.ch11_reader.specs.Recording.{Found};
 ghost use Rattle.ch11_stream.specs.Folding.{FoldsPackets};
 ghost use Rattle.std.specs.HashMap.{get};
 ghost use Rattle.std.specs.Prelude.{None, Some, IfOk, OnOk};
-ghost use Rattle.std.specs.Prelude.{◌≡◌, ◌+◌, ◌<◌, ◌^◌, ◌++◌, ◌∷◌, [], ℕ, List, length, nat_eq, reverse};
+ghost use Rattle.std.specs.Prelude.{◌≡◌, ◌+◌, ◌<◌, ◌≤◌, ◌^◌, ◌++◌, ◌∷◌, [], ℕ, List, length, nat_eq, reverse};
 
 use crate::channels::ChannelFigures;
 use crate::chosen::next_selected;
@@ -17,15 +17,17 @@ use crate::tally::Tally;
 use bench_select::{CHANNELS, Selection, is_of};
 use ch11_f1::Messages;
 use ch11_header::kinds::BUS_MESSAGES;
+use ch11_layout::StampKind;
 use ch11_reader::Packet;
 use ch11_stream::{Advance, Packets, StreamFault};
 use std::alloc::{AllocError, Global};
 use std::collections::HashMap;
 
-/// The figures so far of each channel that has any, by its number.
+/// The figures so far of each channel that has any, by its number, and a number that is above all of these.
 #[derive(Drop)]
 pub(crate) struct TallyByChannel {
     pub(crate) channels: HashMap<u16, Tally>,
+    pub(crate) end: usize,
 }
 
 impl TallyByChannel {
@@ -35,14 +37,16 @@ impl TallyByChannel {
     {
         TallyByChannel {
             channels: HashMap::new(alloc),
+            end: 0,
         }
     }
 }
 
-/// The figures that `stat` gives for all bytes that a reader has left, as their packets come, in memory for the largest
-/// packet of messages and the figures of each channel. A recording that can't be read is refused with its first fault,
-/// K1 to K5, N2 or F1 to F3; want of memory and the reader's failure are the others.
-pub fn stat_from<R: Advance + Drop>(
+/// The figures over the selected messages of each channel with packets of MIL-STD-1553 messages that the selection is
+/// of, in rising order of the channels' numbers, of all bytes that a reader has left, as their packets come, in memory
+/// for the largest packet of messages or of time and the figures of each channel. A recording that can't be read is
+/// refused with its first fault, K1 to K5, N2 or F1 to F3; want of memory and the reader's failure are the others.
+pub fn stat<R: Advance + Drop>(
     alloc: Global,
     input: R,
     selection: &Selection,
@@ -85,9 +89,26 @@ fn note_packet(
         return Ok(());
     }
     let mut tally = tally_at(so_far, channel);
-    note_selected(&mut tally, selection, channel, packet.before, messages);
+    let kind = StampKind::of(&packet.header);
+    note_selected(
+        &mut tally,
+        selection,
+        kind,
+        channel,
+        packet.before,
+        messages,
+    );
     so_far.channels.insert(channel, tally)?;
+    so_far.end = end_above(so_far.end, channel);
     Ok(())
+}
+
+/// A number above a channel, and not below another one.
+fn end_above(end: usize, channel: u16) -> usize
+    ensures kept { end ≤ result }
+    ensures above { channel < result }
+{
+    end.max(channel as usize + 1)
 }
 
 /// The figures so far of a channel, which may have none yet.
@@ -104,28 +125,38 @@ fn tally_at(so_far: &TallyByChannel, channel: u16) -> Tally
 fn note_selected(
     tally: &mut Tally,
     selection: &Selection,
+    kind: StampKind,
     channel: u16,
     before: u64,
     messages: Messages<'_>,
 )
     requires { before + length messages < 2 ^ 64 }
-    ensures { (history : List Message) → tally.old ≡ tally_of channel history → tally.new
-        ≡ tally_of channel (reverse (picked selection.now channel before messages.entry) ++ history) }
+    ensures { (history : List Recorded) → tally.old ≡ tally_of channel history → tally.new
+        ≡ tally_of channel (reverse (picked selection.now kind channel before messages.entry) ++ history) }
 {
     let mut number = before;
     let mut rest = messages;
-    'messages: while let Some(view) = next_selected(&mut rest, &mut number, selection, channel) {
+    'messages: while let Some(view) = next_selected(
+        &mut rest,
+        &mut number,
+        selection,
+        kind,
+        channel,
+    ) {
         tally.note(&view);
     }
 }
 
-/// The figures of the channels that have any, in rising order of their numbers.
+/// The figures of the channels that have any, in rising order of their numbers: none is looked for above all of these.
 fn figures_of(alloc: Global, so_far: &TallyByChannel) -> Result<Vec<ChannelFigures>, AllocError>
     ensures { (s : SelectionValue) (ps : List Found) → AreTalliesOf s ps so_far.now
         → IfOk result (λ figures. figures.items ≡ statistics s ps) }
 {
     let mut figures = Vec::new(alloc);
     'channels: for channel in 0..CHANNELS {
+        if so_far.end <= channel {
+            return Ok(figures);
+        }
         push_figures(so_far, channel as u16, &mut figures)?;
     }
     Ok(figures)

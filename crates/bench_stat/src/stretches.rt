@@ -1,6 +1,6 @@
 //! Stretches of a channel's messages, in which no stamp falls.
 ghost use Rattle.bench_stat.specs.Stretches as spec;
-ghost use Rattle.ch11_f1.specs.BodyReading.{Message};
+ghost use Rattle.ch11_layout.specs.Stamps.{Recorded};
 ghost use Rattle.std.specs.Prelude.{◌≡◌, [], List};
 
 use crate::counts::more;
@@ -46,7 +46,7 @@ impl Stretches {
 
     /// The span of all stretches, in ticks.
     pub fn span(&self) -> u64
-        ensures { (history : List Message) → self.now ≡ spec.stretches_of history → result ≡ spec.span history }
+        ensures { (history : List Recorded) → self.now ≡ spec.stretches_of history → result ≡ spec.span history }
     {
         self.taken()
     }

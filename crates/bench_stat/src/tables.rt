@@ -22,11 +22,11 @@ const MARK: u64 = 200;
 const SECOND: u64 = 10_000_000;
 
 /// Writes a line for each terminal, direction and subaddress with messages, under a line with the names of the columns.
-/// The span is the channel's, in ticks.
+/// The span is the channel's, in ticks; None where times are not known.
 pub(crate) fn print_subaddresses<W: Write>(
     out: &mut W,
     flows: &[Flow],
-    span: u64,
+    span: Option<u64>,
 ) -> io::Result<()> {
     let called = flows.iter().any(|flow| flow.messages > 0);
     if called {
@@ -41,8 +41,14 @@ pub(crate) fn print_subaddresses<W: Write>(
 }
 
 /// Writes the line of an entry, which is a terminal, a direction and a subaddress. The address of all terminals is
-/// 'all', a mode command's subaddress is 'mode 0' or 'mode 31', and the rate is '-' where no time passed.
-fn print_entry<W: Write>(out: &mut W, entry: usize, flow: &Flow, span: u64) -> io::Result<()> {
+/// 'all', a mode command's subaddress is 'mode 0' or 'mode 31', and the rate is '-' where no time passed or times are
+/// not known.
+fn print_entry<W: Write>(
+    out: &mut W,
+    entry: usize,
+    flow: &Flow,
+    span: Option<u64>,
+) -> io::Result<()> {
     let (address, direction, subaddress) = parts_of(entry);
     if address == usize::from(ALL_TERMINALS) {
         write!(out, "       all")?;
@@ -59,8 +65,8 @@ fn print_entry<W: Write>(out: &mut W, entry: usize, flow: &Flow, span: u64) -> i
         write!(out, "{subaddress:>12}")?;
     }
     write!(out, " {messages:>10} {errors:>10}")?;
-    print_gap_columns(out, flow)?;
-    match rate(messages, span) {
+    print_gap_columns(out, flow, span.is_some())?;
+    match rate(messages, span.unwrap_or(0)) {
         Some(rate) => {
             let (whole, part) = hundredths(rate);
             writeln!(out, " {whole:>10}.{part:02}")
@@ -69,9 +75,10 @@ fn print_entry<W: Write>(out: &mut W, entry: usize, flow: &Flow, span: u64) -> i
     }
 }
 
-/// Writes the least and the greatest gap of an entry in µs, '-' where it has fewer than two messages.
-fn print_gap_columns<W: Write>(out: &mut W, flow: &Flow) -> io::Result<()> {
-    if flow.messages < 2 {
+/// Writes the least and the greatest gap of an entry in µs, '-' where it has fewer than two messages or times are not
+/// known.
+fn print_gap_columns<W: Write>(out: &mut W, flow: &Flow, timed: bool) -> io::Result<()> {
+    if flow.messages < 2 || !timed {
         return write!(out, "             -                -");
     }
     let (whole, part) = tenths(flow.least_gap);

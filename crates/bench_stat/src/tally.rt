@@ -3,7 +3,7 @@ ghost use Rattle.bench_stat.specs.Figures.{terminals_of};
 ghost use Rattle.bench_stat.specs.Sendings.{calls_sent, is_retry_behind};
 ghost use Rattle.bench_stat.specs.Steps.{tally_of};
 ghost use Rattle.bench_stat.specs.declared.calls.Call.{Call as CallValue};
-ghost use Rattle.ch11_f1.specs.BodyReading.{Message};
+ghost use Rattle.ch11_layout.specs.Stamps.{Recorded};
 ghost use Rattle.mil_word.specs.Fields.{field_values};
 ghost use Rattle.std.specs.Prelude.{◌≡◌, ℕ, ◌∷◌, ◌++◌, [], List, length};
 
@@ -45,7 +45,7 @@ impl Tally {
 
     /// One more message.
     pub fn note(&mut self, view: &View<'_>)
-        ensures { (channel : ℕ) (history : List Message) → self.old ≡ tally_of channel history
+        ensures { (channel : ℕ) (history : List Recorded) → self.old ≡ tally_of channel history
             → self.new ≡ tally_of channel (view.now ∷ history) }
     {
         let sending = Sending::of(view);

@@ -11,6 +11,7 @@ use crate::shown::Shown;
 use crate::traffic::Traffic;
 use bench_select::Selection;
 use ch11_f1::Messages;
+use ch11_layout::StampKind;
 use ch11_reader::Packet;
 use std::alloc::{AllocError, Global};
 
@@ -47,8 +48,9 @@ impl Told {
             → IsTold shown selection.now (ps ++ q ∷ []) packet.now.header.channel self.new }
     {
         let channel = packet.header.channel;
+        let kind = StampKind::of(&packet.header);
         self.losses.note(packet, channel);
         self.messages
-            .count_selected(selection, channel, packet.before, messages);
+            .count_selected(selection, kind, channel, packet.before, messages);
     }
 }

@@ -4,12 +4,12 @@ ghost use Rattle.bench_stat.specs.Figures as spec;
 ghost use Rattle.bench_stat.specs.Figures.{traffic_of, duration, load};
 ghost use Rattle.bench_stat.specs.Steps.{with_traffic};
 ghost use Rattle.bench_stat.specs.Stretches.{span};
-ghost use Rattle.ch11_f1.specs.BodyReading.{Message};
+ghost use Rattle.ch11_layout.specs.Stamps.{Recorded};
 ghost use Rattle.std.specs.Prelude.{◌≡◌, ◌∷◌, [], List};
 
 use crate::counts::more;
 use crate::stretches::Stretches;
-use ch11_layout::View;
+use ch11_layout::{StampKind, View};
 use mil_word::timing::{CONTIGUOUS_GAP, WORD_TIME};
 
 /// How much a channel carried, and when. Counts and times go as far as 64 bits count; times are ticks of 0.1 µs.
@@ -21,6 +21,8 @@ pub struct Traffic {
     pub words: u64,
     /// How long the bus was busy: 200 ticks a word, and what lies between the words of a message.
     pub busy: u64,
+    /// What their stamps are, unknown where they are of more than one kind; None where there is no message.
+    pub stamps: Option<StampKind>,
     /// The least stamp, 2^64 - 1 where there is no message.
     pub begin: u64,
     /// The greatest stamp, 0 where there is no message.
@@ -40,6 +42,7 @@ impl Traffic {
             messages: 0,
             words: 0,
             busy: 0,
+            stamps: None,
             begin: u64::MAX,
             last: 0,
             end: 0,
@@ -50,26 +53,40 @@ impl Traffic {
     /// The time from the first message's first word to the last message's end, in ticks; where stamps fall, the sum of
     /// the spans of the stretches between.
     pub fn span(&self) -> u64
-        ensures { (history : List Message) → self.now ≡ traffic_of history → result ≡ span history }
+        ensures { (history : List Recorded) → self.now ≡ traffic_of history → result ≡ span history }
     {
         self.stretches.span()
     }
 
     /// The share of the span in which the bus was busy, in hundredths of a per cent; None where there is no span.
     pub fn load(&self) -> Option<u64>
-        ensures { (history : List Message) → self.now ≡ traffic_of history → result ≡ load history }
+        ensures { (history : List Recorded) → self.now ≡ traffic_of history → result ≡ load history }
     {
         share_of(self.busy, self.span())
     }
 
+    /// Whether the times of its messages are known, which then are all told by one clock.
+    pub fn has_times(&self) -> bool {
+        self.stamps != Some(StampKind::Unknown)
+    }
+
+    /// The span where times are known.
+    pub(crate) fn known_span(&self) -> Option<u64> {
+        if self.has_times() {
+            Some(self.span())
+        } else {
+            None
+        }
+    }
+
     /// Whether its load over time is told: it has a span, and no stamp falls, so that the slices are times of the bus.
     pub(crate) fn has_slices(&self) -> bool {
-        self.stretches.falls == 0 && self.span() > 0
+        self.has_times() && self.stretches.falls == 0 && self.span() > 0
     }
 
     /// One more message.
     pub(crate) fn note(&mut self, view: &View<'_>)
-        ensures { (history : List Message) → self.old ≡ traffic_of history
+        ensures { (history : List Recorded) → self.old ≡ traffic_of history
             → self.new ≡ traffic_of (view.now ∷ history) }
     {
         self.count(view);
@@ -83,10 +100,23 @@ impl Traffic {
         self.messages = more(self.messages, 1);
         self.words = more(self.words, words);
         self.busy = more(self.busy, time);
+        self.stamps = Some(joined(self.stamps, view.kind()));
         self.begin = view.stamp().min(self.begin);
         self.last = view.stamp().max(self.last);
         self.end = more(view.stamp(), time).max(self.end);
         self.stretches.note(view);
+    }
+}
+
+/// What stamps are with one more of this kind.
+fn joined(so_far: Option<StampKind>, kind: StampKind) -> StampKind
+    ensures { result ≡ spec.joined so_far kind }
+{
+    match (so_far, kind) {
+        (None, kind) => kind,
+        (Some(StampKind::Counter), StampKind::Counter) => StampKind::Counter,
+        (Some(StampKind::TimeOfDay), StampKind::TimeOfDay) => StampKind::TimeOfDay,
+        (Some(_), _) => StampKind::Unknown,
     }
 }
 

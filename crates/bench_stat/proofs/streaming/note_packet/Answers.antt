@@ -11,4 +11,4 @@ returns-then-not-is_of c = λ ps q are b. packet_of_other_channel c.args.selecti
 pub returns : goal.returns
 returns c = λ ps q are b.
     packet_counted c.args.selection.now ps q c.args.packet.now c.args.messages c.args.so_far.now _ c.tally_at-tally.result c.note_selected.new.tally are b c.if-packet-ne-BUS_MESSAGES.false
-    (sym c.is_of.ensures ∙ c.if-not-is_of.false) c.tally_at-tally.ensures c.note_selected.ensures c.in_ok-insert.ensures.updates.0
+    (sym c.is_of.ensures ∙ c.if-not-is_of.false) c.tally_at-tally.ensures (rw c.of-kind.ensures at c.note_selected.ensures) c.in_ok-insert.ensures.updates.0 c.end_above-so_far.ensures.kept c.end_above-so_far.ensures.above

@@ -1,5 +1,5 @@
 use Rattle.std.proofs.Common.{◌≡◌, ◌+◌, ◌++◌, List, length}
-use Rattle.ch11_f1.specs.BodyReading.{Message}
+use Rattle.ch11_layout.specs.Stamps.{Recorded}
 use Rattle.bench_stat.specs.declared.shown.Shown.{Shown}
 use Rattle.bench_stat.specs.Chosen.{picked}
 use Rattle.bench_stat.specs.Told.{IsFollowed}
@@ -10,9 +10,9 @@ use Rattle.bench_stat.proofs.followed.Followed.count_selected.Given as goal
 abbrev pub invariant-messages : goal.invariant-messages
 invariant-messages l = record {
   counted : l.number + length l.rest ≡ l.before + length l.fn.messages;
-  along : (shown : Shown) (history : List Message) → IsFollowed shown history l.fn.self
-      → IsAlong (λ past. IsFollowed shown (past ++ history) l.self) (picked l.selection l.channel l.before l.fn.messages) (picked l.selection l.channel l.number l.rest);
+  along : (shown : Shown) (history : List Recorded) → IsFollowed shown history l.fn.self
+      → IsAlong (λ past. IsFollowed shown (past ++ history) l.self) (picked l.selection l.kind l.channel l.before l.fn.messages) (picked l.selection l.kind l.channel l.number l.rest);
 }
 
 abbrev pub decreases-messages : goal.decreases-messages
-decreases-messages l = length (picked l.selection l.channel l.number l.rest)
+decreases-messages l = length (picked l.selection l.kind l.channel l.number l.rest)

@@ -1,7 +1,7 @@
 use Rattle.std.proofs.Common.{◌≡◌, ℕ, List, Some, reverse}
 use Rattle.ch11_stream.proofs.Readings.{IsAmid}
 use Rattle.bench_stat.specs.Streaming.{AreTalliesOf}
-use Rattle.bench_stat.proofs.streaming.stat_from.Given as goal
+use Rattle.bench_stat.proofs.streaming.stat.Given as goal
 
 -- the packets so far are those of the file, and their messages are counted
 abbrev pub invariant-packets : goal.invariant-packets

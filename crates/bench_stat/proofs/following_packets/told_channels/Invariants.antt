@@ -1,7 +1,7 @@
 use Rattle.std.proofs.Common.{◌≡◌, ℕ, List, Some, length, reverse}
 use Rattle.ch11_stream.proofs.Readings.{IsAmid}
 use Rattle.bench_stat.specs.Told.{AreTold}
-use Rattle.bench_stat.proofs.following_packets.told_from.Given as goal
+use Rattle.bench_stat.proofs.following_packets.told_channels.Given as goal
 
 -- the packets so far are those of the file, and what they tell is told
 abbrev pub invariant-packets : goal.invariant-packets

@@ -5,7 +5,7 @@ use Rattle.ch11_stream.proofs.Folding.{all_found, not_found}
 use Rattle.ch11_stream.proofs.Readings.{amid_on, amid_start}
 use Rattle.bench_stat.specs.Figures.{statistics}
 use Rattle.bench_stat.proofs.Streamed.{counted_on, next_one, nothing_yet}
-use Rattle.bench_stat.proofs.streaming.stat_from.Goals as goal
+use Rattle.bench_stat.proofs.streaming.stat.Goals as goal
 
 pub packets-init : goal.packets-init
 packets-init g c = record {

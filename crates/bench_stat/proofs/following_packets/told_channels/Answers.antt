@@ -5,7 +5,7 @@ use Rattle.ch11_stream.proofs.Folding.{all_found, not_found}
 use Rattle.ch11_stream.proofs.Readings.{amid_on, amid_start}
 use Rattle.bench_stat.specs.Told.{AreTold}
 use Rattle.bench_stat.proofs.Telling.{listed_next, told_on}
-use Rattle.bench_stat.proofs.following_packets.told_from.Goals as goal
+use Rattle.bench_stat.proofs.following_packets.told_channels.Goals as goal
 
 pub packets-init : goal.packets-init
 packets-init g c = record {
