@@ -1,12 +1,14 @@
 -- The text of a value change dump that was written so far.
-use Rattle.std.proofs.Common.{◌≡◌, ℕ, zero, suc, ◌+◌, ◌/◌, ◌%◌, ◌<◌, ◌≤◌, nat_lt, Bool, true, false, if◌then◌else◌, List, [], ◌∷◌, ◌++◌, length, drop, get_or, Option, None, refl, sym, ap, subst, ◌∙◌, append_assoc, add-one, drop-cons, arith}
+use Rattle.std.proofs.Common.{◌≡◌, ℕ, zero, suc, ◌+◌, ◌<◌, ◌≤◌, Bool, true, false, if◌then◌else◌, List, [], ◌∷◌, ◌++◌, length, take, drop, get_or, Option, None, refl, sym, ap, subst, ◌∙◌, append_assoc, add-one, drop-cons, arith}
 use Rattle.std.specs.Io.KnownBytes.{Appends}
 use Rattle.std.specs.Prelude.{codes}
-use Rattle.std.proofs.lemmas.List.{append-nil, drop_all}
+use Rattle.std.proofs.lemmas.List.{append-nil, drop_all, take_all}
 use Rattle.bench_dump.proofs.Steps.{appends_both, appends_nothing}
+use Rattle.bench_export.specs.Merging.{AreShown, kept_at}
+use Rattle.bench_export.specs.Showing.{shown_behind}
 use Rattle.bench_export.specs.declared.changes.Change.{Change}
-use Rattle.std.proofs.lemmas.Bool.Decides.{nat_tests}
-use Rattle.bench_export.specs.Waves.{binary, has_channel, marked, ArePresent, channels_text, present_text, scope_text, idle_text, start_text, head_text, first_tick, notes, change_text, changes_text}
+use Rattle.bench_export.specs.declared.lines.Shown.{Shown}
+use Rattle.bench_export.specs.Waves.{has_channel, marked, ArePresent, channels_text, present_text, scope_text, idle_text, start_text, head_text, first_tick, notes, change_text, changes_text}
 
 regroup : (t a b c d e : List ℕ) → ((((t ++ a) ++ b) ++ c) ++ d) ++ e ≡ t ++ (a ++ (b ++ (c ++ (d ++ e))))
 regroup t a b c d e = simp append_assoc
@@ -67,50 +69,54 @@ head_put t0 t1 t2 t3 t4 t5 marks cs present e1 e2 e3 e4 e5 =
     end : List ℕ
     end = codes "$end\n"
 
--- binary digits in front of the last, and the last
-pub binary_more : (t0 t1 t2 : List ℕ) (rest most value : ℕ) → rest + 1 ≡ most → 2 ≤ value → t1 ≡ t0 ++ binary rest (value / 2)
-    → t2 ≡ t1 ++ (48 + value % 2) ∷ [] → t2 ≡ t0 ++ binary most value
-unfolding binary
-binary_more t0 t1 t2 rest most value is large a b =
-    let less : nat_lt value 2 ≡ false = grind (arith, nat_tests) in
-    b ∙ ap (λ (l : List ℕ). l ++ (48 + value % 2) ∷ []) a ∙ append_assoc t0 (binary rest (value / 2)) ((48 + value % 2) ∷ [])
-    ∙ ap (λ (x : Bool). t0 ++ ((if x then [] else binary rest (value / 2)) ++ (48 + value % 2) ∷ [])) (sym less)
-    ∙ ap (λ (k : ℕ). t0 ++ binary k value) (sym (add-one rest) ∙ is)
-
-pub binary_last : (t0 t2 : List ℕ) (most value : ℕ) → (most ≡ 0 → ⊥) → value < 2 → t2 ≡ t0 ++ (48 + value % 2) ∷ [] → t2 ≡ t0 ++ binary most value
-unfolding binary
-binary_last t0 t2 zero value some small b = absurd (some refl)
-binary_last t0 t2 (suc most) value some small b =
-    let less : nat_lt value 2 ≡ true = grind (arith, nat_tests) in
-    b ∙ ap (λ (x : Bool). t0 ++ ((if x then [] else binary most (value / 2)) ++ (48 + value % 2) ∷ [])) (sym less)
-
 -- what a place past the end is read as
 abbrev pub no_change : Change
-no_change = record { tick = 0; channel = 0; on_b = false; driven = None; error = None }
+no_change = record { tick = 0; channel = 0; on_b = false; driven = None; error = false }
 
 -- the change at a place, and those behind it
 pub split_at : (cs : List Change) (i : ℕ) (d : Change) → i < length cs → drop i cs ≡ get_or cs i d ∷ drop (i + 1) cs
 split_at cs i d within = rw (add-one, drop-cons cs i d)
 
--- the changes before a place were written, the last of them at a tick
-pub record IsWriting (got gets : Option (List ℕ)) (first last place : ℕ) (cs : List Change) : Type 0 where
+-- the changes before a place were written behind earlier ones, the last of them at a tick, and lines show what they do
+pub record IsWriting (got gets : Option (List ℕ)) (first last place : ℕ) (lines : List Shown) (earlier cs : List Change) : Type 0 where
   pub more : List ℕ
   pub written : Appends got gets more
-  pub text : more ++ changes_text last (drop place cs) ≡ changes_text first cs
+  pub shown : AreShown lines (earlier ++ take place cs)
+  pub text : more ++ changes_text last (earlier ++ take place cs) (drop place cs) ≡ changes_text first earlier cs
 
-pub begins : (got : Option (List ℕ)) (first : ℕ) (cs : List Change) → IsWriting got got first first 0 cs
-begins got first cs = record { more = []; written = appends_nothing got; text = refl }
-
-pub goes_on : (got mid gets : Option (List ℕ)) (first last place : ℕ) (cs : List Change) (c : Change) → drop place cs ≡ c ∷ drop (place + 1) cs → IsWriting got mid first last place cs
-    → Appends mid gets (change_text last c) → IsWriting got gets first c.tick (place + 1) cs
-goes_on got mid gets first last place cs c split g one = record {
-  more = g.more ++ change_text last c;
-  written = appends_both got mid gets g.more (change_text last c) g.written one;
-  text =
-      append_assoc g.more (change_text last c) (changes_text c.tick (drop (place + 1) cs))
-      ∙ ap (λ (l : List Change). g.more ++ changes_text last l) (sym split) ∙ g.text;
+pub begins : (got : Option (List ℕ)) (first : ℕ) (lines : List Shown) (earlier cs : List Change) → AreShown lines earlier → IsWriting got got first first 0 lines earlier cs
+begins got first lines earlier cs shown = record {
+  more = [];
+  written = appends_nothing got;
+  shown = rw (append-nil earlier) shown;
+  text = rw (append-nil earlier) refl;
 }
 
-pub ends : (got gets : Option (List ℕ)) (first last place : ℕ) (cs : List Change) → length cs ≤ place → IsWriting got gets first last place cs → Appends got gets (changes_text first cs)
-ends got gets first last place cs past g =
-    subst (Appends got gets) (sym (append-nil g.more) ∙ ap (λ (l : List Change). g.more ++ changes_text last l) (sym (drop_all place cs past)) ∙ g.text) g.written
+pub goes_on : (got mid gets : Option (List ℕ)) (first last place : ℕ) (lines after : List Shown) (earlier cs : List Change) (c : Change) → drop place cs ≡ c ∷ drop (place + 1) cs → take (place + 1) cs ≡ take place cs ++ c ∷ []
+    → IsWriting got mid first last place lines earlier cs → Appends mid gets (change_text last (kept_at lines c.on_b c.channel) c)
+    → ((so_far : List Change) → AreShown lines so_far → AreShown after (so_far ++ c ∷ [])) → IsWriting got gets first c.tick (place + 1) after earlier cs
+goes_on got mid gets first last place lines after earlier cs c split front g one noted = record {
+  more = g.more ++ told;
+  written = appends_both got mid gets g.more told g.written (rw (g.shown c.on_b c.channel) at one);
+  shown = subst (AreShown after) (sym behind) (noted so_far g.shown);
+  text =
+      append_assoc g.more told (changes_text c.tick (earlier ++ take (place + 1) cs) (drop (place + 1) cs))
+      ∙ ap (λ (l : List Change). g.more ++ (told ++ changes_text c.tick l (drop (place + 1) cs))) behind
+      ∙ ap (λ (l : List Change). g.more ++ changes_text last so_far l) (sym split) ∙ g.text;
+}
+  where
+    so_far : List Change
+    so_far = earlier ++ take place cs
+
+    told : List ℕ
+    told = change_text last (shown_behind c.on_b c.channel so_far) c
+
+    behind : earlier ++ take (place + 1) cs ≡ so_far ++ c ∷ []
+    behind = ap (λ (l : List Change). earlier ++ l) front ∙ sym (append_assoc earlier (take place cs) (c ∷ []))
+
+pub ends : (got gets : Option (List ℕ)) (first last place : ℕ) (lines : List Shown) (earlier cs : List Change) → length cs ≤ place → IsWriting got gets first last place lines earlier cs → Appends got gets (changes_text first earlier cs)
+ends got gets first last place lines earlier cs past g =
+    subst (Appends got gets) (sym (append-nil g.more) ∙ ap (λ (l : List Change). g.more ++ changes_text last (earlier ++ take place cs) l) (sym (drop_all place cs past)) ∙ g.text) g.written
+
+pub shown_all : (got gets : Option (List ℕ)) (first last place : ℕ) (lines : List Shown) (earlier cs : List Change) → length cs ≤ place → IsWriting got gets first last place lines earlier cs → AreShown lines (earlier ++ cs)
+shown_all got gets first last place lines earlier cs past g = subst (λ (l : List Change). AreShown lines (earlier ++ l)) (take_all place cs past) g.shown

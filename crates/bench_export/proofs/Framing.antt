@@ -2,14 +2,14 @@
 use Rattle.std.proofs.Common.{◌≡◌, ℕ, ◌+◌, ◌/◌, ◌%◌, Bool, List, [], ◌∷◌, ◌++◌, sym, ap, ◌∙◌, append_assoc, add-one}
 use Rattle.std.specs.Prelude.{codes, decimal}
 use Rattle.std.proofs.lemmas.List.{append-nil}
-use Rattle.ch11_f1.specs.BodyReading.{Message}
+use Rattle.ch11_layout.specs.Stamps.{Recorded}
 use Rattle.bench_export.specs.Frames.{digits_of, data_field, data_fields, data_names}
 
-pub no_fields : (got : List (List ℕ)) (prefixed : Bool) (m : Message) → got ≡ got ++ data_fields 0 prefixed m
+pub no_fields : (got : List (List ℕ)) (prefixed : Bool) (m : Recorded) → got ≡ got ++ data_fields 0 prefixed m
 unfolding data_fields
 no_fields got prefixed m = sym (append-nil got)
 
-pub field_more : (got mid gets : List (List ℕ)) (place : ℕ) (prefixed : Bool) (m : Message) → mid ≡ got ++ data_fields place prefixed m
+pub field_more : (got mid gets : List (List ℕ)) (place : ℕ) (prefixed : Bool) (m : Recorded) → mid ≡ got ++ data_fields place prefixed m
     → gets ≡ mid ++ data_field prefixed m place ∷ [] → gets ≡ got ++ data_fields (place + 1) prefixed m
 unfolding data_fields
 field_more got mid gets place prefixed m a b =

@@ -1,9 +1,11 @@
 pub mod Changing
 pub mod Dumping
 pub mod Framing
+pub mod Latest
 pub mod Looking
 pub mod Orders
 pub mod Parts
+pub mod Putting
 pub mod Streamed
 pub mod Surveying
 pub mod Waiting

@@ -9,28 +9,34 @@ use Rattle.std.proofs.lemmas.List.Elements.{All-nil, All-append, All-weaker, fil
 use Rattle.std.proofs.lemmas.List.Sorted.{All-permutation, IsPermutation-refl, IsPermutation-append_left, IsPermutation-append_right, IsPermutation-trans, IsNonDecreasingBy-take}
 use Rattle.bench_dump.proofs.Steps.{appends_both, appends_nothing}
 use Rattle.bench_export.specs.Changes.{AreInOrder, tick_of}
-use Rattle.bench_export.specs.Merging.{AreApart, IsCut, IsLag, IsMerging, last_tick}
+use Rattle.bench_export.specs.Merging.{AreApart, AreShown, IsCut, IsLag, IsMerging, last_tick}
+use Rattle.bench_export.specs.Showing.{shown_behind}
 use Rattle.bench_export.specs.Waves.{change_text, changes_text}
 use Rattle.bench_export.specs.declared.changes.Change.{Change}
+use Rattle.bench_export.specs.declared.lines.Shown.{Shown}
 use Rattle.bench_export.proofs.Orders.{all_left, all_right, apart_at, lag_across, rises, rises_both}
 
 -- ---- texts
 
-text_both : (told : ℕ) (us vs : List Change) → changes_text told (us ++ vs) ≡ changes_text told us ++ changes_text (last_tick told us) vs
-text_both told [] vs = refl
-text_both told (a ∷ us) vs =
-    ap (λ (l : List ℕ). change_text told a ++ l) (text_both a.tick us vs)
-    ∙ sym (append_assoc (change_text told a) (changes_text a.tick us) (changes_text (last_tick a.tick us) vs))
+text_both : (told : ℕ) (earlier us vs : List Change) → changes_text told earlier (us ++ vs) ≡ changes_text told earlier us ++ changes_text (last_tick told us) (earlier ++ us) vs
+text_both told earlier [] vs = ap (λ (l : List Change). changes_text told l vs) (sym (append-nil earlier))
+text_both told earlier (a ∷ us) vs =
+    ap (λ (l : List ℕ). one ++ l) (text_both a.tick (earlier ++ a ∷ []) us vs)
+    ∙ sym (append_assoc one (changes_text a.tick (earlier ++ a ∷ []) us) (changes_text (last_tick a.tick us) ((earlier ++ a ∷ []) ++ us) vs))
+    ∙ ap (λ (l : List Change). (one ++ changes_text a.tick (earlier ++ a ∷ []) us) ++ changes_text (last_tick a.tick us) l vs) (append_assoc earlier (a ∷ []) us)
+  where
+    one : List ℕ
+    one = change_text told (shown_behind a.on_b a.channel earlier) a
 
 last_both : (told : ℕ) (us vs : List Change) → last_tick told (us ++ vs) ≡ last_tick (last_tick told us) vs
 last_both told [] vs = refl
 last_both told (a ∷ us) vs = last_both a.tick us vs
 
-written_on : (first last : ℕ) (got mid gets : Option (List ℕ)) (given due : List Change) → last ≡ last_tick first given → Appends got mid (changes_text first given)
-    → Appends mid gets (changes_text last due) → Appends got gets (changes_text first (given ++ due))
+written_on : (first last : ℕ) (got mid gets : Option (List ℕ)) (given due : List Change) → last ≡ last_tick first given → Appends got mid (changes_text first [] given)
+    → Appends mid gets (changes_text last given due) → Appends got gets (changes_text first [] (given ++ due))
 written_on first last got mid gets given due is one two =
-    subst (Appends got gets) (ap (λ (n : ℕ). changes_text first given ++ changes_text n due) is ∙ sym (text_both first given due))
-    (appends_both got mid gets (changes_text first given) (changes_text last due) one two)
+    subst (Appends got gets) (ap (λ (n : ℕ). changes_text first [] given ++ changes_text n given due) is ∙ sym (text_both first [] given due))
+    (appends_both got mid gets (changes_text first [] given) (changes_text last given due) one two)
 
 -- ---- the order
 
@@ -53,12 +59,13 @@ stable_more so_far given waiting more one x =
 
 -- ---- the steps
 
-pub none_wait : (told lag : ℕ) (got : Option (List ℕ)) → IsMerging told lag told got got [] []
-none_wait told lag got = record {
+pub none_wait : (told lag : ℕ) (lines : List Shown) (got : Option (List ℕ)) → AreShown lines [] → IsMerging told lag told lines got got [] []
+none_wait told lag lines got shown = record {
   given = [];
   same = IsPermutation-refl [];
   stable = λ x. refl;
   written = appends_nothing got;
+  shown = shown;
   last = refl;
   apart = λ future l. record {
     rising = rises [] tt;
@@ -67,13 +74,14 @@ none_wait told lag got = record {
 }
 
 -- more changes came
-pub more_wait : (first lag last : ℕ) (got gets : Option (List ℕ)) (so_far waiting more : List Change) → IsMerging first lag last got gets so_far waiting
-    → IsMerging first lag last got gets (so_far ++ more) (waiting ++ more)
-more_wait first lag last got gets so_far waiting more m = record {
+pub more_wait : (first lag last : ℕ) (lines : List Shown) (got gets : Option (List ℕ)) (so_far waiting more : List Change) → IsMerging first lag last lines got gets so_far waiting
+    → IsMerging first lag last lines got gets (so_far ++ more) (waiting ++ more)
+more_wait first lag last lines got gets so_far waiting more m = record {
   given = m.given;
   same = subst (IsPermutation (so_far ++ more)) (append_assoc m.given waiting more) (IsPermutation-append_left more so_far (m.given ++ waiting) m.same);
   stable = stable_more so_far m.given waiting more m.stable;
   written = m.written;
+  shown = m.shown;
   last = m.last;
   apart = λ future l.
       subst (AreApart m.given) (sym (append_assoc waiting more future)) (m.apart (more ++ future) (subst (IsLag lag) (append_assoc so_far more future) l));
@@ -101,13 +109,14 @@ early_all lag so_far given waiting due rest future same cut l k d lt i e within 
     cut.early c.tick (all_right p given waiting (All-permutation p so_far (given ++ waiting) same before)) k d lt
 
 -- some were written
-pub some_written : (first lag last now : ℕ) (got mid gets : Option (List ℕ)) (so_far waiting due rest : List Change) → IsMerging first lag last got mid so_far waiting → IsCut lag waiting due rest
-    → now ≡ last_tick last due → Appends mid gets (changes_text last due) → IsMerging first lag now got gets so_far rest
-some_written first lag last now got mid gets so_far waiting due rest m cut is one = record {
+pub some_written : (first lag last now : ℕ) (lines after : List Shown) (got mid gets : Option (List ℕ)) (so_far waiting due rest : List Change) → IsMerging first lag last lines got mid so_far waiting → IsCut lag waiting due rest
+    → now ≡ last_tick last due → ((cs : List Change) → AreShown lines cs → AreShown after (cs ++ due)) → ((cs : List Change) → AreShown lines cs → Appends mid gets (changes_text last cs due)) → IsMerging first lag now after got gets so_far rest
+some_written first lag last now lines after got mid gets so_far waiting due rest m cut is noted one = record {
   given = m.given ++ due;
   same = subst (IsPermutation so_far) (sym (append_assoc m.given due rest)) (same_behind so_far m.given waiting (due ++ rest) m.same cut.same);
   stable = subst (IsStableByKey tick_of nat_cmp so_far) (sym (append_assoc m.given due rest)) (stable_behind so_far m.given waiting (due ++ rest) m.stable cut.stable);
-  written = written_on first last got mid gets m.given due m.last m.written one;
+  written = written_on first last got mid gets m.given due m.last m.written (one m.given m.shown);
+  shown = noted m.given m.shown;
   last = is ∙ ap (λ (n : ℕ). last_tick n due) m.last ∙ sym (last_both first m.given due);
   apart = λ future l.
       let a = m.apart future l in
@@ -124,9 +133,9 @@ some_written first lag last now got mid gets so_far waiting due rest m cut is on
         (λ g a. let p = λ (c : Change). g.tick ≤ c.tick in all_left p due rest (All-permutation p waiting (due ++ rest) same (all_left p waiting future a))) given h
 
 -- all were written
-pub all_written : (first lag last : ℕ) (got mid gets : Option (List ℕ)) (so_far waiting rest : List Change) → IsMerging first lag last got mid so_far waiting → AreInOrder waiting rest
-    → Appends mid gets (changes_text last rest) → IsLag lag so_far → (given : List Change) × AreInOrder so_far given × Appends got gets (changes_text first given)
-all_written first lag last got mid gets so_far waiting rest m o one l =
+pub all_written : (first lag last : ℕ) (lines : List Shown) (got mid gets : Option (List ℕ)) (so_far waiting rest : List Change) → IsMerging first lag last lines got mid so_far waiting → AreInOrder waiting rest
+    → ((cs : List Change) → AreShown lines cs → Appends mid gets (changes_text last cs rest)) → IsLag lag so_far → (given : List Change) × AreInOrder so_far given × Appends got gets (changes_text first [] given)
+all_written first lag last lines got mid gets so_far waiting rest m o one l =
     let a = m.apart [] (rw append-nil l) in (
       m.given ++ rest,
       record {
@@ -134,7 +143,7 @@ all_written first lag last got mid gets so_far waiting rest m o one l =
         rising = rises_both m.given rest a.rising o.rising (to_rest m.given a.apart);
         stable = stable_behind so_far m.given waiting rest m.stable o.stable;
       },
-      written_on first last got mid gets m.given rest m.last m.written one,
+      written_on first last got mid gets m.given rest m.last m.written (one m.given m.shown),
     )
   where
     to_rest : (given : List Change) → All (λ (g : Change). All (λ (c : Change). g.tick ≤ c.tick) (waiting ++ [])) given → All (λ (g : Change). All (λ (c : Change). g.tick ≤ c.tick) rest) given

@@ -3,7 +3,7 @@
 use Rattle.std.specs.Prelude.{ℕ, zero, suc, ◌+◌, ◌-◌, ◌/◌, ◌%◌, ◌^◌, ◌==◌, Bool, false, not, ◌&&◌, ◌||◌, nat_lt}
 use Rattle.std.specs.Prelude.{if◌then◌else◌, List, [], ◌∷◌, ◌++◌, Option, Some, None, codes, decimal}
 use Rattle.mil_word.specs.Fields.{has_bit, is_transmit, most_words}
-use Rattle.ch11_f1.specs.BodyReading.{Message}
+use Rattle.ch11_layout.specs.Stamps.{Recorded}
 use Rattle.ch11_layout.specs.BlockStatus.{has_error, has_format_error, has_response_timeout, has_word_count_error}
 use Rattle.ch11_layout.specs.BlockStatus.{has_sync_type_error, has_invalid_word_error}
 use Rattle.ch11_layout.specs.Layouts.{size_of, word_of, is_between, first_word, first_gap, second_gap, commands_in}
@@ -33,18 +33,18 @@ word_if prefixed (Some word) = word_text prefixed word
 
 -- the status word of the first reply, and that of the second, which only a transfer has: in front of the data words
 -- stands that of their sender, behind them that of their receiver (MIL-STD-1553B 4.3.3.6)
-abbrev pub first_status : Message → Option ℕ
+abbrev pub first_status : Recorded → Option ℕ
 first_status m =
     if nat_lt (commands_in m) (data_start m) then Some (word_of m.bytes (commands_in m))
     else if not (is_between m) && nat_lt (data_end m) (size_of m) then Some (word_of m.bytes (data_end m))
     else None
 
-abbrev pub second_status : Message → Option ℕ
+abbrev pub second_status : Recorded → Option ℕ
 second_status m =
     if is_between m && nat_lt (data_end m) (size_of m) then Some (word_of m.bytes (data_end m)) else None
 
 -- the T/R bit of the first command (4.3.3.5.1.3)
-abbrev pub direction_text : Message → List ℕ
+abbrev pub direction_text : Recorded → List ℕ
 direction_text m =
     if commands_in m == 0 then []
     else if is_transmit (first_word m) then codes "T"
@@ -77,15 +77,15 @@ error_flags block =
     ∷ flag (has_word_count_error block) ∷ flag (has_sync_type_error block) ∷ flag (has_invalid_word_error block) ∷ []
 
 -- the data word at a place of the data words
-abbrev pub data_word : Message → ℕ → Option ℕ
+abbrev pub data_word : Recorded → ℕ → Option ℕ
 data_word m place = if nat_lt place (data_end m - data_start m) then Some (word_of m.bytes (data_start m + place))
     else None
 
-abbrev pub data_field : Bool → Message → ℕ → List ℕ
+abbrev pub data_field : Bool → Recorded → ℕ → List ℕ
 data_field prefixed m place = word_if prefixed (data_word m place)
 
 -- the columns of the first so many data words
-unfoldable pub data_fields : ℕ → Bool → Message → List (List ℕ)
+unfoldable pub data_fields : ℕ → Bool → Recorded → List (List ℕ)
 data_fields zero prefixed m = []
 data_fields (suc place) prefixed m = data_fields place prefixed m ++ data_field prefixed m place ∷ []
 
@@ -95,22 +95,22 @@ data_names zero = []
 data_names (suc place) = data_names place ++ (codes "word" ++ decimal (place + 1)) ∷ []
 
 -- how it was sent; what was answered
-abbrev pub sent_columns : Message → List (List ℕ)
+abbrev pub sent_columns : Recorded → List (List ℕ)
 sent_columns m = message_line_text m ∷ form_text m ∷ direction_text m ∷ []
 
-abbrev pub answered_columns : Bool → Message → List (List ℕ)
+abbrev pub answered_columns : Bool → Recorded → List (List ℕ)
 answered_columns prefixed m =
     gap_text (first_gap m) ∷ gap_text (second_gap m) ∷ word_if prefixed (first_status m)
     ∷ word_if prefixed (second_status m) ∷ []
 
 -- the bits, and the data words
-abbrev pub carried_columns : Bool → Message → List (List ℕ)
+abbrev pub carried_columns : Bool → Recorded → List (List ℕ)
 carried_columns prefixed m =
     status_flags (first_status m) (second_status m)
     ++ (error_flags m.block ++ (decimal (data_end m - data_start m) ∷ data_fields most_words prefixed m))
 
 -- all these columns
-abbrev pub frame_row : Bool → Message → List (List ℕ)
+abbrev pub frame_row : Bool → Recorded → List (List ℕ)
 frame_row prefixed m =
     sent_columns m ++ (called_fields m ++ (answered_columns prefixed m ++ carried_columns prefixed m))
 

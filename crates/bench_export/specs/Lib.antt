@@ -1,11 +1,13 @@
 pub mod Between
 pub mod Changes
 pub mod Choosing
+pub mod Digits
 pub mod Frames
 pub mod Heads
 pub mod Merging
 pub mod Moments
 pub mod Rows
+pub mod Showing
 pub mod Stamped
 pub mod Streaming
 pub mod Tables

@@ -3,25 +3,18 @@ use Rattle.std.specs.Prelude.{◌≡◌, ℕ, zero, suc, ◌+◌, ◌/◌, ◌%�
 use Rattle.std.specs.Prelude.{List, [], ◌∷◌, ◌++◌, slice_index_or, Option, Some, None, codes, decimal}
 use Rattle.std.specs.List.{list_any}
 use Rattle.std.specs.Io.KnownBytes.{Appends}
-use Rattle.ch11_layout.specs.declared.layouts.Role.{Role}
-use Rattle.ch11_layout.specs.declared.layouts.Role.TheVariants as roles
 use Rattle.ch11_reader.specs.Recording.{Found}
 use Rattle.bench_select.specs.Channels.{AreMarks}
 use Rattle.bench_select.specs.declared.selection.Selection.{Selection}
 use Rattle.bench_export.specs.declared.changes.Change.{Change}
-use Rattle.bench_export.specs.declared.changes.Driven.{Driven}
+use Rattle.bench_export.specs.declared.lines.Shown.{Shown}
 use Rattle.bench_export.specs.Changes.{AreInOrder, changes_in}
+use Rattle.bench_export.specs.Showing.{shown_of, shown_behind, told_in}
 
 -- a number as binary digits, at most so many, without leading zeros
 unfoldable pub binary : ℕ → ℕ → List ℕ
 binary zero value = []
 binary (suc most) value = (if nat_lt value 2 then [] else binary most (value / 2)) ++ (48 + value % 2) ∷ []
-
--- what the kind of a word is shown as
-abbrev pub kind_of : Role → ℕ
-kind_of roles.Command = 1
-kind_of roles.Data = 2
-kind_of roles.Status = 3
 
 -- the letter of a line
 abbrev pub letter_text : Bool → List ℕ
@@ -31,6 +24,10 @@ letter_text on_b = if on_b then codes "B" else codes "A"
 abbrev pub signal_code : List ℕ → Bool → ℕ → List ℕ
 signal_code letter on_b channel = letter ++ (letter_text on_b ++ decimal channel)
 
+-- the code of a signal at the end of a line of text
+unfoldable pub code_line : List ℕ → Bool → ℕ → List ℕ
+code_line letter on_b channel = signal_code letter on_b channel ++ codes "\n"
+
 -- a value, z on an idle line
 abbrev pub value_text : Option ℕ → List ℕ
 value_text None = codes "z"
@@ -39,40 +36,41 @@ value_text (Some value) = binary 64 value
 -- a signal takes a value
 unfoldable pub signal_text : List ℕ → Option ℕ → Bool → ℕ → List ℕ
 signal_text letter value on_b channel = codes "b"
-    ++ (value_text value ++ (codes " " ++ (signal_code letter on_b channel ++ codes "\n")))
+    ++ (value_text value ++ (codes " " ++ code_line letter on_b channel))
 
--- the four signals of a line: the word, its kind, its terminal and the number of its message
-abbrev pub signals_text : Option ℕ → Option ℕ → Option ℕ → Option ℕ → Bool → ℕ → List ℕ
-signals_text word kind terminal message on_b channel =
-    signal_text (codes "w") word on_b channel
-    ++ (signal_text (codes "k") kind on_b channel
-    ++ (signal_text (codes "t") terminal on_b channel ++ signal_text (codes "m") message on_b channel))
+-- a value of a signal, where it is told
+abbrev pub told_text : List ℕ → Option (Option ℕ) → Bool → ℕ → List ℕ
+told_text letter None on_b channel = []
+told_text letter (Some value) on_b channel = signal_text letter value on_b channel
 
-unfoldable pub values_text : Option Driven → Bool → ℕ → List ℕ
-values_text None on_b channel = signals_text None None None None on_b channel
-values_text (Some d) on_b channel = signals_text (Some d.word) (Some (kind_of d.role)) (Some d.terminal)
-    (Some d.number) on_b channel
+-- whether a message with an error is on a line, where that is told
+abbrev pub error_text : Option Bool → Bool → ℕ → List ℕ
+error_text None on_b channel = []
+error_text (Some error) on_b channel =
+    (if error then codes "1" else codes "0") ++ code_line (codes "e") on_b channel
+
+-- what is told of the five signals of a line that showed something where it shows something else
+unfoldable pub shown_text : Shown → Shown → Bool → ℕ → List ℕ
+shown_text before now on_b channel =
+    told_text (codes "w") (told_in before now).word on_b channel
+    ++ (told_text (codes "k") (told_in before now).kind on_b channel
+    ++ (told_text (codes "t") (told_in before now).terminal on_b channel
+    ++ (told_text (codes "m") (told_in before now).message on_b channel
+    ++ error_text (told_in before now).error on_b channel)))
 
 -- a time, where it is not that of the change before
 unfoldable pub time_text : ℕ → ℕ → List ℕ
 time_text last tick = if last == tick then [] else codes "#" ++ (decimal tick ++ codes "\n")
 
--- whether a message with an error is on a line, where that changes
-abbrev pub error_text : Option Bool → Bool → ℕ → List ℕ
-error_text None on_b channel = []
-error_text (Some error) on_b channel =
-    (if error then codes "1" else codes "0") ++ (signal_code (codes "e") on_b channel ++ codes "\n")
+-- a change behind a time that was told, of a line that showed something
+abbrev pub change_text : ℕ → Shown → Change → List ℕ
+change_text last before c = time_text last c.tick ++ shown_text before (shown_of c) c.on_b c.channel
 
-unfoldable pub wire_text : Option Driven → Option Bool → Bool → ℕ → List ℕ
-wire_text driven error on_b channel = values_text driven on_b channel ++ error_text error on_b channel
-
-abbrev pub change_text : ℕ → Change → List ℕ
-change_text last c = time_text last c.tick ++ wire_text c.driven c.error c.on_b c.channel
-
--- changes behind a time that was told
-abbrev pub changes_text : ℕ → List Change → List ℕ
-changes_text last [] = []
-changes_text last (c ∷ cs) = change_text last c ++ changes_text c.tick cs
+-- changes behind a time that was told and behind earlier changes
+abbrev pub changes_text : ℕ → List Change → List Change → List ℕ
+changes_text last earlier [] = []
+changes_text last earlier (c ∷ cs) =
+    change_text last (shown_behind c.on_b c.channel earlier) c ++ changes_text c.tick (earlier ++ c ∷ []) cs
 
 abbrev pub has_channel : ℕ → List Change → Bool
 has_channel channel changes = list_any (λ (c : Change). c.channel == channel) changes
@@ -116,9 +114,21 @@ unfoldable pub scope_text : ℕ → List ℕ
 scope_text channel = channel_text channel
     ++ (line_scope_text false channel ++ (line_scope_text true channel ++ codes "$upscope $end\n"))
 
+-- a signal of an idle line
+abbrev pub idle_signal : List ℕ → List ℕ → Bool → ℕ → List ℕ
+idle_signal value letter on_b channel = value ++ code_line letter on_b channel
+
+-- a line is idle, and without an error
+unfoldable pub idle_line : Bool → ℕ → List ℕ
+idle_line on_b channel =
+    idle_signal (codes "bz ") (codes "w") on_b channel
+    ++ (idle_signal (codes "bz ") (codes "k") on_b channel
+    ++ (idle_signal (codes "bz ") (codes "t") on_b channel
+    ++ (idle_signal (codes "bz ") (codes "m") on_b channel ++ idle_signal (codes "0") (codes "e") on_b channel)))
+
 -- a channel's lines are idle, and without an error
 abbrev pub idle_text : ℕ → List ℕ
-idle_text channel = wire_text None (Some false) false channel ++ wire_text None (Some false) true channel
+idle_text channel = idle_line false channel ++ idle_line true channel
 
 -- the texts of those channels below one for which a test holds
 unfoldable pub channels_text : (ℕ → List ℕ) → (ℕ → Bool) → ℕ → List ℕ
@@ -152,7 +162,7 @@ head_text changes =
 
 -- the dump of changes that are in order
 abbrev pub waves_text : List Change → List ℕ
-waves_text changes = head_text changes ++ changes_text (first_tick changes) changes
+waves_text changes = head_text changes ++ changes_text (first_tick changes) [] changes
 
 -- the dump of a recording's selected messages
 pub record IsDump (selection : Selection) (ps : List Found) (text : List ℕ) : Type 0 where

@@ -1,14 +1,17 @@
 //! The changes of the lines of a recording over time.
 ghost use Rattle.bench_export.specs.Changes as spec;
 ghost use Rattle.bench_export.specs.Moments as moments;
+ghost use Rattle.bench_export.specs.Showing.{shown_of};
 ghost use Rattle.ch11_layout.specs.Layouts.{size_of};
+ghost use Rattle.ch11_layout.specs.Stamps.{kind_of};
 ghost use Rattle.std.specs.Prelude.{◌≡◌, ◌+◌, ◌<◌, ◌^◌, ◌++◌, ◌==◌, ◌&&◌, nat_lt, length, OnOk};
 
+use crate::lines::{Shown, Wire};
 use crate::moments::{WORD, begin_of};
 use crate::place::Place;
 use bench_select::Selection;
 use ch11_f1::Messages;
-use ch11_layout::{Role, View};
+use ch11_layout::{Role, StampKind, View};
 use ch11_reader::Packet;
 use mil_word::Command;
 use std::alloc::AllocError;
@@ -35,10 +38,35 @@ pub struct Change {
     pub channel: u16,
     /// Whether it is line B of the bus, or else line A.
     pub on_b: bool,
+    /// Whether a message with an error is on the line from here on.
+    pub error: bool,
     /// The word that begins; none where the line is idle from here on.
     pub driven: Option<Driven>,
-    /// Whether a message with an error begins, or else is over; none where neither does.
-    pub error: Option<bool>,
+}
+
+impl Change {
+    /// The line.
+    #[inline]
+    pub(crate) fn wire(&self) -> Wire
+        ensures on_b { result.on_b ≡ self.now.on_b }
+        ensures channel { result.channel ≡ self.now.channel }
+    {
+        Wire {
+            on_b: self.on_b,
+            channel: self.channel,
+        }
+    }
+
+    /// What the line shows from here on.
+    #[inline]
+    pub(crate) fn shown(&self) -> Shown
+        ensures { result ≡ shown_of self.now }
+    {
+        Shown {
+            driven: self.driven,
+            error: self.error,
+        }
+    }
 }
 
 /// The terminal of the word at a place.
@@ -72,7 +100,7 @@ fn change_of(
     channel: u16,
     tick: u128,
     driven: Option<Driven>,
-    error: Option<bool>,
+    error: bool,
 ) -> Change
     ensures { result ≡ spec.change_of view.now channel tick driven error }
 {
@@ -85,62 +113,51 @@ fn change_of(
     }
 }
 
-/// Whether a message with an error begins with the word at a place.
-fn error_begun(view: &View<'_>, place: usize) -> Option<bool>
-    ensures { result ≡ spec.error_begun view.now place }
-{
-    if view.has_error() && place == 0 {
-        Some(true)
-    } else {
-        None
-    }
-}
-
-/// Whether a message with an error is over behind the word at a place.
-fn error_over(view: &View<'_>, place: usize) -> Option<bool>
+/// Whether a message with an error is still there behind the word at a place.
+fn error_behind(view: &View<'_>, place: usize) -> bool
     requires { place < size_of view.now }
-    ensures { result ≡ spec.error_over view.now place }
+    ensures { result ≡ spec.error_behind view.now place }
 {
     let layout = view.layout();
-    if view.has_error() && place + 1 == layout.words {
-        Some(false)
-    } else {
-        None
-    }
+    view.has_error() && place + 1 < layout.words
 }
 
-/// Whether the word behind the one at a place begins at a tick.
-fn goes_on(view: &View<'_>, place: usize, end: u128) -> bool
+/// Whether the word behind the one at a place begins at the end of that one.
+fn goes_on(view: &View<'_>, place: usize, next: u128, end: u128) -> bool
     requires { place < size_of view.now }
-    ensures { result ≡ (nat_lt (place + 1) (size_of view.now)
-        && (moments.begin_of view.now (place + 1) == end)) }
+    ensures { result ≡ (nat_lt (place + 1) (size_of view.now) && (next == end)) }
 {
     let layout = view.layout();
-    place + 1 < layout.words && begin_of(view, place + 1) == end
+    place + 1 < layout.words && next == end
 }
 
-/// Adds the changes of the word at a place.
+/// Adds the changes of the word at a place, which begins at a tick, as the one behind it does at another.
+#[inline]
 #[tactic(auto, unfolding(crate::specs::Changes::changes_at))]
 fn push_word(
     changes: &mut Vec<Change>,
     message: Place,
     view: &View<'_>,
     place: usize,
+    begin: u128,
+    next: u128,
 ) -> Result<(), AllocError>
-    requires { place < size_of view.now }
+    requires within { place < size_of view.now }
+    requires begin { begin ≡ moments.begin_of view.now place }
+    requires next { next ≡ moments.begin_of view.now (place + 1) }
+    requires small { begin < 2 ^ 100 }
     ensures { OnOk result (changes.new.items
         ≡ changes.old.items ++ spec.changes_at message.number message.channel view.now place) }
 {
-    let begin = begin_of(view, place);
     let end = begin + WORD;
     let driven = driven_at(view, message.number, place);
-    let begun = error_begun(view, place);
-    changes.push(change_of(view, message.channel, begin, Some(driven), begun))?;
-    if goes_on(view, place, end) {
+    let error = view.has_error();
+    changes.push(change_of(view, message.channel, begin, Some(driven), error))?;
+    if goes_on(view, place, next, end) {
         return Ok(());
     }
-    let over = error_over(view, place);
-    changes.push(change_of(view, message.channel, end, None, over))?;
+    let error = error_behind(view, place);
+    changes.push(change_of(view, message.channel, end, None, error))?;
     Ok(())
 }
 
@@ -154,13 +171,16 @@ fn push_message(
         ≡ changes.old.items ++ spec.changes_of message.number message.channel view.now) }
 {
     let layout = view.layout();
+    let mut begin = begin_of(view, 0);
     'words: for place in 0..layout.words {
-        push_word(changes, message, view, place)?;
+        let next = begin_of(view, place + 1);
+        push_word(changes, message, view, place, begin, next)?;
+        begin = next;
     }
     Ok(())
 }
 
-/// Adds the changes of message n, if it is selected.
+/// Adds the changes of message n, if it is selected and its time is known.
 #[tactic(auto, unfolding(crate::specs::Changes::changes_if))]
 fn push_selected(
     changes: &mut Vec<Change>,
@@ -171,7 +191,7 @@ fn push_selected(
     ensures { OnOk result (changes.new.items
         ≡ changes.old.items ++ spec.changes_if selection.now message.number message.channel view.now) }
 {
-    if !selection.selects(message.number, message.channel, view) {
+    if !selection.selects(message.number, message.channel, view) || !view.has_time() {
         return Ok(());
     }
     push_message(changes, message, view)
@@ -186,9 +206,11 @@ pub(crate) fn push_messages(
 ) -> Result<(), AllocError>
     requires { packet.now.before + length messages < 2 ^ 64 }
     ensures { OnOk result (changes.new.items ≡ changes.old.items
-        ++ spec.changes_among selection.now packet.now.before packet.now.header.channel messages.entry) }
+        ++ spec.changes_among selection.now
+        (kind_of packet.now.header) packet.now.before packet.now.header.channel messages.entry) }
 {
     let channel = packet.header.channel;
+    let kind = StampKind::of(&packet.header);
     let mut number = packet.before;
     let mut rest = messages;
     'messages: while let Some(seen) = rest.next() {
@@ -197,7 +219,7 @@ pub(crate) fn push_messages(
             changes,
             selection,
             Place { number, channel },
-            &View::of(&seen),
+            &View::of(kind, &seen),
         )?;
     }
     Ok(())

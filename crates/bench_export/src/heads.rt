@@ -2,11 +2,12 @@
 ghost use Rattle.bench_export.specs.Heads.{part_text};
 ghost use Rattle.bench_export.specs.Waves as spec;
 ghost use Rattle.bench_export.specs.declared.changes.Change.{Change as Item};
-ghost use Rattle.std.specs.Prelude.{◌≡◌, ◌++◌, ◌<◌, List, length, OnOk};
+ghost use Rattle.std.specs.Prelude.{◌≡◌, ◌++◌, ◌<◌, List, decimal, length, OnOk};
 
-use crate::signals::{Wire, letter_of, put_code, put_number, put_wire};
+use crate::lines::Wire;
 use crate::survey::is_marked;
 use bench_select::CHANNELS;
+use itoa::Buffer;
 use std::alloc::AllocError;
 
 /// Puts what the kinds of words are, and the unit of time.
@@ -21,6 +22,31 @@ fn put_notes(text: &mut Vec<u8>) -> Result<(), AllocError>
     )?;
     text.extend_from_slice(b"$timescale 100 ns $end\n")?;
     Ok(())
+}
+
+/// Puts a number in decimal digits.
+fn put_number(text: &mut Vec<u8>, number: u128) -> Result<(), AllocError>
+    ensures { OnOk result (text.new.items ≡ text.old.items ++ decimal number) }
+{
+    let mut buffer = Buffer::new();
+    text.extend_from_slice(buffer.format(number).as_bytes())
+}
+
+/// The letter of a line.
+fn letter_of(on_b: bool) -> &'static [u8]
+    ensures { result.now ≡ spec.letter_text on_b }
+{
+    if on_b { b"B" } else { b"A" }
+}
+
+/// Puts the code of a signal of a line.
+fn put_code(text: &mut Vec<u8>, letter: &[u8], wire: Wire) -> Result<(), AllocError>
+    ensures { OnOk result (text.new.items ≡ text.old.items ++ spec.signal_code letter.now wire.on_b wire.channel) }
+{
+    let line = letter_of(wire.on_b);
+    text.extend_from_slice(letter)?;
+    text.extend_from_slice(line)?;
+    put_number(text, u128::from(wire.channel))
 }
 
 /// Puts the name of a signal of a line.
@@ -114,23 +140,47 @@ fn put_scope(text: &mut Vec<u8>, channel: u16) -> Result<(), AllocError>
     Ok(())
 }
 
+/// Puts that a signal of an idle line has a value.
+#[tactic(auto, unfolding(crate::specs::Waves::code_line))]
+fn put_idle_signal(
+    text: &mut Vec<u8>,
+    value: &[u8],
+    letter: &[u8],
+    wire: Wire,
+) -> Result<(), AllocError>
+    ensures { OnOk result (text.new.items
+        ≡ text.old.items ++ spec.idle_signal value.now letter.now wire.on_b wire.channel) }
+{
+    text.extend_from_slice(value)?;
+    put_code(text, letter, wire)?;
+    text.extend_from_slice(b"\n")
+}
+
+/// Puts that a line is idle, and without an error.
+fn put_idle_line(text: &mut Vec<u8>, wire: Wire) -> Result<(), AllocError>
+    ensures { OnOk result (text.new.items ≡ text.old.items ++ spec.idle_line wire.on_b wire.channel) }
+{
+    put_idle_signal(text, b"bz ", b"w", wire)?;
+    put_idle_signal(text, b"bz ", b"k", wire)?;
+    put_idle_signal(text, b"bz ", b"t", wire)?;
+    put_idle_signal(text, b"bz ", b"m", wire)?;
+    put_idle_signal(text, b"0", b"e", wire)?;
+    Ok(())
+}
+
 /// Puts that the lines of a channel are idle, and without an error.
 fn put_idle(text: &mut Vec<u8>, channel: u16) -> Result<(), AllocError>
     ensures { OnOk result (text.new.items ≡ text.old.items ++ spec.idle_text channel) }
 {
-    put_wire(
+    put_idle_line(
         text,
-        None,
-        Some(false),
         Wire {
             on_b: false,
             channel,
         },
     )?;
-    put_wire(
+    put_idle_line(
         text,
-        None,
-        Some(false),
         Wire {
             on_b: true,
             channel,

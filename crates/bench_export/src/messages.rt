@@ -1,6 +1,7 @@
 //! Messages as rows.
 ghost use Rattle.bench_export.specs.Between.{IsBetween, Writes};
 ghost use Rattle.bench_export.specs.Tables.{columns_of, other_columns_of, row_if, rows_text};
+ghost use Rattle.ch11_layout.specs.Stamps.{kind_of};
 ghost use Rattle.csv.specs.Writing as writing;
 ghost use Rattle.std.specs.Prelude.{◌≡◌, ◌+◌, ◌<◌, ◌^◌, ◌++◌, length, OnOk};
 
@@ -10,10 +11,10 @@ use crate::fields::push_fields;
 use crate::place::Place;
 use crate::row::Row;
 use crate::stamped::push_stamped;
-use crate::whole::Table;
+use crate::table::Table;
 use bench_clock::Clock;
 use ch11_f1::Messages;
-use ch11_layout::View;
+use ch11_layout::{StampKind, View};
 use ch11_reader::Packet;
 use csv::Writer;
 use std::alloc::{AllocError, Global};
@@ -117,9 +118,11 @@ pub(crate) fn write_messages<W: Write + Drop>(
     requires between { IsBetween writer.old }
     ensures between { OnOk result (IsBetween writer.new) }
     ensures written { OnOk result (Writes W.contents writer.old writer.new
-        (rows_text table.now clock.now packet.now.before packet.now.header.channel messages.entry)) }
+        (rows_text table.now clock.now
+        (kind_of packet.now.header) packet.now.before packet.now.header.channel messages.entry)) }
 {
     let channel = packet.header.channel;
+    let kind = StampKind::of(&packet.header);
     let mut number = packet.before;
     let mut rest = messages;
     'rows: while let Some(seen) = rest.next() {
@@ -130,7 +133,7 @@ pub(crate) fn write_messages<W: Write + Drop>(
             table,
             clock,
             Place { number, channel },
-            &View::of(&seen),
+            &View::of(kind, &seen),
         )?;
     }
     Ok(())

@@ -7,7 +7,7 @@ ghost use Rattle.std.specs.Prelude.{◌≡◌, ◌<◌, ◌+◌, ◌++◌, ◌�
 
 use crate::columns::{Columns, DATA_COLUMNS};
 use crate::row::Row;
-use crate::whole::Table;
+use crate::table::Table;
 use itoa::Buffer;
 use std::alloc::{AllocError, Global};
 

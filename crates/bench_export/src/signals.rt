@@ -1,92 +1,191 @@
-//! The values of the signals of a value change dump, as text.
+//! The values of the signals of a value change dump, as text. A text is put from its end on towards the front, into
+//! room of a fixed size: so each digit goes at once where it stays.
+ghost use Rattle.bench_export.specs.Digits.{four};
+ghost use Rattle.bench_export.specs.Showing as showing;
 ghost use Rattle.bench_export.specs.Waves as spec;
-ghost use Rattle.std.specs.Prelude.{◌≡◌, ◌++◌, decimal, OnOk};
+ghost use Rattle.std.specs.Prelude.{◌≡◌, ◌+◌, ◌<◌, ◌≤◌, ◌++◌, ◌∷◌, [], codes, decimal, drop, length, option_map};
 
 use crate::changes::{Change, Driven};
+use crate::lines::{Shown, Wire};
 use ch11_layout::Role;
-use itoa::Buffer;
-use std::alloc::AllocError;
+use itoa::{Buffer, write_digits};
+
+/// How many bytes are kept for the text of a change: 41 for a time, 74 for each of four values, and 9 for an error.
+pub(crate) const LONGEST: usize = 346;
 
 /// The most binary digits that a value has.
-const DIGITS: u32 = 64;
+const DIGITS: usize = 64;
 
-/// A line of a bus.
-#[derive(Clone, Copy)]
-pub(crate) struct Wire {
-    pub(crate) on_b: bool,
-    pub(crate) channel: u16,
-}
-
-/// Puts a number in decimal digits.
-pub(crate) fn put_number(text: &mut Vec<u8>, number: u128) -> Result<(), AllocError>
-    ensures { OnOk result (text.new.items ≡ text.old.items ++ decimal number) }
+/// Puts a byte in front of a place.
+#[inline(always)]
+fn put_byte(room: &mut [u8], end: usize, byte: u8) -> usize
+    requires some { 0 < end }
+    requires within { end ≤ length room.old }
+    ensures before { result + 1 ≡ end }
+    ensures put { drop result room.new ≡ byte ∷ drop end room.old }
 {
-    let mut buffer = Buffer::new();
-    text.extend_from_slice(buffer.format(number).as_bytes())
+    room[end - 1] = byte;
+    end - 1
 }
 
-/// Puts a number in at most so many binary digits, without leading zeros.
-#[tactic(auto, unfolding(crate::specs::Waves::binary))]
-fn put_binary(text: &mut Vec<u8>, most: u32, value: u64) -> Result<(), AllocError>
-    ensures { OnOk result (text.new.items ≡ text.old.items ++ spec.binary most value) }
+/// Puts the four binary digits of a number below 16 in front of a place.
+#[inline(always)]
+fn put_four(room: &mut [u8], end: usize, value: u64) -> usize
+    requires few { value < 16 }
+    requires room { 4 ≤ end }
+    requires within { end ≤ length room.old }
+    ensures before { result + 4 ≡ end }
+    ensures put { drop result room.new ≡ four value ++ drop end room.old }
+{
+    let end = put_byte(room, end, b'0' + (value % 2) as u8);
+    let end = put_byte(room, end, b'0' + (value / 2 % 2) as u8);
+    let end = put_byte(room, end, b'0' + (value / 4 % 2) as u8);
+    put_byte(room, end, b'0' + (value / 8 % 2) as u8)
+}
+
+/// Puts a number in at most so many binary digits, without leading zeros, one after the other.
+#[inline]
+fn put_few(room: &mut [u8], end: usize, most: usize, value: u64) -> usize
+    requires room { most ≤ end }
+    requires within { end ≤ length room.old }
+    ensures before { result ≤ end }
+    ensures short { end ≤ result + most }
+    ensures put { drop result room.new ≡ spec.binary most value ++ drop end room.old }
 {
     if most == 0 {
-        return Ok(());
+        return end;
     }
-    if value >= 2 {
-        put_binary(text, most - 1, value / 2)?;
+    let at = put_byte(room, end, b'0' + (value % 2) as u8);
+    if value < 2 {
+        return at;
     }
-    text.push(b'0' + (value % 2) as u8)?;
-    Ok(())
+    put_few(room, at, most - 1, value / 2)
 }
 
-/// The letter of a line.
-pub(crate) fn letter_of(on_b: bool) -> &'static [u8]
-    ensures { result.now ≡ spec.letter_text on_b }
+/// Puts a number in at most so many binary digits, without leading zeros, four at a time.
+#[inline]
+fn put_binary(room: &mut [u8], end: usize, most: usize, value: u64) -> usize
+    requires room { most ≤ end }
+    requires within { end ≤ length room.old }
+    ensures before { result ≤ end }
+    ensures short { end ≤ result + most }
+    ensures put { drop result room.new ≡ spec.binary most value ++ drop end room.old }
 {
-    if on_b { b"B" } else { b"A" }
-}
-
-/// Puts the code of a signal of a line.
-pub(crate) fn put_code(text: &mut Vec<u8>, letter: &[u8], wire: Wire) -> Result<(), AllocError>
-    ensures { OnOk result (text.new.items ≡ text.old.items ++ spec.signal_code letter.now wire.on_b wire.channel) }
-{
-    text.extend_from_slice(letter)?;
-    text.extend_from_slice(letter_of(wire.on_b))?;
-    put_number(text, u128::from(wire.channel))
+    if most < 4 {
+        return put_few(room, end, most, value);
+    }
+    if value < 16 {
+        return put_few(room, end, most, value);
+    }
+    let at = put_four(room, end, value % 16);
+    put_binary(room, at, most - 4, value / 16)
 }
 
 /// Puts a value, z where there is none.
-fn put_value(text: &mut Vec<u8>, value: Option<u64>) -> Result<(), AllocError>
-    ensures { OnOk result (text.new.items ≡ text.old.items ++ spec.value_text value) }
+#[inline]
+fn put_value(room: &mut [u8], end: usize, value: Option<u64>) -> usize
+    requires room { 64 ≤ end }
+    requires within { end ≤ length room.old }
+    ensures before { result ≤ end }
+    ensures short { end ≤ result + 64 }
+    ensures put { drop result room.new ≡ spec.value_text value ++ drop end room.old }
 {
     match value {
-        None => text.extend_from_slice(b"z"),
-        Some(value) => put_binary(text, DIGITS, value),
+        None => put_byte(room, end, b'z'),
+        Some(value) => put_binary(room, end, DIGITS, value),
     }
 }
 
-/// Puts that a signal of a line takes a value.
-#[tactic(auto, unfolding(crate::specs::Waves::signal_text))]
-fn put_signal(
-    text: &mut Vec<u8>,
-    letter: &[u8],
-    value: Option<u64>,
-    wire: Wire,
-) -> Result<(), AllocError>
-    ensures { OnOk result (text.new.items
-        ≡ text.old.items ++ spec.signal_text letter.now value wire.on_b wire.channel) }
+/// The letter of a line.
+#[inline]
+fn letter_of(on_b: bool) -> u8
+    ensures { result ∷ [] ≡ spec.letter_text on_b }
 {
-    text.extend_from_slice(b"b")?;
-    put_value(text, value)?;
-    text.extend_from_slice(b" ")?;
-    put_code(text, letter, wire)?;
-    text.extend_from_slice(b"\n")
+    if on_b { b'B' } else { b'A' }
+}
+
+/// Puts the number of a channel.
+#[inline]
+fn put_channel(room: &mut [u8], end: usize, channel: u16) -> usize
+    requires room { 5 ≤ end }
+    requires within { end ≤ length room.old }
+    ensures before { result ≤ end }
+    ensures short { end ≤ result + 5 }
+    ensures put { drop result room.new ≡ decimal channel ++ drop end room.old }
+{
+    write_digits(u64::from(channel), room, end)
+}
+
+/// Puts the code of a signal of a line, and the end of the text line.
+#[inline]
+fn put_code(room: &mut [u8], end: usize, letter: u8, wire: Wire) -> usize
+    requires room { 8 ≤ end }
+    requires within { end ≤ length room.old }
+    ensures before { result ≤ end }
+    ensures short { end ≤ result + 8 }
+    ensures put { drop result room.new ≡ spec.code_line (letter ∷ []) wire.on_b wire.channel ++ drop end room.old }
+{
+    let end = put_byte(room, end, b'\n');
+    let end = put_channel(room, end, wire.channel);
+    let end = put_byte(room, end, letter_of(wire.on_b));
+    put_byte(room, end, letter)
+}
+
+/// Puts that a signal of a line takes a value.
+#[inline]
+fn put_signal(room: &mut [u8], end: usize, letter: u8, value: Option<u64>, wire: Wire) -> usize
+    requires room { 74 ≤ end }
+    requires within { end ≤ length room.old }
+    ensures before { result ≤ end }
+    ensures short { end ≤ result + 74 }
+    ensures put { drop result room.new
+        ≡ spec.signal_text (letter ∷ []) value wire.on_b wire.channel ++ drop end room.old }
+{
+    let end = put_code(room, end, letter, wire);
+    let end = put_byte(room, end, b' ');
+    let end = put_value(room, end, value);
+    put_byte(room, end, b'b')
+}
+
+/// Puts that a signal of a line takes a value, where it is another than before.
+#[inline]
+fn put_changed(
+    room: &mut [u8],
+    end: usize,
+    letter: u8,
+    before: Option<u64>,
+    now: Option<u64>,
+    wire: Wire,
+) -> usize
+    requires room { 74 ≤ end }
+    requires within { end ≤ length room.old }
+    ensures before { result ≤ end }
+    ensures short { end ≤ result + 74 }
+    ensures put { drop result room.new
+        ≡ spec.told_text (letter ∷ []) (showing.told_if before now) wire.on_b wire.channel ++ drop end room.old }
+{
+    if is_same(before, now) {
+        return end;
+    }
+    put_signal(room, end, letter, now, wire)
+}
+
+/// Whether two values are the same one.
+#[inline]
+fn is_same(one: Option<u64>, other: Option<u64>) -> bool
+    ensures { result ≡ showing.is_same one other }
+{
+    match (one, other) {
+        (None, None) => true,
+        (Some(one), Some(other)) => one == other,
+        _ => false,
+    }
 }
 
 /// What the kind of a word is shown as.
+#[inline]
 fn kind_of(role: Role) -> u64
-    ensures { result ≡ spec.kind_of role }
+    ensures { result ≡ showing.kind_of role }
 {
     match role {
         Role::Command => 1,
@@ -95,93 +194,178 @@ fn kind_of(role: Role) -> u64
     }
 }
 
-/// Puts the values of the signals of a line.
-fn put_signals(
-    text: &mut Vec<u8>,
-    word: Option<u64>,
-    kind: Option<u64>,
-    terminal: Option<u64>,
-    message: Option<u64>,
-    wire: Wire,
-) -> Result<(), AllocError>
-    ensures { OnOk result (text.new.items
-        ≡ text.old.items ++ spec.signals_text word kind terminal message wire.on_b wire.channel) }
-{
-    put_signal(text, b"w", word, wire)?;
-    put_signal(text, b"k", kind, wire)?;
-    put_signal(text, b"t", terminal, wire)?;
-    put_signal(text, b"m", message, wire)
-}
-
-/// Puts what is on a line: a word, or nothing.
-#[tactic(auto, unfolding(crate::specs::Waves::values_text))]
-fn put_values(text: &mut Vec<u8>, driven: Option<Driven>, wire: Wire) -> Result<(), AllocError>
-    ensures { OnOk result (text.new.items ≡ text.old.items ++ spec.values_text driven wire.on_b wire.channel) }
+/// The value of a line's signal of words.
+#[inline]
+fn word_shown(driven: Option<Driven>) -> Option<u64>
+    ensures { result ≡ option_map (λ d. d.word) driven }
 {
     match driven {
-        None => put_signals(text, None, None, None, None, wire),
-        Some(driven) => put_signals(
-            text,
-            Some(u64::from(driven.word)),
-            Some(kind_of(driven.role)),
-            Some(u64::from(driven.terminal)),
-            Some(driven.number),
-            wire,
-        ),
+        None => None,
+        Some(driven) => Some(u64::from(driven.word)),
     }
+}
+
+/// The value of a line's signal of kinds.
+#[inline]
+fn kind_shown(driven: Option<Driven>) -> Option<u64>
+    ensures { result ≡ option_map (λ d. showing.kind_of d.role) driven }
+{
+    match driven {
+        None => None,
+        Some(driven) => Some(kind_of(driven.role)),
+    }
+}
+
+/// The value of a line's signal of terminals.
+#[inline]
+fn terminal_shown(driven: Option<Driven>) -> Option<u64>
+    ensures { result ≡ option_map (λ d. d.terminal) driven }
+{
+    match driven {
+        None => None,
+        Some(driven) => Some(u64::from(driven.terminal)),
+    }
+}
+
+/// The value of a line's signal of messages.
+#[inline]
+fn message_shown(driven: Option<Driven>) -> Option<u64>
+    ensures { result ≡ option_map (λ d. d.number) driven }
+{
+    match driven {
+        None => None,
+        Some(driven) => Some(driven.number),
+    }
+}
+
+/// Puts a value of the signal of errors of a line.
+#[inline]
+fn put_error_value(room: &mut [u8], end: usize, value: u8, wire: Wire) -> usize
+    requires room { 9 ≤ end }
+    requires within { end ≤ length room.old }
+    ensures before { result ≤ end }
+    ensures short { end ≤ result + 9 }
+    ensures put { drop result room.new
+        ≡ value ∷ spec.code_line (codes "e") wire.on_b wire.channel ++ drop end room.old }
+{
+    let end = put_code(room, end, b'e', wire);
+    put_byte(room, end, value)
 }
 
 /// Puts whether a message with an error is on a line, where that changes.
-pub(crate) fn put_error(
-    text: &mut Vec<u8>,
-    error: Option<bool>,
-    wire: Wire,
-) -> Result<(), AllocError>
-    ensures { OnOk result (text.new.items ≡ text.old.items ++ spec.error_text error wire.on_b wire.channel) }
+#[inline]
+fn put_error(room: &mut [u8], end: usize, before: bool, now: bool, wire: Wire) -> usize
+    requires room { 9 ≤ end }
+    requires within { end ≤ length room.old }
+    ensures before { result ≤ end }
+    ensures short { end ≤ result + 9 }
+    ensures put { drop result room.new
+        ≡ spec.error_text (showing.error_if before now) wire.on_b wire.channel ++ drop end room.old }
 {
-    let Some(error) = error else {
-        return Ok(());
-    };
-    text.extend_from_slice(if error { b"1" } else { b"0" })?;
-    put_code(text, b"e", wire)?;
-    text.extend_from_slice(b"\n")
+    if before {
+        if now {
+            end
+        } else {
+            put_error_value(room, end, b'0', wire)
+        }
+    } else if now {
+        put_error_value(room, end, b'1', wire)
+    } else {
+        end
+    }
 }
 
-/// Puts what is on a line, and whether a message with an error is, where that changes.
-#[tactic(auto, unfolding(crate::specs::Waves::wire_text))]
-pub(crate) fn put_wire(
-    text: &mut Vec<u8>,
-    driven: Option<Driven>,
-    error: Option<bool>,
-    wire: Wire,
-) -> Result<(), AllocError>
-    ensures { OnOk result (text.new.items ≡ text.old.items ++ spec.wire_text driven error wire.on_b wire.channel) }
+/// Puts what a line shows: its word, and what else changes.
+#[inline]
+fn put_shown(room: &mut [u8], end: usize, before: Shown, now: Shown, wire: Wire) -> usize
+    requires room { 305 ≤ end }
+    requires within { end ≤ length room.old }
+    ensures before { result ≤ end }
+    ensures short { end ≤ result + 305 }
+    ensures put { drop result room.new ≡ spec.shown_text before now wire.on_b wire.channel ++ drop end room.old }
 {
-    put_values(text, driven, wire)?;
-    put_error(text, error, wire)
+    let end = put_error(room, end, before.error, now.error, wire);
+    let end = put_changed(
+        room,
+        end,
+        b'm',
+        message_shown(before.driven),
+        message_shown(now.driven),
+        wire,
+    );
+    let end = put_changed(
+        room,
+        end,
+        b't',
+        terminal_shown(before.driven),
+        terminal_shown(now.driven),
+        wire,
+    );
+    let end = put_changed(
+        room,
+        end,
+        b'k',
+        kind_shown(before.driven),
+        kind_shown(now.driven),
+        wire,
+    );
+    put_signal(room, end, b'w', word_shown(now.driven), wire)
 }
 
 /// Puts a time, where it is not that of the change before.
-#[tactic(auto, unfolding(crate::specs::Waves::time_text))]
-fn put_time(text: &mut Vec<u8>, last: u128, tick: u128) -> Result<(), AllocError>
-    ensures { OnOk result (text.new.items ≡ text.old.items ++ spec.time_text last tick) }
+#[inline]
+fn put_time(room: &mut [u8], end: usize, last: u128, tick: u128) -> usize
+    requires room { 41 ≤ end }
+    requires within { end ≤ length room.old }
+    ensures before { result ≤ end }
+    ensures short { end ≤ result + 41 }
+    ensures put { drop result room.new ≡ spec.time_text last tick ++ drop end room.old }
 {
     if last == tick {
-        return Ok(());
+        return end;
     }
-    text.extend_from_slice(b"#")?;
-    put_number(text, tick)?;
-    text.extend_from_slice(b"\n")
+    let end = put_byte(room, end, b'\n');
+    let end = put_number(room, end, tick);
+    put_byte(room, end, b'#')
 }
 
-/// Puts a change behind a time that was told.
-pub(crate) fn put_change(text: &mut Vec<u8>, last: u128, change: &Change) -> Result<(), AllocError>
-    ensures { OnOk result (text.new.items ≡ text.old.items ++ spec.change_text last change.now) }
+/// Puts a text in front of a place.
+fn put_text(room: &mut [u8], end: usize, text: &[u8]) -> usize
+    requires room { length text.now ≤ end }
+    requires within { end ≤ length room.old }
+    ensures start { result + length text.now ≡ end }
+    ensures put { drop result room.new ≡ text.now ++ drop end room.old }
 {
-    let wire = Wire {
-        on_b: change.on_b,
-        channel: change.channel,
-    };
-    put_time(text, last, change.tick)?;
-    put_wire(text, change.driven, change.error, wire)
+    let start = end - text.len();
+    room[start..end].copy_from_slice(text);
+    start
+}
+
+/// Puts a number in decimal digits in front of a place.
+#[inline]
+fn put_number(room: &mut [u8], end: usize, number: u128) -> usize
+    requires room { 39 ≤ end }
+    requires within { end ≤ length room.old }
+    ensures before { result ≤ end }
+    ensures short { end ≤ result + 39 }
+    ensures put { drop result room.new ≡ decimal number ++ drop end room.old }
+{
+    if number <= u64::MAX as u128 {
+        write_digits(number as u64, room, end)
+    } else {
+        let mut buffer = Buffer::new();
+        put_text(room, end, buffer.format(number).as_bytes())
+    }
+}
+
+/// Puts a change behind a time that was told, on a line that shows something.
+#[inline]
+pub(crate) fn put_change(room: &mut [u8], last: u128, before: Shown, change: &Change) -> usize
+    requires { length room.old ≡ LONGEST }
+    ensures long { length room.new ≡ LONGEST }
+    ensures within { result ≤ LONGEST }
+    ensures put { drop result room.new ≡ spec.change_text last before change.now }
+{
+    let end = put_shown(room, LONGEST, before, change.shown(), change.wire());
+    put_time(room, end, last, change.tick)
 }

@@ -6,9 +6,9 @@ ghost use Rattle.std.specs.Prelude.{◌≡◌, ◌++◌, ◌∷◌, [], OnOk, op
 use crate::columns::Columns;
 use crate::place::Place;
 use crate::row::Row;
+use crate::table::Table;
 use crate::texts::{push_micros, push_number};
 use crate::values::push_seconds;
-use crate::whole::Table;
 use bench_clock::{Clock, TimeOfDay};
 use ch11_layout::View;
 use std::alloc::AllocError;
@@ -28,6 +28,21 @@ fn push_stamp(
     }
 }
 
+/// A time as a field, '-' where none is known. The text is room for it.
+fn push_time_known(
+    row: &mut Row,
+    text: &mut Vec<u8>,
+    columns: Columns,
+    time: Option<u64>,
+) -> Result<(), AllocError>
+    ensures { OnOk result (row.new ≡ row.old ++ spec.stamp_field columns time ∷ []) }
+{
+    match time {
+        None => row.push(b"-"),
+        Some(ticks) => push_stamp(row, text, columns, ticks),
+    }
+}
+
 /// The number, the channel and the stamp of a message. The text is room for a field.
 fn push_number_columns(
     row: &mut Row,
@@ -41,7 +56,7 @@ fn push_number_columns(
 {
     push_number(row, place.number)?;
     push_number(row, u64::from(place.channel))?;
-    push_stamp(row, text, columns, view.stamp())
+    push_time_known(row, text, columns, view.time())
 }
 
 /// A time of day as a field, empty where there is none.
@@ -75,5 +90,6 @@ pub(crate) fn push_stamped(
         view.now) }
 {
     push_number_columns(row, text, table.columns, place, view)?;
-    push_time_columns(row, table.timed, clock.at(view.stamp()))
+    let time = clock.of_stamp(view.kind(), view.stamp());
+    push_time_columns(row, table.timed, time)
 }

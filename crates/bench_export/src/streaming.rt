@@ -1,18 +1,19 @@
-//! The rows of a recording whose packets come from a reader.
+//! A recording as rows.
 ghost use Rattle.bench_export.specs.Between.{IsBetween, Writes};
 ghost use Rattle.bench_export.specs.Choosing as choosing;
 ghost use Rattle.bench_export.specs.Streaming.{Exports};
 ghost use Rattle.bench_export.specs.Tables as tables;
 ghost use Rattle.bench_export.specs.Tables.{export_text, packets_text, rows_text};
 ghost use Rattle.csv.specs.Writing as writing;
+ghost use Rattle.ch11_layout.specs.Stamps.{kind_of};
 ghost use Rattle.std.specs.Io.KnownBytes.{Appends};
 ghost use Rattle.std.specs.Prelude.{◌≡◌, ◌+◌, ◌<◌, ◌^◌, ◌||◌, ℕ, List, length, Some, IfOk, OnOk};
 
 use crate::choosing::selects_among;
-use crate::fault::ExportFromFault;
+use crate::fault::ExportFault;
 use crate::messages::{Room, write_messages, write_row};
 use crate::names::names_of;
-use crate::whole::Table;
+use crate::table::Table;
 use bench_clock::Clock;
 use ch11_reader::Packet;
 use ch11_stream::{Advance, Packets, StreamFault};
@@ -30,17 +31,18 @@ pub struct Exported<W: Write> {
     pub selected: bool,
 }
 
-/// Writes the rows that `export` writes of all bytes that a reader has left, as their packets come, in memory for the
-/// largest packet of messages or of time. A recording that can't be read is refused with its first fault, K1 to K5, N2
-/// or F1 to F3, and then the writer may have got rows of packets in front of it. The time of day is that of the clock
-/// that is given, since a recording's own is known at its end alone.
-pub fn export_from<R: Advance + Drop, W: Write + Drop>(
+/// Writes a recording as comma-separated values: a row with the names of the columns, and then one row a selected
+/// message, in the file's order, numbered from 1 over all channels; of all bytes that a reader has left, as their
+/// packets come, in memory for the largest packet of messages or of time. A recording that can't be read is refused
+/// with its first fault, K1 to K5, N2 or F1 to F3, and then the writer may have got rows of packets in front of it. The
+/// time of day is that of the clock at the stamp, empty where it tells none. The writer is handed back, flushed.
+pub fn export<R: Advance + Drop, W: Write + Drop>(
     alloc: Global,
     input: R,
     table: &Table,
     clock: &Clock,
     out: W,
-) -> Result<Exported<W>, ExportFromFault>
+) -> Result<Exported<W>, ExportFault>
     ensures { (file : List ℕ) → R.remaining input ≡ Some file
         → Exports (λ ps exported.
         Appends (W.contents out) (W.contents exported.out) (export_text table.now clock.now ps)
@@ -48,10 +50,10 @@ pub fn export_from<R: Advance + Drop, W: Write + Drop>(
 {
     let mut writer = Writer::from_writer(out);
     write_names(alloc, &mut writer, table)?;
-    let selected = write_packets_from(alloc, input, &mut writer, table, clock)?;
+    let selected = write_packets(alloc, input, &mut writer, table, clock)?;
     match writer.into_inner() {
         Ok(out) => Ok(Exported { out, selected }),
-        Err(_) => Err(ExportFromFault::Writing(WriteFault::Device)),
+        Err(_) => Err(ExportFault::Writing(WriteFault::Device)),
     }
 }
 
@@ -71,13 +73,13 @@ fn write_names<W: Write + Drop>(
 }
 
 /// Writes the rows of all packets; answers whether any message was selected.
-fn write_packets_from<R: Advance + Drop, W: Write + Drop>(
+fn write_packets<R: Advance + Drop, W: Write + Drop>(
     alloc: Global,
     input: R,
     writer: &mut Writer<W>,
     table: &Table,
     clock: &Clock,
-) -> Result<bool, ExportFromFault>
+) -> Result<bool, ExportFault>
     requires { IsBetween writer.old }
     ensures { (file : List ℕ) → R.remaining input ≡ Some file
         → Exports (λ ps selected.
@@ -85,7 +87,7 @@ fn write_packets_from<R: Advance + Drop, W: Write + Drop>(
         × (selected ≡ choosing.selects_any table.now.selection ps)) result file }
 {
     let Ok(mut packets) = Packets::over(alloc, input) else {
-        return Err(ExportFromFault::Reading(StreamFault::Memory));
+        return Err(ExportFault::Reading(StreamFault::Memory));
     };
     let mut room = Room::new(alloc);
     let mut selected = false;
@@ -97,10 +99,10 @@ fn write_packets_from<R: Advance + Drop, W: Write + Drop>(
                 )?;
             }
             Ok(None) => return Ok(selected),
-            Err(fault) => return Err(ExportFromFault::Reading(fault)),
+            Err(fault) => return Err(ExportFault::Reading(fault)),
         }
     }
-    Err(ExportFromFault::Reading(StreamFault::Device))
+    Err(ExportFault::Reading(StreamFault::Device))
 }
 
 /// Writes the rows of the selected messages of the packet that was read last; answers whether any message was selected
@@ -118,9 +120,10 @@ fn write_packet<R: Advance, W: Write + Drop>(
     requires between { IsBetween writer.old }
     ensures between { OnOk result (IsBetween writer.new) }
     ensures written { OnOk result (Writes W.contents writer.old writer.new
-        (rows_text table.now clock.now packet.now.before packet.now.header.channel packets.now.given)) }
+        (rows_text table.now clock.now
+        (kind_of packet.now.header) packet.now.before packet.now.header.channel packets.now.given)) }
     ensures selected { IfOk result (λ any. any ≡ (selected || choosing.selects_among table.now.selection
-        packet.now.before packet.now.header.channel packets.now.given)) }
+        (kind_of packet.now.header) packet.now.before packet.now.header.channel packets.now.given)) }
 {
     write_messages(writer, room, table, clock, packet, packets.messages())?;
     Ok(selected || selects_among(&table.selection, packet, packets.messages()))

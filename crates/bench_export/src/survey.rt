@@ -1,15 +1,16 @@
 //! What is known of the changes of a recording before any is written.
-ghost use Rattle.bench_export.specs.Changes.{changes_among, changes_in};
+ghost use Rattle.bench_export.specs.Changes.{changes_among};
 ghost use Rattle.bench_export.specs.Merging as spec;
 ghost use Rattle.bench_export.specs.Merging.{IsSurvey};
 ghost use Rattle.bench_export.specs.declared.changes.Change.{Change as Item};
+ghost use Rattle.ch11_layout.specs.Stamps.{kind_of};
 ghost use Rattle.std.specs.Prelude.{◌≡◌, ◌+◌, ◌<◌, ◌≤◌, ◌^◌, ◌-◌, ◌++◌, ◌∷◌, [], List, length, true, false};
 ghost use Rattle.std.specs.Prelude.{slice_index_or, slice_set, IfOk, OnOk};
 
 use crate::changes::{Change, push_messages};
 use bench_select::{CHANNELS, Selection, mark_channel, no_channels};
 use ch11_f1::Messages;
-use ch11_reader::{Index, Packet};
+use ch11_reader::Packet;
 use std::alloc::{AllocError, Global};
 
 /// What is known of changes.
@@ -115,33 +116,14 @@ impl Survey {
         ensures many { OnOk result (length self.new.marks.items ≡ CHANNELS) }
         ensures noted { OnOk result ((cs : List Item)
             → IsSurvey self.old.marks.items self.old.least self.old.newest self.old.lag cs
-            → IsSurvey self.new.marks.items self.new.least self.new.newest self.new.lag (cs ++ changes_among
-            selection.now packet.now.before packet.now.header.channel messages.entry)) }
+            → IsSurvey self.new.marks.items self.new.least self.new.newest self.new.lag
+            (cs ++ changes_among selection.now
+            (kind_of packet.now.header) packet.now.before packet.now.header.channel messages.entry)) }
     {
         room.clear();
         push_messages(room, selection, packet, messages)?;
         self.note_all(room);
         Ok(())
-    }
-
-    /// What is known of the changes of a recording's selected messages.
-    pub(crate) fn of(
-        alloc: Global,
-        index: &Index<'_>,
-        selection: &Selection,
-    ) -> Result<Survey, AllocError>
-        ensures many { IfOk result (λ survey. length survey.marks.items ≡ CHANNELS) }
-        ensures noted { IfOk result (λ survey. IsSurvey survey.marks.items survey.least survey.newest survey.lag
-            (changes_in selection.now index.now)) }
-    {
-        let mut survey = Survey::of_none(alloc)?;
-        let mut room = Vec::new(alloc);
-        let packets = index.packets();
-        'packets: for place in 0..packets.len() {
-            let messages = index.messages_in(place);
-            survey.note_packet(&mut room, selection, &packets[place], messages)?;
-        }
-        Ok(survey)
     }
 
     /// The least tick, 0 where there is no change.

@@ -13,5 +13,6 @@ returns g c =
       subst (λ (l : List Change). IsCut c.args.lag c.args.waiting.now.items (take place sorted) l) (sym c.in_ok-rest.ensures.tail)
           (cut_at c.args.lag place c.args.waiting.now.items sorted c.in_ok-put_in_order.ensures early),
       rw (c.deref-2.ensures.value, c.in_ok-rest.ensures.items) at c.in_ok-last.ensures.last,
+      rw (c.deref-2.ensures.value, c.in_ok-rest.ensures.items) at c.in_ok-last.ensures.shown,
       rw (c.deref-2.ensures.value, c.in_ok-rest.ensures.items) at c.in_ok-last.ensures.written,
     )

@@ -6,7 +6,7 @@ use Rattle.bench_export.proofs.messages.write_messages.Given as goal
 
 abbrev pub invariant-rows : goal.invariant-rows
 invariant-rows g l = record {
-  going : IsGoing l.table l.fn.clock (text_written g.W.Write.contents l.fn.writer) (text_written g.W.Write.contents l.writer) l.fn.packet.before l.number l.channel l.fn.messages l.rest;
+  going : IsGoing l.table l.fn.clock l.kind (text_written g.W.Write.contents l.fn.writer) (text_written g.W.Write.contents l.writer) l.fn.packet.before l.number l.channel l.fn.messages l.rest;
   between : IsBetween l.writer;
 }
 
