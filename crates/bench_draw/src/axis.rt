@@ -6,6 +6,7 @@ use crate::picture::Picture;
 use crate::scale::{LEFT, Scale};
 use bench_clock::TimeOfDay;
 use bench_decode::Time;
+use ch11_layout::StampKind;
 use std::alloc::{AllocError, Global};
 use std::str;
 
@@ -93,21 +94,38 @@ pub fn first_step(begin: u64, step: u64) -> u64
     }
 }
 
+/// What is known of the first message that is drawn: what its stamp is, and its time of day.
+#[derive(Clone, Copy)]
+pub(crate) struct Begin {
+    pub(crate) kind: StampKind,
+    pub(crate) day: Option<TimeOfDay>,
+}
+
+impl Begin {
+    /// From where its time counts.
+    fn origin(&self) -> &'static str {
+        match self.kind {
+            StampKind::TimeOfDay => "1970-01-01T00:00:00",
+            StampKind::Counter | StampKind::Unknown => "tick 0 of the recording",
+        }
+    }
+}
+
 /// Draws the axis above the channels in the time of the recording: a line at each step from its tick 0 on down to a
 /// place, and when the first message began, with the time of day if it is known.
 pub(crate) fn draw_axis(
     alloc: Global,
     picture: &mut Picture,
     scale: &Scale,
-    day: Option<TimeOfDay>,
+    first: Begin,
     low: u64,
 ) -> Result<(), AllocError> {
     let end = scale.begin.saturating_add(scale.span);
     let unit = Unit::of(end);
     let step = step_of(scale.span);
-    let first = first_step(scale.begin, step);
+    let least = first_step(scale.begin, step);
     for number in 0..=10u64 {
-        let tick = first.saturating_add(step.saturating_mul(number));
+        let tick = least.saturating_add(step.saturating_mul(number));
         if tick <= end {
             let x = LEFT.saturating_add(scale.tenths(tick) / 10);
             let mut text = String::new(alloc);
@@ -120,7 +138,7 @@ pub(crate) fn draw_axis(
             picture.put(text.as_str())?;
         }
     }
-    draw_begin(alloc, picture, scale, unit, day)
+    draw_begin(alloc, picture, scale, unit, first)
 }
 
 /// How many decimal places a second has at most, down to a tick.
@@ -169,18 +187,17 @@ fn draw_begin(
     picture: &mut Picture,
     scale: &Scale,
     unit: Unit,
-    day: Option<TimeOfDay>,
+    first: Begin,
 ) -> Result<(), AllocError> {
-    let name = unit.name();
+    let (name, origin) = (unit.name(), first.origin());
     let begin = Time::of(scale.begin);
     let (seconds, ticks) = (begin.seconds, begin.ticks);
     let mut text = String::new(alloc);
     write!(
         text,
-        "<text x=\"90\" y=\"60\">time in {name} from tick 0 of the recording; the first message begins at \
-         {seconds}.{ticks:07} s"
+        "<text x=\"90\" y=\"60\">time in {name} from {origin}; the first message begins at {seconds}.{ticks:07} s"
     )?;
-    if let Some(time) = day {
+    if let Some(time) = first.day {
         put_day(&mut text, &time)?;
     }
     text.push_str("</text>\n")?;

@@ -31,14 +31,14 @@ fn color(role: Role) -> &'static str {
     }
 }
 
-/// Draws a message: a bar for the words of each role with what there is room for, a mark where there is an error, and
-/// where the mouse rests on it the message as people read it.
-pub(crate) fn draw_bar(
-    canvas: &mut Canvas,
+/// The element of a message: a bar for the words of each role with what there is room for, a mark where there is an
+/// error, and where the mouse rests on it the message as people read it.
+pub(crate) fn bar_of(
+    canvas: &mut Canvas<'_>,
     lane: &Lane,
     place: &Place,
     view: &View<'_>,
-) -> Result<(), AllocError> {
+) -> Result<String, AllocError> {
     let scale = &canvas.scale;
     let mut text = String::new(canvas.alloc);
     text.push_str("<g><title>")?;
@@ -57,7 +57,7 @@ pub(crate) fn draw_bar(
         put_error(&mut text, scale, lane, view)?;
     }
     text.push_str("</g>\n")?;
-    canvas.picture.put(text.as_str())
+    Ok(text)
 }
 
 /// Puts the bar of a run.

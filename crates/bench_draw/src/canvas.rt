@@ -8,9 +8,9 @@ use std::alloc::Global;
 
 /// A picture into which messages are drawn: which of them, by which scale, and room for what people read of one.
 #[derive(Drop)]
-pub(crate) struct Canvas {
+pub(crate) struct Canvas<'o> {
     pub(crate) alloc: Global,
-    pub(crate) selection: Selection,
+    pub(crate) selection: Selection<'o>,
     pub(crate) scale: Scale,
     pub(crate) picture: Picture,
     pub(crate) details: TextLine,

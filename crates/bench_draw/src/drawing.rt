@@ -5,21 +5,21 @@ ghost use Rattle.ch11_reader.specs.Indexed.{found_in};
 ghost use Rattle.ch11_reader.specs.Recording.{packets_in};
 ghost use Rattle.std.specs.Prelude.{◌≡◌, ◌≤◌, ℕ, List, Some, Ok, vec_len, IfOk};
 
-use crate::axis::draw_axis;
+use crate::axis::{Begin, draw_axis};
 use crate::canvas::Canvas;
-use crate::drawn::{Anew, Drawn};
+use crate::drawn::draw_group;
 use crate::extent::Extent;
 use crate::fault::DrawFault;
-use crate::frame::{draw_head, draw_names, draw_nothing};
-use crate::lanes::{Lanes, draw_lanes};
+use crate::frame::{draw_head, draw_nothing};
+use crate::group::Group;
 use crate::picture::{MOST_BYTES, Picture};
 use crate::rows::Rows;
 use crate::scale::Scale;
 use bench_clock::Clock;
 use bench_decode::{Shown, TextLine};
+use bench_names::ChannelNames;
 use bench_select::Selection;
 use bench_watch::Reopen;
-use ch11_reader::Index;
 use std::alloc::Global;
 
 /// A picture.
@@ -35,56 +35,41 @@ pub struct Drawing {
 /// 32 of them that the file has), each message a bar over the time that it took with its number, its address, T or R,
 /// and its subaddress; all of them where there are at most 24, and else those that have the room, and the load of each
 /// line where some have not, by one scale for both lines of a channel; and a line where a frame begins, where commands
-/// recur with a period. The axis has the time of the recording, from its tick 0; over it stands when the first of the
-/// messages began, by the clock too if that says it. The picture has at most 5,000,000 bytes: what there is no room for
-/// is left out. A fault is want of memory.
-pub fn draw(
-    alloc: Global,
-    index: &Index<'_>,
-    selection: &Selection,
-    clock: &Clock,
-) -> Result<Drawing, DrawFault>
-    ensures bounded { IfOk result (λ drawing. vec_len drawing.text ≤ MOST_BYTES) }
-    ensures messages { IfOk result (λ drawing. drawing.messages ≡ capped (chosen selection.now index.now)) }
-{
-    let extent = Extent::of(alloc, index, selection)?;
-    Ok(Drawing {
-        messages: extent.messages,
-        text: draw_extent(alloc, index, selection, clock, &extent)?,
-    })
-}
-
-/// Draws the picture that `draw` draws, of a recording that is read anew: once for what is to be drawn, and once more
-/// for each channel that is, in memory for the largest packet of messages or of time and the picture. A recording that
-/// can't be read is refused with its first fault, K1 to K5, N2 or F1 to F3; want of memory and failures of the reader
-/// are the others.
-pub fn draw_from<S: Reopen>(
+/// recur with a period. The axis has the time of the recording, from its tick 0 or where stamps are times of day from
+/// 1970-01-01T00:00:00; over it stands when the first of the messages began, by the clock too if that says it. The name
+/// of a channel stands behind its number. Messages of which no time is known are not drawn. The picture has at most
+/// 5,000,000 bytes: what there is no room for is left out. The recording is read once for what is to be drawn, and once
+/// more for all its channels, or as often as it has to be where not all of them have room; in memory for the largest
+/// packet of messages or of time, the picture, and 128 KiB at most for each channel. One that can't be read is refused
+/// with its first fault, K1 to K5, N2 or F1 to F3; want of memory and failures of the reader are the others.
+pub fn draw<S: Reopen>(
     alloc: Global,
     recording: &S,
     selection: &Selection,
     clock: &Clock,
+    names: &ChannelNames<'_>,
 ) -> Result<Drawing, DrawFault>
     ensures bounded { IfOk result (λ drawing. vec_len drawing.text ≤ MOST_BYTES) }
     ensures messages { (file : List ℕ) → S.bytes recording.now ≡ Some file → IfOk result (λ drawing.
         (packets_in file ≡ Ok (found_in file)) × (drawing.messages ≡ capped (chosen selection.now (found_in file)))) }
 {
     let extent = match recording.reopen() {
-        Ok(input) => Extent::of_reader(alloc, input, selection)?,
+        Ok(input) => Extent::of(alloc, input, selection)?,
         Err(error) => return Err(DrawFault::Opening(error)),
     };
-    let anew = Anew { recording };
     Ok(Drawing {
         messages: extent.messages,
-        text: draw_extent(alloc, &anew, selection, clock, &extent)?,
+        text: draw_extent(alloc, recording, selection, clock, names, &extent)?,
     })
 }
 
 /// Draws the selected messages, whose extent this is.
-fn draw_extent<D: Drawn>(
+fn draw_extent<S: Reopen>(
     alloc: Global,
-    recording: &D,
+    recording: &S,
     selection: &Selection,
     clock: &Clock,
+    names: &ChannelNames<'_>,
     extent: &Extent,
 ) -> Result<Vec<u8>, DrawFault>
     ensures { IfOk result (λ text. vec_len text ≤ MOST_BYTES) }
@@ -99,8 +84,11 @@ fn draw_extent<D: Drawn>(
         draw_nothing(&mut picture)?;
         return Ok(picture.end()?);
     }
-    let day = clock.at(extent.begin);
-    draw_axis(alloc, &mut picture, &scale, day, low)?;
+    let begin = Begin {
+        kind: extent.kind,
+        day: clock.of_stamp(extent.kind, extent.begin),
+    };
+    draw_axis(alloc, &mut picture, &scale, begin, low)?;
     let mut canvas = Canvas {
         alloc,
         selection: *selection,
@@ -108,23 +96,26 @@ fn draw_extent<D: Drawn>(
         picture,
         details: TextLine::new(alloc, Shown::Plain)?,
     };
-    draw_channels(&mut canvas, recording, &rows, extent.channels.as_slice())?;
+    let channels = extent.channels.as_slice();
+    draw_channels(&mut canvas, recording, &rows, names, channels)?;
     Ok(canvas.picture.end()?)
 }
 
-/// Draws the channels.
-fn draw_channels<D: Drawn>(
-    canvas: &mut Canvas,
-    recording: &D,
+/// Draws the channels, in one pass where all of them have room.
+fn draw_channels<S: Reopen>(
+    canvas: &mut Canvas<'_>,
+    recording: &S,
     rows: &Rows,
+    names: &ChannelNames<'_>,
     channels: &[u16],
 ) -> Result<(), DrawFault> {
-    for (place, channel) in channels.iter().enumerate() {
-        let place = place as u64;
-        draw_names(canvas.alloc, &mut canvas.picture, rows, place, *channel)?;
-        let mut lanes = Lanes::new(canvas.alloc, rows, place, *channel)?;
-        recording.draw_channel(canvas, &mut lanes)?;
-        draw_lanes(canvas, &lanes)?;
+    let mut drawn = 0usize;
+    for place in 0..channels.len() {
+        if place == drawn {
+            let group = Group::of(canvas, rows, names, channels, place)?;
+            let count = draw_group(canvas, group, recording)?;
+            drawn = place.saturating_add(count);
+        }
     }
     Ok(())
 }

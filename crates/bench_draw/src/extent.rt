@@ -1,6 +1,7 @@
 //! What is to be drawn: which channels, which time, and how.
 ghost use Rattle.ch11_reader.specs.Contents.{capped};
 ghost use Rattle.bench_draw.specs.Chosen.{chosen, chosen_in};
+ghost use Rattle.ch11_layout.specs.Stamps.{kind_of};
 ghost use Rattle.ch11_stream.specs.Folding.{FoldsPackets};
 ghost use Rattle.std.specs.Prelude.{◌≡◌, ◌+◌, ◌<◌, ◌^◌, ℕ, List, Some, length, IfOk, OnOk};
 
@@ -8,8 +9,8 @@ use crate::rows::Rows;
 use crate::scale::{Scale, end_of};
 use bench_select::Selection;
 use ch11_f1::Messages;
-use ch11_layout::View;
-use ch11_reader::{Index, Packet};
+use ch11_layout::{StampKind, View};
+use ch11_reader::Packet;
 use ch11_stream::{Advance, Packets, StreamFault};
 use std::alloc::{AllocError, Global};
 
@@ -22,13 +23,15 @@ const LABELLED: u64 = 24;
 /// How many tenths of a pixel a message takes at least that is drawn as a bar.
 const BAR: u64 = 40;
 
-/// What is to be drawn: the channels with selected messages, how many messages these are, the time that they take, and
-/// how many ticks the shortest and the longest of them take.
+/// What is to be drawn: the channels with selected messages of which the time is known, how many messages are selected,
+/// the time that they take, what the first of their stamps is, and how many ticks the shortest and the longest of them
+/// take.
 #[derive(Drop)]
 pub(crate) struct Extent {
     pub(crate) channels: Vec<u16>,
     pub(crate) messages: u64,
     pub(crate) begin: u64,
+    pub(crate) kind: StampKind,
     pub(crate) end: u64,
     pub(crate) shortest: u64,
     pub(crate) longest: u64,
@@ -43,37 +46,16 @@ impl Extent {
             channels: Vec::new(alloc),
             messages: 0,
             begin: u64::MAX,
+            kind: StampKind::Counter,
             end: 0,
             shortest: u64::MAX,
             longest: 0,
         }
     }
 
-    /// The extent of the selected messages of a recording; the channels are the first 32 that the file has, in rising
-    /// order.
-    pub(crate) fn of(
-        alloc: Global,
-        index: &Index<'_>,
-        selection: &Selection,
-    ) -> Result<Extent, AllocError>
-        ensures { IfOk result (λ extent. extent.messages ≡ capped (chosen selection.now index.now)) }
-    {
-        let mut extent = Extent::none(alloc);
-        let packets = index.packets();
-        'packets: for place in 0..packets.len() {
-            widen_by(
-                &mut extent,
-                selection,
-                &packets[place],
-                index.messages_in(place),
-            )?;
-        }
-        extent.channels.sort()?;
-        Ok(extent)
-    }
-
-    /// The same of all bytes that a reader has left, as their packets come.
-    pub(crate) fn of_reader<R: Advance + Drop>(
+    /// The extent of the selected messages of all bytes that a reader has left, as their packets come; the channels are
+    /// the first 32 that the file has, in rising order.
+    pub(crate) fn of<R: Advance + Drop>(
         alloc: Global,
         input: R,
         selection: &Selection,
@@ -125,15 +107,17 @@ fn widen_by(
     requires { packet.now.before + length messages < 2 ^ 64 }
     ensures { OnOk result (extent.new.messages
         ≡ capped (extent.old.messages
-        + chosen_in selection.now packet.now.before packet.now.header.channel messages.entry)) }
+        + chosen_in selection.now (kind_of packet.now.header) packet.now.before packet.now.header.channel
+        messages.entry)) }
 {
     let channel = packet.header.channel;
+    let kind = StampKind::of(&packet.header);
     let mut number = packet.before;
     let mut found = 0u64;
     let mut rest = messages;
     'messages: while let Some(seen) = rest.next() {
         number += 1;
-        let view = View::of(&seen);
+        let view = View::of(kind, &seen);
         if selection.selects(number, channel, &view) {
             found += 1;
             widen(extent, channel, &view)?;
@@ -144,12 +128,18 @@ fn widen_by(
     Ok(())
 }
 
-/// The extent with one more message, which is not counted yet.
+/// The extent with one more message, which is not counted yet; one of which no time is known has no place in it.
 fn widen(extent: &mut Extent, channel: u16, view: &View<'_>) -> Result<(), AllocError>
     ensures { extent.new.messages ≡ extent.old.messages }
 {
+    if !view.has_time() {
+        return Ok(());
+    }
     let end = end_of(view);
     let ticks = end.saturating_sub(view.stamp());
+    if view.stamp() < extent.begin {
+        extent.kind = view.kind();
+    }
     extent.begin = extent.begin.min(view.stamp());
     extent.end = extent.end.max(end);
     extent.shortest = extent.shortest.min(ticks);

@@ -7,7 +7,7 @@ use ch11_stream::StreamFault;
 use std::alloc::AllocError;
 use std::io;
 
-/// Why a recording was not drawn. Of one in memory `StreamFault::Memory` is all.
+/// Why a recording was not drawn.
 #[derive(Debug, Drop)]
 pub enum DrawFault {
     /// A reader of the recording could not be had for one more pass.

@@ -57,28 +57,45 @@ pub(crate) fn draw_nothing(picture: &mut Picture) -> Result<(), AllocError> {
     picture.put("<text x=\"90\" y=\"76\">no message is selected</text>\n")
 }
 
-/// The names of a channel and its lines, and a line under the bars of each.
-pub(crate) fn draw_names(
+/// Puts a text, in which no character is markup.
+fn put_escaped(text: &mut String, name: &str) -> Result<(), AllocError> {
+    for letter in name.chars() {
+        match letter {
+            '&' => text.push_str("&amp;")?,
+            '<' => text.push_str("&lt;")?,
+            '>' => text.push_str("&gt;")?,
+            _ => text.push(letter)?,
+        }
+    }
+    Ok(())
+}
+
+/// The element with the number and the name of the channel at a place.
+pub(crate) fn name_of_channel(
     alloc: Global,
-    picture: &mut Picture,
     rows: &Rows,
     place: u64,
     channel: u16,
-) -> Result<(), AllocError> {
-    let name = rows.end(place).saturating_add(12);
-    let text = format!(in alloc; "<text x=\"8\" y=\"{name}\">channel {channel}</text>\n")?;
-    picture.put(text.as_str())?;
-    draw_line_name(alloc, picture, rows, &rows.lane(place, false), "A")?;
-    draw_line_name(alloc, picture, rows, &rows.lane(place, true), "B")
+    name: Option<&str>,
+) -> Result<String, AllocError> {
+    let y = rows.end(place).saturating_add(12);
+    let mut text = String::new(alloc);
+    write!(text, "<text x=\"8\" y=\"{y}\">channel {channel}")?;
+    if let Some(name) = name {
+        text.push(' ')?;
+        put_escaped(&mut text, name)?;
+    }
+    text.push_str("</text>\n")?;
+    Ok(text)
 }
 
-fn draw_line_name(
+/// The element with the name of a line, and a line under its bars.
+pub(crate) fn name_of_line(
     alloc: Global,
-    picture: &mut Picture,
     rows: &Rows,
     lane: &Lane,
     name: &str,
-) -> Result<(), AllocError> {
+) -> Result<String, AllocError> {
     let (base, under) = if rows.bars {
         (
             lane.bars.saturating_add(15),
@@ -88,10 +105,9 @@ fn draw_line_name(
         (lane.load.saturating_add(24), lane.load.saturating_add(LOAD))
     };
     let right = LEFT + WIDTH;
-    let text = format!(in alloc;
+    format!(in alloc;
         "<text x=\"48\" y=\"{base}\">{name}</text>
 <path d=\"M{LEFT} {under}H{right}\" stroke=\"#bbb\" fill=\"none\"/>
 "
-    )?;
-    picture.put(text.as_str())
+    )
 }

@@ -1,9 +1,8 @@
-//! The command `bench draw`: a recording as a picture, its messages over time, also where it is read anew for each
-//! pass.
+//! The command `bench draw`: a recording as a picture, its messages over time.
 //!
-//! It may know: words, bodies, layouts, the reader, the packets of a stream, watched files, selections, the dump,
-//! decoded messages, times. Its tests: `command_tests`, and of recordings that are read anew `ch11_stream_tests`.
-//! Its wrong bodies: `edits/`.
+//! It may know: words, bodies, layouts, the reader, the packets of a stream, watched files, selections, decoded
+//! messages, times, names of channels. Its tests: `command_tests`, and of recordings that are read anew
+//! `ch11_stream_tests`. Its wrong bodies: `edits/`.
 #![tactic(auto)]
 
 mod axis;
@@ -15,6 +14,7 @@ mod extent;
 mod fault;
 mod frame;
 mod frames;
+mod group;
 mod labels;
 mod lanes;
 mod load;
@@ -24,6 +24,6 @@ mod rows;
 mod scale;
 
 pub use axis::{Unit, first_step, step_of};
-pub use drawing::{Drawing, draw, draw_from};
+pub use drawing::{Drawing, draw};
 pub use fault::DrawFault;
 pub use picture::MOST_BYTES;

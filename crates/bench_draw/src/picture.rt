@@ -25,6 +25,11 @@ impl Picture {
         }
     }
 
+    /// How many bytes of elements there is room for.
+    pub(crate) fn room(&self) -> usize {
+        self.room
+    }
+
     /// One more element, if there is room for it.
     pub(crate) fn put(&mut self, element: &str) -> Result<(), AllocError> {
         let bytes = element.as_bytes();

@@ -1,5 +1,5 @@
 use Rattle.std.proofs.Common.{length}
-use Rattle.bench_draw.proofs.lanes.draw_messages.Given as goal
+use Rattle.bench_draw.proofs.group.Group.add_messages.Given as goal
 
 abbrev pub decreases-messages : goal.decreases-messages
 decreases-messages l = length l.rest
