@@ -1,6 +1,6 @@
 -- Test cases, one after the other, and the bytes of their names.
 use Rattle.std.proofs.Common.{◌≡◌, ℕ, zero, suc, ◌-◌, ◌<◌, List, [], ◌∷◌, ◌++◌, ap, sym, ◌∙◌, arith, append_assoc, append-nil}
-use Rattle.ch11_reader.specs.Contents.{Heard}
+use Rattle.bench_select.specs.Viewed.{Viewed}
 use Rattle.text_lines.specs.Words.{Text}
 use Rattle.judge_rules.specs.declared.rules.Rule.{Rule}
 use Rattle.bench_judge.specs.declared.verdicts.RuleVerdict.{RuleVerdict}
@@ -9,7 +9,7 @@ use Rattle.bench_judge.specs.Names.{rule_text}
 use Rattle.bench_judge.specs.Junit.{case_end, case_head, case_text, cases, escaped_behind, first_shown, misses_told}
 
 -- one more test case is put
-pub case_more : (text : Text) (rules more : List Rule) (rule : Rule) (verdicts others : List RuleVerdict) (v : RuleVerdict) (history : List Heard) (name : Text) (old new whole : List ℕ) → rules ≡ rule ∷ more → verdicts ≡ v ∷ others → name ≡ rule_text text v.line
+pub case_more : (text : Text) (rules more : List Rule) (rule : Rule) (verdicts others : List RuleVerdict) (v : RuleVerdict) (history : List Viewed) (name : Text) (old new whole : List ℕ) → rules ≡ rule ∷ more → verdicts ≡ v ∷ others → name ≡ rule_text text v.line
     → new ≡ old ++ (case_head v name ++ case_end v (misses_told rule v history)) → old ++ cases text rules verdicts history ≡ whole → new ++ cases text more others history ≡ whole
 case_more text rules more rule verdicts others v history name old new whole first next named put before =
     ap (λ (l : List ℕ). l ++ cases text more others history) (put ∙ ap (λ (n : Text). old ++ (case_head v n ++ case_end v (misses_told rule v history))) named)
@@ -17,10 +17,10 @@ case_more text rules more rule verdicts others v history name old new whole firs
     ∙ (rw (first, next) at before)
 
 -- no rule is left, or no verdict
-pub no_rule : (text : Text) (rules : List Rule) (verdicts : List RuleVerdict) (history : List Heard) (now whole : List ℕ) → rules ≡ [] → now ++ cases text rules verdicts history ≡ whole → now ≡ whole
+pub no_rule : (text : Text) (rules : List Rule) (verdicts : List RuleVerdict) (history : List Viewed) (now whole : List ℕ) → rules ≡ [] → now ++ cases text rules verdicts history ≡ whole → now ≡ whole
 no_rule text rules verdicts history now whole none is = sym (append-nil now) ∙ (rw none at is)
 
-pub no_verdict : (text : Text) (rules more : List Rule) (rule : Rule) (verdicts : List RuleVerdict) (history : List Heard) (now whole : List ℕ) → rules ≡ rule ∷ more → verdicts ≡ [] → now ++ cases text rules verdicts history ≡ whole → now ≡ whole
+pub no_verdict : (text : Text) (rules more : List Rule) (rule : Rule) (verdicts : List RuleVerdict) (history : List Viewed) (now whole : List ℕ) → rules ≡ rule ∷ more → verdicts ≡ [] → now ++ cases text rules verdicts history ≡ whole → now ≡ whole
 no_verdict text rules more rule verdicts history now whole first none is = sym (append-nil now) ∙ (rw (first, none) at is)
 
 -- one more byte of a character is put, or the first of one

@@ -5,11 +5,10 @@ mod Whole
 mod Tallying
 mod Writing
 mod Finding
-mod Judged
 mod Streamed
 mod Rereading
 mod Showing
 mod Named
 mod Cases
-mod Known
 mod Putting
+mod Losing

@@ -5,7 +5,7 @@ use Rattle.std.proofs.lemmas.Bool.{cases_eq}
 use Rattle.std.proofs.lemmas.Option.{slice_get_within}
 use Rattle.judge_rules.specs.declared.rules.Rule.{Rule}
 use Rattle.bench_judge.specs.declared.tallies.Tally.{Tally}
-use Rattle.ch11_reader.specs.Contents.{Heard}
+use Rattle.bench_select.specs.Viewed.{Viewed}
 use Rattle.bench_judge.specs.Tallies.{IsTally, AreTallies}
 
 get_set_same : {X : Type 0} (xs : List X) (i : ℕ) (a : X) → i < length xs → slice_get (set xs i a) i ≡ Some a
@@ -24,25 +24,25 @@ some_same : {X : Type 0} (x y : X) → Some x ≡ Some y → x ≡ y
 some_same x y is = cc
 
 -- the tallies of the first rules count a message more
-pub record IsNoting (rules : List Rule) (h : Heard) (history : List Heard) (tallies : List Tally) (i : ℕ) : Type 0 where
+pub record IsNoting (rules : List Rule) (h : Viewed) (history : List Viewed) (tallies : List Tally) (i : ℕ) : Type 0 where
   pub many : length tallies ≡ length rules
   pub noted : (k : ℕ) (rule : Rule) (tally : Tally) → k < i → slice_get rules k ≡ Some rule → slice_get tallies k ≡ Some tally → IsTally rule (h ∷ history) tally
   pub rest : (k : ℕ) (rule : Rule) (tally : Tally) → i ≤ k → slice_get rules k ≡ Some rule → slice_get tallies k ≡ Some tally → IsTally rule history tally
 
-pub noting-none : (rules : List Rule) (h : Heard) (history : List Heard) (tallies : List Tally) → AreTallies rules history tallies → IsNoting rules h history tallies 0
+pub noting-none : (rules : List Rule) (h : Viewed) (history : List Viewed) (tallies : List Tally) → AreTallies rules history tallies → IsNoting rules h history tallies 0
 noting-none rules h history tallies are = record {
   many = are.many;
   noted = λ k rule tally below. absurd (omega arith);
   rest = λ k rule tally above. are.each k rule tally;
 }
 
-pub noting-all : (rules : List Rule) (h : Heard) (history : List Heard) (tallies : List Tally) (i : ℕ) → length rules ≤ i → IsNoting rules h history tallies i → AreTallies rules (h ∷ history) tallies
+pub noting-all : (rules : List Rule) (h : Viewed) (history : List Viewed) (tallies : List Tally) (i : ℕ) → length rules ≤ i → IsNoting rules h history tallies i → AreTallies rules (h ∷ history) tallies
 noting-all rules h history tallies i past is = record {
   many = is.many;
   each = λ k rule tally there. is.noted k rule tally (let within : k < length rules = slice_get_within rules k rule there in omega arith) there;
 }
 
-pub noting-more : (rules : List Rule) (h : Heard) (history : List Heard) (tallies : List Tally) (i : ℕ) (rule : Rule) (tally : Tally) → IsNoting rules h history tallies i → slice_get rules i ≡ Some rule
+pub noting-more : (rules : List Rule) (h : Viewed) (history : List Viewed) (tallies : List Tally) (i : ℕ) (rule : Rule) (tally : Tally) → IsNoting rules h history tallies i → slice_get rules i ≡ Some rule
     → IsTally rule (h ∷ history) tally → IsNoting rules h history (set tallies i tally) (i + 1)
 noting-more rules h history tallies i rule tally is there one = record {
   many = length-set tallies i tally ∙ is.many;

@@ -1,19 +1,19 @@
 -- A recording that is passed: no message, the messages of a packet, the packets, and the verdicts at the end.
-use Rattle.std.proofs.Common.{◌≡◌, ℕ, zero, suc, ◌+◌, ◌<◌, ◌≤◌, List, [], ◌∷◌, ◌++◌, length, take, refl, ap, sym, ◌∙◌, subst, arith, append_assoc, append-nil, reverse, add-one, length-append}
+use Rattle.std.proofs.Common.{◌≡◌, ℕ, zero, suc, ◌+◌, ◌<◌, ◌≤◌, List, [], ◌∷◌, ◌++◌, length, take, refl, ap, sym, ◌∙◌, subst, arith, append_assoc, append-nil, reverse, length-append}
 use Rattle.std.specs.Prelude.{Option, Some, None, slice_get, map}
 use Rattle.std.proofs.lemmas.Option.{slice_get_within}
 use Rattle.std.proofs.lemmas.List.{reverse-append, map-append, length-map, length-reverse}
-use Rattle.std.proofs.lemmas.Grind.{flat_map-append}
 use Rattle.ch11_f1.specs.BodyReading.{Message}
-use Rattle.ch11_reader.specs.declared.packet.Packet.{Packet}
+use Rattle.ch11_layout.specs.Stamps.{recorded, kind_of}
+use Rattle.ch11_layout.specs.declared.stamps.StampKind.{StampKind}
 use Rattle.ch11_reader.specs.Recording.{Found}
-use Rattle.ch11_reader.specs.Contents.{heard_of, heard_in, total_in, Heard}
-use Rattle.bench_dump.proofs.Packets.{IsAt}
+use Rattle.ch11_reader.specs.Contents.{total_in}
+use Rattle.bench_select.specs.Viewed.{viewed_of, viewed_in, Viewed}
 use Rattle.judge_rules.specs.declared.rules.Rule.{Rule}
 use Rattle.bench_judge.specs.declared.tallies.Tally.{Tally}
 use Rattle.bench_judge.specs.declared.verdicts.RuleVerdict.{RuleVerdict}
 use Rattle.bench_judge.specs.Verdicts.{IsVerdict, IsVerdictWith, AreVerdicts}
-use Rattle.bench_judge.specs.Tallies.{IsTally, AreTallies, heard_on}
+use Rattle.bench_judge.specs.Tallies.{IsTally, AreTallies, viewed_on}
 
 -- an element of a list with one more: one of the list, or the last
 pub data Place (X : Type 0) (xs : List X) (x : X) (k : ℕ) (y : X) : Type 0 where
@@ -47,66 +47,49 @@ new-more tallies tally are one = record { each = λ k other there rule. go k oth
 pub new-all : (rules : List Rule) (tallies : List Tally) → length tallies ≡ length rules → AreNew tallies → AreTallies rules [] tallies
 new-all rules tallies many are = record { many = many; each = λ k rule tally there got. are.each k tally got rule }
 
-abbrev pub with_channel : ℕ → Message → Heard
-with_channel channel = λ (m : Message). (channel, m)
+abbrev pub with_channel : StampKind → ℕ → Message → Viewed
+with_channel kind channel = λ (m : Message). (channel, recorded kind m)
 
 -- the messages of a packet so far were passed, behind a history, and something is known of all that was passed
-pub record IsPassing (known : List Heard → Type 0) (channel : ℕ) (all rest : List Message) (history : List Heard) : Type 0 where
+pub record IsPassing (known : List Viewed → Type 0) (kind : StampKind) (channel : ℕ) (all rest : List Message) (history : List Viewed) : Type 0 where
   pub passed : List Message
   pub split : passed ++ rest ≡ all
-  pub now : known (heard_on channel passed history)
+  pub now : known (viewed_on kind channel passed history)
 
-pub passing-none : (known : List Heard → Type 0) (channel : ℕ) (all : List Message) (history : List Heard) → known history → IsPassing known channel all all history
-passing-none known channel all history is = record { passed = []; split = refl; now = is }
+pub passing-none : (known : List Viewed → Type 0) (kind : StampKind) (channel : ℕ) (all : List Message) (history : List Viewed) → known history → IsPassing known kind channel all all history
+passing-none known kind channel all history is = record { passed = []; split = refl; now = is }
 
-length-history : (channel : ℕ) (passed : List Message) (history : List Heard) → length (heard_on channel passed history) ≡ length passed + length history
-length-history channel passed history =
-    omega (arith, length-append (reverse (map (with_channel channel) passed)) history, length-reverse (map (with_channel channel) passed), length-map passed (with_channel channel))
+length-history : (kind : StampKind) (channel : ℕ) (passed : List Message) (history : List Viewed) → length (viewed_on kind channel passed history) ≡ length passed + length history
+length-history kind channel passed history =
+    omega (arith, length-append (reverse (map (with_channel kind channel) passed)) history, length-reverse (map (with_channel kind channel) passed), length-map passed (with_channel kind channel))
 
-one_more : (channel : ℕ) (passed : List Message) (m : Message) (history : List Heard) → heard_on channel (passed ++ m ∷ []) history ≡ (channel, m) ∷ heard_on channel passed history
-one_more channel passed m history =
-    ap (λ (hs : List Heard). reverse hs ++ history) (map-append (with_channel channel) passed (m ∷ []))
-    ∙ ap (λ (hs : List Heard). hs ++ history) (reverse-append (map (with_channel channel) passed) ((channel, m) ∷ []))
+one_more : (kind : StampKind) (channel : ℕ) (passed : List Message) (m : Message) (history : List Viewed) → viewed_on kind channel (passed ++ m ∷ []) history ≡ (channel, recorded kind m) ∷ viewed_on kind channel passed history
+one_more kind channel passed m history =
+    ap (λ (hs : List Viewed). reverse hs ++ history) (map-append (with_channel kind channel) passed (m ∷ []))
+    ∙ ap (λ (hs : List Viewed). hs ++ history) (reverse-append (map (with_channel kind channel) passed) ((channel, recorded kind m) ∷ []))
 
-pub passing-more : (known next : List Heard → Type 0) (channel : ℕ) (all rest others : List Message) (m : Message) (history : List Heard) → IsPassing known channel all rest history → rest ≡ m ∷ others
-    → ((hs : List Heard) → known hs → length hs + length rest ≡ length history + length all → next ((channel, m) ∷ hs))
-    → IsPassing next channel all others history
-passing-more known next channel all rest others m history p is noted = record {
+pub passing-more : (known next : List Viewed → Type 0) (kind : StampKind) (channel : ℕ) (all rest others : List Message) (m : Message) (history : List Viewed) → IsPassing known kind channel all rest history → rest ≡ m ∷ others
+    → ((hs : List Viewed) → known hs → length hs + length rest ≡ length history + length all → next ((channel, recorded kind m) ∷ hs))
+    → IsPassing next kind channel all others history
+passing-more known next kind channel all rest others m history p is noted = record {
   passed = p.passed ++ m ∷ [];
   split = append_assoc p.passed (m ∷ []) others ∙ ap (λ (ms : List Message). p.passed ++ ms) (sym is) ∙ p.split;
-  now = subst next (sym (one_more channel p.passed m history))
-      (noted (heard_on channel p.passed history) p.now (omega (arith, length-history channel p.passed history, length-append p.passed rest, ap length p.split)));
+  now = subst next (sym (one_more kind channel p.passed m history))
+      (noted (viewed_on kind channel p.passed history) p.now (omega (arith, length-history kind channel p.passed history, length-append p.passed rest, ap length p.split)));
 }
 
-pub passing-all : (known : List Heard → Type 0) (channel : ℕ) (all rest : List Message) (history : List Heard) → IsPassing known channel all rest history → rest ≡ [] → known (heard_on channel all history)
-passing-all known channel all rest history p none =
-    subst (λ (ms : List Message). known (heard_on channel ms history)) (sym (append-nil p.passed) ∙ ap (λ (ms : List Message). p.passed ++ ms) (sym none) ∙ p.split) p.now
+pub passing-all : (known : List Viewed → Type 0) (kind : StampKind) (channel : ℕ) (all rest : List Message) (history : List Viewed) → IsPassing known kind channel all rest history → rest ≡ [] → known (viewed_on kind channel all history)
+passing-all known kind channel all rest history p none =
+    subst (λ (ms : List Message). known (viewed_on kind channel ms history)) (sym (append-nil p.passed) ∙ ap (λ (ms : List Message). p.passed ++ ms) (sym none) ∙ p.split) p.now
 
 pub take_more : {X : Type 0} (xs : List X) (k : ℕ) (x : X) → slice_get xs k ≡ Some x → take (suc k) xs ≡ take k xs ++ x ∷ []
 take_more [] k x is = absurd cc
 take_more (y ∷ ys) zero x is = let same : y ≡ x = cc in rw same refl
 take_more (y ∷ ys) (suc k) x is = rw (take_more ys k x is) refl
 
-pub length-heard : (ps : List Found) → length (heard_in ps) ≡ total_in ps
+pub length-heard : (ps : List Found) → length (viewed_in ps) ≡ total_in ps
 length-heard [] = refl
-length-heard (p ∷ ps) = omega (arith, length-append (heard_of p) (heard_in ps), length-map p.messages (with_channel p.header.channel), length-heard ps)
-
--- so many messages are behind
-pub before_packet : (ps : List Found) (place : ℕ) (e : Packet) → IsAt 0 ps place e → e.before ≡ length (reverse (heard_in (take place ps)))
-before_packet ps place e at = omega (arith, at.before, length-reverse (heard_in (take place ps)), length-heard (take place ps))
-
-pub packets-more : (known : List Heard → Type 0) (ps : List Found) (place : ℕ) (e : Packet) → (at : IsAt 0 ps place e)
-    → known (heard_on e.header.channel at.packet.messages (reverse (heard_in (take place ps)))) → known (reverse (heard_in (take (place + 1) ps)))
-packets-more known ps place e at is = subst known (sym same) is
-  where
-    taken : take (place + 1) ps ≡ take place ps ++ at.packet ∷ []
-    taken = rw add-one (take_more ps place at.packet at.there)
-
-    heard : heard_in (take (place + 1) ps) ≡ heard_in (take place ps) ++ heard_of at.packet
-    heard = ap heard_in taken ∙ flat_map-append heard_of (take place ps) (at.packet ∷ []) ∙ ap (λ (hs : List Heard). heard_in (take place ps) ++ hs) (append-nil (heard_of at.packet))
-
-    same : reverse (heard_in (take (place + 1) ps)) ≡ heard_on e.header.channel at.packet.messages (reverse (heard_in (take place ps)))
-    same = rw at.header (ap reverse heard ∙ reverse-append (heard_in (take place ps)) (heard_of at.packet))
+length-heard (p ∷ ps) = omega (arith, length-append (viewed_of p) (viewed_in ps), length-map p.messages (with_channel (kind_of p.header) p.header.channel), length-heard ps)
 
 -- the tallies so far have their verdicts
 pub record IsJudging (rules : List Rule) (all rest : List Tally) (verdicts : List RuleVerdict) : Type 0 where
@@ -142,10 +125,10 @@ judging-more rules all rest others tally verdicts rule verdict j is there one = 
         subst (λ (x : Rule). IsVerdictWith x t.selected t.missed v) same
         (subst (λ (x : Tally). IsVerdictWith rule x.selected x.missed v) got (subst (λ (x : RuleVerdict). IsVerdictWith rule tally.selected tally.missed x) has one))
 
-verdict_with : (rule : Rule) (history : List Heard) (tally : Tally) (verdict : RuleVerdict) → IsTally rule history tally → IsVerdictWith rule tally.selected tally.missed verdict → IsVerdict rule history verdict
+verdict_with : (rule : Rule) (history : List Viewed) (tally : Tally) (verdict : RuleVerdict) → IsTally rule history tally → IsVerdictWith rule tally.selected tally.missed verdict → IsVerdict rule history verdict
 verdict_with rule history tally verdict is with = rw (is.selected, is.missed) at with
 
-pub judging-all : (rules : List Rule) (all rest : List Tally) (verdicts : List RuleVerdict) (history : List Heard) → IsJudging rules all rest verdicts → rest ≡ [] → AreTallies rules history all → AreVerdicts rules history verdicts
+pub judging-all : (rules : List Rule) (all rest : List Tally) (verdicts : List RuleVerdict) (history : List Viewed) → IsJudging rules all rest verdicts → rest ≡ [] → AreTallies rules history all → AreVerdicts rules history verdicts
 judging-all rules all rest verdicts history j none are = record {
   many = omega (arith, j.many, are.many, ap length whole);
   each = λ k rule verdict asked has. go k rule verdict asked has (slice_get j.done k) refl;

@@ -4,7 +4,7 @@ use Rattle.std.specs.Prelude.{Bool, true, false, Option, Some, slice_get}
 use Rattle.std.specs.Io.KnownBytes.{Appends}
 use Rattle.std.specs.List.{flat_map}
 use Rattle.std.proofs.lemmas.Grind.{flat_map-append}
-use Rattle.ch11_f1.specs.BodyReading.{Message}
+use Rattle.ch11_layout.specs.Stamps.{Recorded, time_of}
 use Rattle.bench_dump.proofs.Steps.{appends_both, appends_nothing}
 use Rattle.judge_rules.specs.declared.rules.Rule.{Rule}
 use Rattle.bench_judge.specs.declared.tallies.Tally.{Tally}
@@ -12,7 +12,7 @@ use Rattle.bench_judge.specs.declared.verdicts.Miss.{Miss}
 use Rattle.bench_judge.specs.declared.verdicts.RuleVerdict.{RuleVerdict}
 use Rattle.bench_judge.specs.Selection.{selects}
 use Rattle.bench_judge.specs.Checks.{meets}
-use Rattle.ch11_reader.specs.Contents.{Heard}
+use Rattle.bench_select.specs.Viewed.{Viewed}
 use Rattle.bench_judge.specs.Verdicts.{latest_stamp, misses, miss_of, AreVerdicts, not_held, rules_not_held, holds}
 use Rattle.bench_judge.specs.Lines.{miss_line, verdict_lines, rules_lines, last_line, verdict_text}
 use Rattle.bench_judge.specs.Tallies.{IsTally, IsWriting, misses_next, miss_lines}
@@ -21,7 +21,7 @@ use Rattle.bench_judge.proofs.Tallying.{next-skip, next-met, next-missed}
 use Rattle.bench_judge.proofs.Whole.{take_more}
 
 -- the next message does not miss the rule, or it does
-pub misses-stay : (rule : Rule) (h : Heard) (history : List Heard) → false ≡ misses_next rule history h → misses rule (h ∷ history) ≡ misses rule history
+pub misses-stay : (rule : Rule) (h : Viewed) (history : List Viewed) → false ≡ misses_next rule history h → misses rule (h ∷ history) ≡ misses rule history
 misses-stay rule h history stays = go (selects rule h.0 h.1) refl (meets rule.check (latest_stamp rule h.0 history) h.1) refl
   where
     go : (s : Bool) → selects rule h.0 h.1 ≡ s → (m : Bool) → meets rule.check (latest_stamp rule h.0 history) h.1 ≡ m → misses rule (h ∷ history) ≡ misses rule history
@@ -29,7 +29,7 @@ misses-stay rule h history stays = go (selects rule h.0 h.1) refl (meets rule.ch
     go true is true met = misses-met rule h history is met
     go true is false met = let bad : false ≡ true = stays ∙ sym (next-missed rule h history is met) in absurd cc
 
-pub misses-grow : (rule : Rule) (h : Heard) (history : List Heard) → true ≡ misses_next rule history h → misses rule (h ∷ history) ≡ misses rule history ++ miss_of (moment h history) ∷ []
+pub misses-grow : (rule : Rule) (h : Viewed) (history : List Viewed) → true ≡ misses_next rule history h → misses rule (h ∷ history) ≡ misses rule history ++ miss_of (moment h history) ∷ []
 misses-grow rule h history grows = go (selects rule h.0 h.1) refl (meets rule.check (latest_stamp rule h.0 history) h.1) refl
   where
     go : (s : Bool) → selects rule h.0 h.1 ≡ s → (m : Bool) → meets rule.check (latest_stamp rule h.0 history) h.1 ≡ m → misses rule (h ∷ history) ≡ misses rule history ++ miss_of (moment h history) ∷ []
@@ -40,14 +40,14 @@ misses-grow rule h history grows = go (selects rule h.0 h.1) refl (meets rule.ch
 pub writing-none : (rule : Rule) (got : Option (List ℕ)) (tally : Tally) → IsTally rule [] tally → IsWriting rule got [] got tally
 writing-none rule got tally is = record { tallied = is; written = appends_nothing got }
 
-pub writing-skip : (rule : Rule) (got gets : Option (List ℕ)) (h : Heard) (history : List Heard) (tally next : Tally) → IsWriting rule got history gets tally → false ≡ misses_next rule history h
+pub writing-skip : (rule : Rule) (got gets : Option (List ℕ)) (h : Viewed) (history : List Viewed) (tally next : Tally) → IsWriting rule got history gets tally → false ≡ misses_next rule history h
     → IsTally rule (h ∷ history) next → IsWriting rule got (h ∷ history) gets next
 writing-skip rule got gets h history tally next w stays is = record {
   tallied = is;
   written = subst (λ (xs : List Miss). Appends got gets (flat_map (miss_line rule.line) xs)) (sym (misses-stay rule h history stays)) w.written;
 }
 
-pub writing-more : (rule : Rule) (got mid gets : Option (List ℕ)) (h : Heard) (history : List Heard) (tally next : Tally) (miss : Miss) → IsWriting rule got history mid tally → true ≡ misses_next rule history h
+pub writing-more : (rule : Rule) (got mid gets : Option (List ℕ)) (h : Viewed) (history : List Viewed) (tally next : Tally) (miss : Miss) → IsWriting rule got history mid tally → true ≡ misses_next rule history h
     → IsTally rule (h ∷ history) next → miss ≡ miss_of (moment h history) → Appends mid gets (miss_line rule.line miss) → IsWriting rule got (h ∷ history) gets next
 writing-more rule got mid gets h history tally next miss w grows is told line = record {
   tallied = is;
@@ -61,29 +61,29 @@ writing-more rule got mid gets h history tally next miss w grows is told line = 
         ∙ ap (λ (l : List ℕ). miss_lines rule history ++ l) (append-nil (miss_line rule.line (miss_of (moment h history))))
         ∙ ap (λ (x : Miss). miss_lines rule history ++ miss_line rule.line x) (sym told)
 
-pub told : (number channel : ℕ) (m : Message) (history : List Heard) → number ≡ length history + 1
-    → (let miss : Miss = record { number = number; channel = channel; stamp = m.stamp } in miss) ≡ miss_of (moment (channel, m) history)
+pub told : (number channel : ℕ) (m : Recorded) (history : List Viewed) → number ≡ length history + 1
+    → (let miss : Miss = record { number = number; channel = channel; stamp = time_of m } in miss) ≡ miss_of (moment (channel, m) history)
 told number channel m history is = rw is refl
 
 -- one rule more
-lines-append : (xs ys : List Rule) (history : List Heard) → rules_lines (xs ++ ys) history ≡ rules_lines xs history ++ rules_lines ys history
+lines-append : (xs ys : List Rule) (history : List Viewed) → rules_lines (xs ++ ys) history ≡ rules_lines xs history ++ rules_lines ys history
 lines-append [] ys history = refl
 lines-append (x ∷ xs) ys history =
     ap (λ (l : List ℕ). verdict_lines x history ++ l) (lines-append xs ys history) ∙ sym (append_assoc (verdict_lines x history) (rules_lines xs history) (rules_lines ys history))
 
-lines-more : (rules : List Rule) (place : ℕ) (rule : Rule) (history : List Heard) → slice_get rules place ≡ Some rule → rules_lines (take (place + 1) rules) history ≡ rules_lines (take place rules) history ++ verdict_lines rule history
+lines-more : (rules : List Rule) (place : ℕ) (rule : Rule) (history : List Viewed) → slice_get rules place ≡ Some rule → rules_lines (take (place + 1) rules) history ≡ rules_lines (take place rules) history ++ verdict_lines rule history
 lines-more rules place rule history there =
     ap (λ (rs : List Rule). rules_lines rs history) (rw add-one (take_more rules place rule there))
     ∙ lines-append (take place rules) (rule ∷ []) history
     ∙ ap (λ (l : List ℕ). rules_lines (take place rules) history ++ l) (append-nil (verdict_lines rule history))
 
-pub rules-more : (rules : List Rule) (place : ℕ) (rule : Rule) (history : List Heard) (got mid gets : Option (List ℕ)) → slice_get rules place ≡ Some rule → Appends got mid (rules_lines (take place rules) history)
+pub rules-more : (rules : List Rule) (place : ℕ) (rule : Rule) (history : List Viewed) (got mid gets : Option (List ℕ)) → slice_get rules place ≡ Some rule → Appends got mid (rules_lines (take place rules) history)
     → Appends mid gets (verdict_lines rule history) → Appends got gets (rules_lines (take (place + 1) rules) history)
 rules-more rules place rule history got mid gets there before line =
     subst (Appends got gets) (sym (lines-more rules place rule history there)) (appends_both got mid gets (rules_lines (take place rules) history) (verdict_lines rule history) before line)
 
 -- as many verdicts are not held as rules
-pub same-held : (rules : List Rule) (history : List Heard) (verdicts : List RuleVerdict) → AreVerdicts rules history verdicts → not_held verdicts ≡ rules_not_held rules history
+pub same-held : (rules : List Rule) (history : List Viewed) (verdicts : List RuleVerdict) → AreVerdicts rules history verdicts → not_held verdicts ≡ rules_not_held rules history
 same-held [] history [] are = refl
 same-held [] history (v ∷ vs) are = absurd (omega (arith, are.many))
 same-held (r ∷ rs) history [] are = absurd (omega (arith, are.many))
@@ -92,5 +92,5 @@ same-held (r ∷ rs) history (v ∷ vs) are =
     let rest = same-held rs history vs (record { many = omega (arith, are.many); each = λ k rule verdict asked has. are.each (suc k) rule verdict asked has }) in
     rw (first, rest) refl
 
-pub whole-text : (rules : List Rule) (history : List Heard) (verdicts : List RuleVerdict) → AreVerdicts rules history verdicts → rules_lines rules history ++ last_line (length verdicts) (not_held verdicts) ≡ verdict_text rules history
+pub whole-text : (rules : List Rule) (history : List Viewed) (verdicts : List RuleVerdict) → AreVerdicts rules history verdicts → rules_lines rules history ++ last_line (length verdicts) (not_held verdicts) ≡ verdict_text rules history
 whole-text rules history verdicts are = rw (are.many, same-held rules history verdicts are) refl

@@ -16,7 +16,7 @@ use Rattle.mil_message.specs.Forms.{replies_due}
 use Rattle.mil_message.specs.Parts.{Parts, request_at}
 use Rattle.mil_message.specs.Request.{Request}
 use Rattle.mil_message.specs.Rules.{checked}
-use Rattle.ch11_f1.specs.BodyReading.{Message}
+use Rattle.ch11_layout.specs.Stamps.{Recorded}
 use Rattle.ch11_layout.specs.BlockStatus.{has_error, has_format_error, has_response_timeout, has_word_count_error}
 use Rattle.ch11_layout.specs.BlockStatus.{has_sync_type_error, has_invalid_word_error}
 use Rattle.ch11_layout.specs.Layouts.{first_word}
@@ -58,7 +58,7 @@ abbrev pub controller_sends : ℕ → Bool
 controller_sends number = number == 0 || number == 5 || number == 6 || number == 9
 
 -- the message as numbers
-abbrev pub parts_with : ℕ → Message → Parts
+abbrev pub parts_with : ℕ → Recorded → Parts
 parts_with number m = record {
   number = number;
   first = first_word m;
@@ -66,7 +66,7 @@ parts_with number m = record {
   words = if controller_sends number then data_words m else [];
 }
 
-abbrev pub parts_in : Message → Parts
+abbrev pub parts_in : Recorded → Parts
 parts_in m = parts_with (form_number_of (has_two m) (first_word m)) m
 
 abbrev pub has_parts : Form → Parts → Bool
@@ -122,18 +122,18 @@ data_fit form count found =
     (count == length (forms.data_words form) + words_due (replies_due form))
     || ((count == 0) && nat_lt 0 (words_due (replies_due form)) && sends_no_data found)
 
-abbrev pub is_sent_as : Option Form → Message → Bool
+abbrev pub is_sent_as : Option Form → Recorded → Bool
 is_sent_as None m = false
 is_sent_as (Some form) m = data_fit form (data_count m) (statuses m)
     && replies_fit (replies_due form) (statuses m) (gaps m)
 
 -- at most 32 data words (4.3.3.5.1.5) of a message of one of the ten forms, without an error
-unfoldable pub clean : Message → Bool
+unfoldable pub clean : Recorded → Bool
 clean m =
     has_no_error m.block && may_be_sent (first_word m)
     && nat_le (data_count m) most_words && is_sent_as (form_with (parts_in m)) m
 
 -- what is known of a message, if anything is: whether it is clean
-abbrev pub IsKnown : Option Bool → Message → Type 0
+abbrev pub IsKnown : Option Bool → Recorded → Type 0
 IsKnown None m = Unit {0}
 IsKnown (Some known) m = known ≡ clean m

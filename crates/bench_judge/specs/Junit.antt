@@ -1,7 +1,7 @@
 -- The JUnit file of verdicts (own choice): a test case a rule, named by its text.
 use Rattle.std.specs.Prelude.{ℕ, zero, suc, ◌-◌, ◌==◌, if◌then◌else◌, List, [], ◌∷◌, ◌++◌, length, take, codes, decimal}
 use Rattle.std.specs.List.{flat_map}
-use Rattle.ch11_reader.specs.Contents.{Heard}
+use Rattle.bench_select.specs.Viewed.{Viewed}
 use Rattle.text_lines.specs.Words.{Text}
 use Rattle.judge_rules.specs.declared.rules.Rule.{Rule}
 use Rattle.bench_judge.specs.declared.losses.Lost.{Lost}
@@ -9,6 +9,7 @@ use Rattle.bench_judge.specs.declared.verdicts.Miss.{Miss}
 use Rattle.bench_judge.specs.declared.verdicts.RuleVerdict.{RuleVerdict}
 use Rattle.bench_judge.specs.Losses.{is_any, lost_text}
 use Rattle.bench_judge.specs.Names.{rule_text}
+use Rattle.bench_judge.specs.Lines.{stamp_text}
 use Rattle.bench_judge.specs.Verdicts.{misses, not_held}
 use Rattle.bench_judge.specs.Characters.{character_len}
 
@@ -48,7 +49,7 @@ reason v =
 unfoldable pub told_miss : Miss → List ℕ
 told_miss m =
     codes "\nmessage " ++ (decimal m.number ++ (codes " channel " ++ (decimal m.channel
-    ++ (codes " stamp " ++ decimal m.stamp))))
+    ++ (codes " stamp " ++ stamp_text m.stamp))))
 
 unfoldable pub failure : RuleVerdict → List Miss → List ℕ
 failure v told =
@@ -64,14 +65,14 @@ abbrev pub case_end : RuleVerdict → List Miss → List ℕ
 case_end v told = if v.held then codes "\"/>\n" else failure v told
 
 -- the first hundred messages that miss a rule, if any do
-abbrev pub misses_told : Rule → RuleVerdict → List Heard → List Miss
+abbrev pub misses_told : Rule → RuleVerdict → List Viewed → List Miss
 misses_told rule v history = if v.missed == 0 then [] else take 100 (misses rule history)
 
-abbrev pub case_text : Text → Rule → RuleVerdict → List Heard → List ℕ
+abbrev pub case_text : Text → Rule → RuleVerdict → List Viewed → List ℕ
 case_text text rule v history = case_head v (rule_text text v.line) ++ case_end v (misses_told rule v history)
 
 -- a test case for each rule and its verdict, in their order
-abbrev pub cases : Text → List Rule → List RuleVerdict → List Heard → List ℕ
+abbrev pub cases : Text → List Rule → List RuleVerdict → List Viewed → List ℕ
 cases text [] verdicts history = []
 cases text (rule ∷ rules) [] history = []
 cases text (rule ∷ rules) (v ∷ verdicts) history = case_text text rule v history ++ cases text rules verdicts history
@@ -93,6 +94,6 @@ suite_head verdicts =
     ++ (decimal (length verdicts) ++ (codes "\" failures=\"" ++ (decimal (not_held verdicts) ++ codes "\">\n")))
 
 -- the file of rules, which a text spells, with the verdict on each on the messages of a history, newest first
-unfoldable pub junit : Text → List Rule → List RuleVerdict → Lost → List Heard → List ℕ
+unfoldable pub junit : Text → List Rule → List RuleVerdict → Lost → List Viewed → List ℕ
 junit text rules verdicts lost history =
     suite_head verdicts ++ (properties lost ++ (cases text rules verdicts history ++ codes "</testsuite>\n"))

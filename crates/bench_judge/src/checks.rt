@@ -146,7 +146,7 @@ pub(crate) fn meets(
         Check::Status(datum) => has_status(datum, view),
         Check::Data(wanted) => has_data(wanted.as_slice(), view),
         Check::Response(bounds) => responds_in(bounds, view),
-        Check::Period(bounds) => follows_in(bounds, before, view.stamp()),
+        Check::Period(bounds) => view.has_time() && follows_in(bounds, before, view.stamp()),
         Check::Count(_) => true,
     }
 }

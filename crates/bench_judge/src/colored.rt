@@ -6,11 +6,11 @@ ghost use Rattle.std.specs.Prelude.{◌≡◌, ◌++◌, [], OnOk, IfOk, length,
 use crate::names::Names;
 use crate::numbers::put_number;
 use crate::pass_fault::PassFault;
-use crate::sought::{Anew, Sought, Wanted};
+use crate::sought::{Wanted, write_first};
 use crate::verdicts::{Judged, RuleVerdict, not_held};
 use bench_decode::{Shown, TextLine};
+use bench_names::ChannelNames;
 use bench_watch::Reopen;
-use ch11_reader::Index;
 use judge_rules::Rule;
 use std::alloc::{AllocError, Global};
 use std::io;
@@ -116,10 +116,11 @@ fn put_last(text: &mut Vec<u8>, verdicts: &[RuleVerdict]) -> Result<(), AllocErr
 }
 
 /// The first messages that miss a rule, as they are shown; none where none does.
-fn shown_misses<S: Sought>(
+fn shown_misses<S: Reopen>(
     alloc: Global,
     line: &mut TextLine,
     recording: &S,
+    names: ChannelNames<'_>,
     rule: &Rule,
     missed: u64,
 ) -> Result<Vec<u8>, PassFault>
@@ -132,7 +133,7 @@ fn shown_misses<S: Sought>(
             rule,
             most: SHOWN as usize,
         };
-        recording.write_first(wanted, line, &mut shown)?;
+        write_first(recording, wanted, names, line, &mut shown)?;
     }
     Ok(shown)
 }
@@ -150,10 +151,11 @@ fn write_more<W: Write>(missed: u64, out: &mut W) -> io::Result<()>
 }
 
 /// Writes a rule, and the first messages that miss it.
-fn write_rule<S: Sought, W: Write>(
+fn write_rule<S: Reopen, W: Write>(
     alloc: Global,
     line: &mut TextLine,
     recording: &S,
+    channels: ChannelNames<'_>,
     name: &[u8],
     rule: &Rule,
     verdict: &RuleVerdict,
@@ -164,7 +166,7 @@ fn write_rule<S: Sought, W: Write>(
 {
     let mut text = Vec::new(alloc);
     put_rule(&mut text, name, verdict)?;
-    let shown = shown_misses(alloc, line, recording, rule, verdict.missed)?;
+    let shown = shown_misses(alloc, line, recording, channels, rule, verdict.missed)?;
     out.write_all(text.as_slice())?;
     out.write_all(shown.as_slice())?;
     write_more(verdict.missed, out)?;
@@ -172,9 +174,10 @@ fn write_rule<S: Sought, W: Write>(
 }
 
 /// Writes each rule.
-fn write_rules<S: Sought, W: Write>(
+fn write_rules<S: Reopen, W: Write>(
     alloc: Global,
     recording: &S,
+    channels: ChannelNames<'_>,
     judged: Judged<'_>,
     out: &mut W,
 ) -> Result<(), PassFault>
@@ -191,7 +194,9 @@ fn write_rules<S: Sought, W: Write>(
             return Ok(());
         };
         let name = names.at(verdict.line);
-        write_rule(alloc, &mut line, recording, name, rule, verdict, out)?;
+        write_rule(
+            alloc, &mut line, recording, channels, name, rule, verdict, out,
+        )?;
         rules = more;
         verdicts = others;
     }
@@ -199,9 +204,10 @@ fn write_rules<S: Sought, W: Write>(
 }
 
 /// Writes the verdicts for people.
-fn write_for_people<S: Sought, W: Write>(
+fn write_for_people<S: Reopen, W: Write>(
     alloc: Global,
     recording: &S,
+    channels: ChannelNames<'_>,
     judged: Judged<'_>,
     out: &mut W,
 ) -> Result<(), PassFault>
@@ -209,7 +215,7 @@ fn write_for_people<S: Sought, W: Write>(
         → OnOk result (spec.AppendsSome (spec.IsColored judged.entry.text.now judged.entry.verdicts.now)
         (W.contents out.old) (W.contents out.new)) }
 {
-    write_rules(alloc, recording, judged, out)?;
+    write_rules(alloc, recording, channels, judged, out)?;
     let mut text = Vec::new(alloc);
     put_last(&mut text, judged.verdicts)?;
     out.write_all(text.as_slice())?;
@@ -218,28 +224,13 @@ fn write_for_people<S: Sought, W: Write>(
 }
 
 /// Writes the verdicts on these rules, which a text spells, for people: each rule by its own text, green where it is
-/// held and red where it is not, with the first three messages that miss it as `bench dump --decode` shows them; last
-/// how many rules there are and how many are not held. A fault is want of memory or the writer's.
-pub fn write_colored<W: Write>(
-    alloc: Global,
-    index: &Index<'_>,
-    rules_text: &[u8],
-    rules: &[Rule],
-    verdicts: &[RuleVerdict],
-    out: &mut W,
-) -> Result<(), PassFault>
-    ensures { length rules.now ≡ length verdicts.now
-        → OnOk result (spec.AppendsSome (spec.IsColored rules_text.now verdicts.now) (W.contents out.old)
-        (W.contents out.new)) }
-{
-    write_for_people(alloc, index, Judged::of(rules_text, rules, verdicts), out)
-}
-
-/// Writes the verdicts as `write_colored` does, of a recording that is read anew for each rule that messages miss. A
-/// fault may also be the recording's, and then the writer may have got the text of rules in front of it.
-pub fn write_colored_from<S: Reopen, W: Write>(
+/// held and red where it is not, with the first three messages that miss it as `bench dump --decode` shows them, behind
+/// the name of their channel if it has one, for which the recording is read anew; last how many rules there are and how many are not held. A fault is want of
+/// memory, the writer's, or the recording's, and then the writer may have got the text of rules in front of it.
+pub fn write_colored<S: Reopen, W: Write>(
     alloc: Global,
     recording: &S,
+    channels: ChannelNames<'_>,
     rules_text: &[u8],
     rules: &[Rule],
     verdicts: &[RuleVerdict],
@@ -249,6 +240,11 @@ pub fn write_colored_from<S: Reopen, W: Write>(
         → OnOk result (spec.AppendsSome (spec.IsColored rules_text.now verdicts.now) (W.contents out.old)
         (W.contents out.new)) }
 {
-    let anew = Anew { recording };
-    write_for_people(alloc, &anew, Judged::of(rules_text, rules, verdicts), out)
+    write_for_people(
+        alloc,
+        recording,
+        channels,
+        Judged::of(rules_text, rules, verdicts),
+        out,
+    )
 }

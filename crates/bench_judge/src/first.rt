@@ -1,7 +1,8 @@
 //! The first messages that miss a rule.
-ghost use Rattle.bench_judge.specs.Tallies.{IsFinding, heard_on};
+ghost use Rattle.bench_judge.specs.Tallies.{IsFinding, viewed_on};
 ghost use Rattle.bench_judge.specs.Verdicts.{misses};
-ghost use Rattle.ch11_reader.specs.Contents.{heard_in, Heard};
+ghost use Rattle.ch11_layout.specs.Stamps.{kind_of};
+ghost use Rattle.bench_select.specs.Viewed.{viewed_in, Viewed};
 ghost use Rattle.ch11_stream.specs.Folding.{FoldsPackets};
 ghost use Rattle.std.specs.Prelude.{IfOk, OnOk};
 ghost use Rattle.std.specs.Prelude.{◌≡◌, ◌+◌, ◌<◌, ◌≤◌, ◌^◌, ◌∷◌, ◌++◌, [], ℕ, List, Some, length, take, reverse};
@@ -9,8 +10,8 @@ ghost use Rattle.std.specs.Prelude.{◌≡◌, ◌+◌, ◌<◌, ◌≤◌, ◌^
 use crate::tallies::Tally;
 use crate::verdicts::Miss;
 use ch11_f1::Messages;
-use ch11_layout::View;
-use ch11_reader::{Index, Packet};
+use ch11_layout::{StampKind, View};
+use ch11_reader::Packet;
 use ch11_stream::{Advance, Packets, StreamFault};
 use judge_rules::Rule;
 use std::alloc::{AllocError, Global};
@@ -37,7 +38,7 @@ fn note_first(
     most: usize,
     found: &mut Vec<Miss>,
 ) -> Result<(), AllocError>
-    ensures { (history : List Heard) → IsFinding rule.now most history found.old.items tally.old
+    ensures { (history : List Viewed) → IsFinding rule.now most history found.old.items tally.old
         → number ≡ length history + 1
         → OnOk result (IsFinding rule.now most ((channel, view.now) ∷ history)
         found.new.items tally.new) }
@@ -58,62 +59,42 @@ fn first_in(
     found: &mut Vec<Miss>,
 ) -> Result<(), AllocError>
     requires { packet.now.before + length messages < 2 ^ 64 }
-    ensures { (history : List Heard) → IsFinding rule.now most history found.old.items tally.old
+    ensures { (history : List Viewed) → IsFinding rule.now most history found.old.items tally.old
         → packet.now.before ≡ length history
-        → OnOk result (IsFinding rule.now most (heard_on packet.now.header.channel messages.entry history)
+        → OnOk result (IsFinding rule.now most
+        (viewed_on (kind_of packet.now.header) packet.now.header.channel messages.entry history)
         found.new.items tally.new) }
 {
     let channel = packet.header.channel;
+    let kind = StampKind::of(&packet.header);
     let mut number = packet.before;
     let mut rest = messages;
     'messages: while let Some(seen) = rest.next() {
         number += 1;
-        note_first(tally, rule, number, channel, &View::of(&seen), most, found)?;
+        note_first(
+            tally,
+            rule,
+            number,
+            channel,
+            &View::of(kind, &seen),
+            most,
+            found,
+        )?;
     }
     Ok(())
 }
 
-/// The first messages that miss a rule, in the file's order, at most as many as that.
-pub(crate) fn first_misses(
-    alloc: Global,
-    index: &Index<'_>,
-    rule: &Rule,
-    most: usize,
-) -> Result<Vec<Miss>, AllocError>
-    ensures { IfOk result (λ found. found.items ≡ take most (misses rule.now (reverse (heard_in index.now)))) }
-{
-    let mut found = Vec::new(alloc);
-    let mut tally = Tally::new(alloc);
-    let packets = index.packets();
-    'packets: for place in 0..packets.len() {
-        let enough = most <= found.len();
-        if enough {
-            return Ok(found);
-        }
-        let messages = index.messages_in(place);
-        first_in(
-            &mut tally,
-            rule,
-            &packets[place],
-            messages,
-            most,
-            &mut found,
-        )?;
-    }
-    Ok(found)
-}
-
-/// The first messages that miss a rule, at most as many as that, of all bytes that a reader has left, as their packets
-/// come. A recording that can't be read is refused with its first fault, K1 to K5, N2 or F1 to F3; want of memory and
-/// the reader's failure are the others.
-pub fn first_misses_from<R: Advance + Drop>(
+/// The first messages that miss a rule, in the file's order, at most as many as that, of all bytes that a reader has
+/// left, as their packets come. A recording that can't be read is refused with its first fault, K1 to K5, N2 or F1 to
+/// F3; want of memory and the reader's failure are the others.
+pub fn first_misses<R: Advance + Drop>(
     alloc: Global,
     input: R,
     rule: &Rule,
     most: usize,
 ) -> Result<Vec<Miss>, StreamFault>
     ensures { (file : List ℕ) → R.remaining input ≡ Some file
-        → FoldsPackets (λ ps found. found.items ≡ take most (misses rule.now (reverse (heard_in ps)))) result file }
+        → FoldsPackets (λ ps found. found.items ≡ take most (misses rule.now (reverse (viewed_in ps)))) result file }
 {
     let mut packets = Packets::over(alloc, input)?;
     let mut found = Vec::new(alloc);

@@ -1,119 +1,56 @@
-//! Passes over the messages of a recording: one for all rules, but for many rules of many channels.
-ghost use Rattle.bench_judge.specs.Tallies.{AreTallies, heard_on};
+//! A pass over the messages of a recording, which all rules share.
+ghost use Rattle.bench_judge.specs.Tallies.{AreTallies, viewed_on};
 ghost use Rattle.bench_judge.specs.Verdicts.{AreVerdicts};
-ghost use Rattle.ch11_reader.specs.Contents.{heard_in, Heard};
-ghost use Rattle.judge_rules.specs.declared.rules.Rule.{Rule};
-ghost use Rattle.std.specs.Prelude.{◌≡◌, ◌+◌, ◌<◌, ◌≤◌, ◌^◌, ◌∷◌, ◌++◌, [], List, length, reverse, IfOk, OnOk};
+ghost use Rattle.bench_select.specs.Viewed.{viewed_in, Viewed};
+ghost use Rattle.ch11_layout.specs.Stamps.{kind_of};
+ghost use Rattle.ch11_stream.specs.Folding.{FoldsPackets};
+ghost use Rattle.std.specs.Prelude.{◌≡◌, ◌+◌, ◌<◌, ◌^◌, ◌∷◌, [], ℕ, List, Some, length, reverse, IfOk, OnOk};
 
 use crate::tallies::Tally;
 use crate::verdicts::{RuleVerdict, verdict_of};
-use bench_select::no_channels;
 use ch11_f1::Messages;
-use ch11_layout::View;
-use ch11_reader::Index;
+use ch11_header::Header;
+use ch11_layout::{StampKind, View};
+use ch11_stream::{Advance, Packets, StreamFault};
 use judge_rules::Rule;
 use std::alloc::{AllocError, Global};
 
-/// How many stamps are kept at once at most, one of each channel for each rule.
-const STAMPS: usize = 65536;
-
-/// The verdict of each rule on the messages of a recording, in the order of the rules. All rules share one pass over
-/// the recording, in which it is worked out at most once whether a message is clean; but where there are more rules
-/// than 65,536 by the number of channels, only as many as that share one, so that what is kept does not grow with rules
-/// times channels.
-pub fn judge(
+/// The verdict of each rule on the messages of a recording, in the order of the rules: of all bytes that a reader has
+/// left, as their packets come. All rules share one pass, however many they are, in which it is worked out at most once
+/// whether a message is clean: memory is needed for the largest packet of messages or of time, and for a stamp of each
+/// channel for each rule of a period. A recording that can't be read is refused with its first fault, K1 to K5, N2 or
+/// F1 to F3; want of memory and the reader's failure are the others.
+pub fn judge<R: Advance + Drop>(
     alloc: Global,
-    index: &Index<'_>,
+    input: R,
     rules: &[Rule],
-) -> Result<Vec<RuleVerdict>, AllocError>
-    ensures { IfOk result (λ verdicts. AreVerdicts rules.now (reverse (heard_in index.now)) verdicts.items) }
+) -> Result<Vec<RuleVerdict>, StreamFault>
+    ensures many { IfOk result (λ verdicts. length verdicts.items ≡ length rules.now) }
+    ensures judged { (file : List ℕ) → R.remaining input ≡ Some file
+        → FoldsPackets (λ ps verdicts. AreVerdicts rules.now (reverse (viewed_in ps)) verdicts.items) result file }
 {
-    let most = rules_of_a_pass(alloc, index)?;
-    let mut verdicts = Vec::with_capacity(alloc, rules.len())?;
-    let mut rest = rules;
-    'passes: while !rest.is_empty() {
-        let many = fewer(most, rest.len());
-        let (some, others) = rest.split_at(many);
-        judge_more(alloc, index, some, &mut verdicts)?;
-        rest = others;
-    }
-    Ok(verdicts)
-}
-
-/// The lesser of two numbers that are at least 1.
-fn fewer(most: usize, many: usize) -> usize
-    requires some { 0 < most }
-    requires more { 0 < many }
-    ensures one { 0 < result }
-    ensures few { result ≤ many }
-{
-    if most < many { most } else { many }
-}
-
-/// How many rules are judged in one pass, one at least.
-fn rules_of_a_pass(alloc: Global, index: &Index<'_>) -> Result<usize, AllocError>
-    ensures { IfOk result (λ many. 0 < many) }
-{
-    let channels = channels_in(alloc, index)?;
-    if channels == 0 || STAMPS < channels {
-        return Ok(1);
-    }
-    Ok(STAMPS / channels)
-}
-
-/// How many channels a recording has packets of.
-fn channels_in(alloc: Global, index: &Index<'_>) -> Result<usize, AllocError> {
-    let mut met = no_channels(alloc)?;
-    let mut count = 0usize;
-    for packet in index.packets() {
-        let place = usize::from(packet.header.channel);
-        if place < met.len() && !met[place] {
-            met[place] = true;
-            count = count.saturating_add(1);
+    let mut packets = Packets::over(alloc, input)?;
+    let mut tallies = no_tallies(alloc, rules)?;
+    'packets: for _made in 0..u64::MAX {
+        match packets.next() {
+            Ok(Some(packet)) => note_messages(
+                rules,
+                tallies.as_mut_slice(),
+                &packet.header,
+                packets.messages(),
+            )?,
+            Ok(None) => {
+                let verdicts = verdicts_of(alloc, rules, tallies)?;
+                return Ok(verdicts);
+            }
+            Err(fault) => return Err(fault),
         }
     }
-    Ok(count)
-}
-
-/// Appends the verdicts of these rules to those of others.
-fn judge_more(
-    alloc: Global,
-    index: &Index<'_>,
-    rules: &[Rule],
-    verdicts: &mut Vec<RuleVerdict>,
-) -> Result<(), AllocError>
-    ensures { (done : List Rule) → AreVerdicts done (reverse (heard_in index.now)) verdicts.old.items
-        → OnOk result (AreVerdicts (done ++ rules.now) (reverse (heard_in index.now)) verdicts.new.items) }
-{
-    let mut more = judge_together(alloc, index, rules)?;
-    verdicts.append(&mut more)?;
-    Ok(())
-}
-
-/// The verdicts of rules that share one pass.
-fn judge_together(
-    alloc: Global,
-    index: &Index<'_>,
-    rules: &[Rule],
-) -> Result<Vec<RuleVerdict>, AllocError>
-    ensures { IfOk result (λ verdicts. AreVerdicts rules.now (reverse (heard_in index.now)) verdicts.items) }
-{
-    let mut tallies = no_tallies(alloc, rules)?;
-    let packets = index.packets();
-    'packets: for place in 0..packets.len() {
-        let packet = &packets[place];
-        note_messages(
-            rules,
-            tallies.as_mut_slice(),
-            packet.header.channel,
-            index.messages_in(place),
-        )?;
-    }
-    verdicts_of(alloc, rules, tallies)
+    Err(StreamFault::Device)
 }
 
 /// A tally for each rule, of no messages.
-pub(crate) fn no_tallies(alloc: Global, rules: &[Rule]) -> Result<Vec<Tally>, AllocError>
+fn no_tallies(alloc: Global, rules: &[Rule]) -> Result<Vec<Tally>, AllocError>
     ensures { IfOk result (λ tallies. AreTallies rules.now [] tallies.items) }
 {
     let mut tallies = Vec::with_capacity(alloc, rules.len())?;
@@ -131,7 +68,7 @@ fn note_message(
     view: &View<'_>,
 ) -> Result<(), AllocError>
     requires { length tallies.old ≡ length rules.now }
-    ensures { (history : List Heard) → AreTallies rules.now history tallies.old → length history + 1 < 2 ^ 64
+    ensures { (history : List Viewed) → AreTallies rules.now history tallies.old → length history + 1 < 2 ^ 64
         → OnOk result (AreTallies rules.now ((channel, view.now) ∷ history) tallies.new) }
 {
     let mut known = None;
@@ -141,33 +78,36 @@ fn note_message(
     Ok(())
 }
 
-/// The messages of a packet of this channel.
-pub(crate) fn note_messages(
+/// The messages of a packet with this header.
+fn note_messages(
     rules: &[Rule],
     tallies: &mut [Tally],
-    channel: u16,
+    header: &Header,
     messages: Messages<'_>,
 ) -> Result<(), AllocError>
     requires { length tallies.old ≡ length rules.now }
-    ensures { (history : List Heard) → AreTallies rules.now history tallies.old
+    ensures { (history : List Viewed) → AreTallies rules.now history tallies.old
         → length history + length messages.entry < 2 ^ 64
-        → OnOk result (AreTallies rules.now (heard_on channel messages.entry history) tallies.new) }
+        → OnOk result (AreTallies rules.now
+        (viewed_on (kind_of header.now) header.now.channel messages.entry history) tallies.new) }
 {
+    let channel = header.channel;
+    let kind = StampKind::of(header);
     let mut rest = messages;
     'messages: while let Some(seen) = rest.next() {
-        note_message(rules, tallies, channel, &View::of(&seen))?;
+        note_message(rules, tallies, channel, &View::of(kind, &seen))?;
     }
     Ok(())
 }
 
 /// The verdicts of tallies, one for each rule.
-pub(crate) fn verdicts_of(
+fn verdicts_of(
     alloc: Global,
     rules: &[Rule],
     tallies: Vec<Tally>,
 ) -> Result<Vec<RuleVerdict>, AllocError>
     requires { length tallies.items ≡ length rules.now }
-    ensures { (history : List Heard) → AreTallies rules.now history tallies.items
+    ensures { (history : List Viewed) → AreTallies rules.now history tallies.items
         → IfOk result (λ verdicts. AreVerdicts rules.now history verdicts.items) }
 {
     let mut verdicts = Vec::with_capacity(alloc, tallies.len())?;

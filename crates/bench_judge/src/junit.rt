@@ -2,19 +2,17 @@
 ghost use Rattle.bench_judge.specs.Junit as spec;
 ghost use Rattle.bench_judge.specs.Losses.{lost_text};
 ghost use Rattle.bench_judge.specs.Streaming.{history_of};
-ghost use Rattle.ch11_reader.specs.Contents.{heard_in, Heard};
 ghost use Rattle.std.specs.List.{flat_map};
-ghost use Rattle.std.specs.Prelude.{◌≡◌, ◌++◌, ℕ, List, Some, IfOk, OnOk, reverse};
+ghost use Rattle.std.specs.Prelude.{◌≡◌, ◌++◌, ℕ, List, Some, IfOk, OnOk};
 
 use crate::escaping::put_escaped;
 use crate::losses::Lost;
 use crate::names::Names;
 use crate::numbers::put_number;
 use crate::pass_fault::PassFault;
-use crate::sought::{Anew, Sought, Wanted};
+use crate::sought::{Wanted, find_first};
 use crate::verdicts::{Judged, Miss, RuleVerdict, not_held};
 use bench_watch::Reopen;
-use ch11_reader::Index;
 use judge_rules::Rule;
 use std::alloc::{AllocError, Global};
 
@@ -47,7 +45,10 @@ fn put_miss(text: &mut Vec<u8>, miss: &Miss) -> Result<(), AllocError>
 {
     put_number(text, b"\nmessage ", miss.number)?;
     put_number(text, b" channel ", u64::from(miss.channel))?;
-    put_number(text, b" stamp ", miss.stamp)
+    match miss.stamp {
+        Some(stamp) => put_number(text, b" stamp ", stamp),
+        None => text.extend_from_slice(b" stamp -"),
+    }
 }
 
 /// Appends where the messages are that miss a rule.
@@ -85,36 +86,39 @@ fn put_failure(text: &mut Vec<u8>, verdict: &RuleVerdict, told: &[Miss]) -> Resu
 }
 
 /// The messages that are told of a rule: the first that miss it, if any do.
-fn told_of<S: Sought>(
+fn told_of<S: Reopen>(
     alloc: Global,
     recording: &S,
     rule: &Rule,
     verdict: &RuleVerdict,
 ) -> Result<Vec<Miss>, PassFault>
-    ensures { (history : List Heard) → S.history recording.now ≡ Some history
-        → IfOk result (λ told. told.items ≡ spec.misses_told rule.now verdict.now history) }
+    ensures { (file : List ℕ) → S.bytes recording.now ≡ Some file
+        → IfOk result (λ told. told.items ≡ spec.misses_told rule.now verdict.now (history_of file)) }
 {
     if verdict.missed == 0 {
         return Ok(Vec::new(alloc));
     }
-    recording.first_misses(Wanted {
-        alloc,
-        rule,
-        most: TOLD,
-    })
+    find_first(
+        recording,
+        Wanted {
+            alloc,
+            rule,
+            most: TOLD,
+        },
+    )
 }
 
 /// Appends the end of a test case: that it passes where its rule is held, and else that it fails, with the first
 /// messages that miss the rule.
-fn put_case_end<S: Sought>(
+fn put_case_end<S: Reopen>(
     text: &mut Vec<u8>,
     recording: &S,
     rule: &Rule,
     verdict: &RuleVerdict,
 ) -> Result<(), PassFault>
-    ensures { (history : List Heard) → S.history recording.now ≡ Some history
+    ensures { (file : List ℕ) → S.bytes recording.now ≡ Some file
         → OnOk result (text.new.items
-        ≡ text.old.items ++ spec.case_end verdict.now (spec.misses_told rule.now verdict.now history)) }
+        ≡ text.old.items ++ spec.case_end verdict.now (spec.misses_told rule.now verdict.now (history_of file))) }
 {
     if verdict.held {
         return Ok(text.extend_from_slice(b"\"/>\n")?);
@@ -124,30 +128,30 @@ fn put_case_end<S: Sought>(
 }
 
 /// Appends the test case of a rule, named by its text.
-fn put_case<S: Sought>(
+fn put_case<S: Reopen>(
     text: &mut Vec<u8>,
     recording: &S,
     name: &[u8],
     rule: &Rule,
     verdict: &RuleVerdict,
 ) -> Result<(), PassFault>
-    ensures { (history : List Heard) → S.history recording.now ≡ Some history
+    ensures { (file : List ℕ) → S.bytes recording.now ≡ Some file
         → OnOk result (text.new.items ≡ text.old.items ++ (spec.case_head verdict.now name.now
-        ++ spec.case_end verdict.now (spec.misses_told rule.now verdict.now history))) }
+        ++ spec.case_end verdict.now (spec.misses_told rule.now verdict.now (history_of file)))) }
 {
     put_case_head(text, name, verdict)?;
     put_case_end(text, recording, rule, verdict)
 }
 
 /// Appends the test case of each rule.
-fn put_cases<S: Sought>(
+fn put_cases<S: Reopen>(
     text: &mut Vec<u8>,
     recording: &S,
     judged: Judged<'_>,
 ) -> Result<(), PassFault>
-    ensures { (history : List Heard) → S.history recording.now ≡ Some history
+    ensures { (file : List ℕ) → S.bytes recording.now ≡ Some file
         → OnOk result (text.new.items ≡ text.old.items
-        ++ spec.cases judged.entry.text.now judged.entry.rules.now judged.entry.verdicts.now history) }
+        ++ spec.cases judged.entry.text.now judged.entry.rules.now judged.entry.verdicts.now (history_of file)) }
 {
     let mut names = Names::of(judged.text);
     let mut rules = judged.rules;
@@ -205,15 +209,15 @@ fn put_suite_head(text: &mut Vec<u8>, verdicts: &[RuleVerdict]) -> Result<(), Al
 }
 
 /// The JUnit file.
-fn report_of<S: Sought>(
+fn report_of<S: Reopen>(
     alloc: Global,
     recording: &S,
     judged: Judged<'_>,
     lost: Lost,
 ) -> Result<Vec<u8>, PassFault>
-    ensures { (history : List Heard) → S.history recording.now ≡ Some history
+    ensures { (file : List ℕ) → S.bytes recording.now ≡ Some file
         → IfOk result (λ made. made.items
-        ≡ spec.junit judged.entry.text.now judged.entry.rules.now judged.entry.verdicts.now lost history) }
+        ≡ spec.junit judged.entry.text.now judged.entry.rules.now judged.entry.verdicts.now lost (history_of file)) }
 {
     let mut text = Vec::new(alloc);
     put_suite_head(&mut text, judged.verdicts)?;
@@ -225,26 +229,9 @@ fn report_of<S: Sought>(
 
 /// A JUnit file of the verdicts on these rules, which a text spells: a test case a rule, in their order, named by the
 /// line of the rule, which passes where the rule is held. Of a rule that is not held it has up to 100 of the messages
-/// that miss it, which are looked for in the recording; where messages are missing from this it has a property that
-/// says so. A fault is want of memory.
-pub fn junit_text(
-    alloc: Global,
-    index: &Index<'_>,
-    rules_text: &[u8],
-    rules: &[Rule],
-    verdicts: &[RuleVerdict],
-    lost: Lost,
-) -> Result<Vec<u8>, PassFault>
-    ensures { IfOk result (λ made. made.items
-        ≡ spec.junit rules_text.now rules.now verdicts.now lost (reverse (heard_in index.now))) }
-{
-    let judged = Judged::of(rules_text, rules, verdicts);
-    report_of(alloc, index, judged, lost)
-}
-
-/// The same file, of a recording that is read anew for each rule that messages miss. A fault may also be the
-/// recording's.
-pub fn junit_text_from<S: Reopen>(
+/// that miss it, for which the recording is read anew; where messages are missing from this it has a property that says
+/// so. A fault is want of memory or the recording's.
+pub fn junit_text<S: Reopen>(
     alloc: Global,
     recording: &S,
     rules_text: &[u8],
@@ -256,5 +243,5 @@ pub fn junit_text_from<S: Reopen>(
         ≡ spec.junit rules_text.now rules.now verdicts.now lost (history_of file)) }
 {
     let judged = Judged::of(rules_text, rules, verdicts);
-    report_of(alloc, &Anew { recording }, judged, lost)
+    report_of(alloc, recording, judged, lost)
 }

@@ -1,9 +1,9 @@
 //! The command `bench judge`: which messages of a recording a rule selects, which of them miss it, and whether it
-//! is held, also where the recording is read anew for each pass and never kept.
+//! is held, in passes over the recording.
 //!
 //! It may know: headers, words, mode codes, messages, bodies, layouts, the reader, the packets of a stream, watched
-//! files, rules, selections, the dump, decoded messages, places, words of a text. Its tests: `command_tests`, and of
-//! packets as they come `ch11_stream_tests`. Its wrong bodies: `edits/`.
+//! files, rules, selections, the dump, decoded messages, names of channels, words of a text. Its tests:
+//! `command_tests`, `ch11_stream_tests`. Its wrong bodies: `edits/`.
 #![tactic(auto)]
 
 mod characters;
@@ -25,19 +25,16 @@ mod replies;
 mod selection;
 mod shown;
 mod sought;
-mod streaming;
 mod tallies;
 mod verdicts;
 
-pub use colored::{write_colored, write_colored_from};
+pub use colored::write_colored;
 pub use fault::PrintFault;
-pub use first::first_misses_from;
+pub use first::first_misses;
 pub use judging::judge;
-pub use junit::{junit_text, junit_text_from};
-pub use lines::write_verdicts;
-pub use losses::{Lost, lost_from};
+pub use junit::junit_text;
+pub use losses::{Lost, count_lost};
 pub use pass_fault::PassFault;
-pub use passes::{write_misses_from, write_verdicts_from};
+pub use passes::{write_misses, write_verdicts};
 pub use selection::selects;
-pub use streaming::judge_from;
 pub use verdicts::{Miss, RuleVerdict, not_held};

@@ -1,7 +1,11 @@
 //! What packets of messages say of messages that are missing from a recording.
 ghost use Rattle.bench_judge.specs.Losses as spec;
-ghost use Rattle.std.specs.List.{filter};
-ghost use Rattle.std.specs.Prelude.{◌≡◌, Some, length};
+ghost use Rattle.ch11_reader.specs.Contents.{capped};
+ghost use Rattle.ch11_reader.specs.Listing.{listing};
+ghost use Rattle.ch11_reader.specs.declared.packet.Packet.{Packet as PacketValue};
+ghost use Rattle.ch11_stream.specs.Folding.{FoldsPackets};
+ghost use Rattle.std.specs.Prelude.{if◌then◌else◌};
+ghost use Rattle.std.specs.Prelude.{◌≡◌, ◌+◌, ◌-◌, ◌<◌, ◌^◌, ◌++◌, ◌∷◌, [], ℕ, List, Some, length};
 
 use ch11_header::kinds::BUS_MESSAGES;
 use ch11_reader::Packet;
@@ -32,28 +36,14 @@ fn jumps(packet: &Packet) -> bool
     packet.header.kind == BUS_MESSAGES && packet.sequence_jump
 }
 
-/// How many packets are of messages with the overflow flag.
-fn overflow_count(packets: &[Packet]) -> usize
-    ensures { result ≡ length (filter spec.overflows packets.now) }
-{
-    packets.iter().filter(|packet| overflows(packet)).count()
-}
-
-/// How many packets are of messages whose sequence number does not follow.
-fn jump_count(packets: &[Packet]) -> usize
-    ensures { result ≡ length (filter spec.jumps packets.now) }
-{
-    packets.iter().filter(|packet| jumps(packet)).count()
-}
-
 impl Lost {
-    /// What these packets say.
-    pub fn of(packets: &[Packet]) -> Lost
-        ensures { result ≡ spec.lost_of packets.now }
+    /// What no packets say.
+    fn none() -> Lost
+        ensures { result ≡ spec.lost_of [] }
     {
         Lost {
-            overflows: overflow_count(packets),
-            jumps: jump_count(packets),
+            overflows: 0,
+            jumps: 0,
         }
     }
 
@@ -64,14 +54,24 @@ impl Lost {
         self.overflows > 0 || self.jumps > 0
     }
 
-    /// One more packet.
-    fn note(&mut self, packet: &Packet) {
-        if overflows(packet) {
-            self.overflows = self.overflows.saturating_add(1);
-        }
-        if jumps(packet) {
-            self.jumps = self.jumps.saturating_add(1);
-        }
+    /// One more packet, behind fewer than 2^64 - 1.
+    fn note(&mut self, packet: &Packet)
+        ensures { (packets : List PacketValue) → length packets < 2 ^ 64 - 1 → self.old ≡ spec.lost_of packets
+            → self.new ≡ spec.lost_of (packets ++ packet.now ∷ []) }
+    {
+        self.overflows = one_more(self.overflows, overflows(packet));
+        self.jumps = one_more(self.jumps, jumps(packet));
+    }
+}
+
+/// One packet more where it holds, at most 2^64 - 1.
+fn one_more(count: usize, holds: bool) -> usize
+    ensures { result ≡ capped (count + (if holds then 1 else 0)) }
+{
+    if holds {
+        count.saturating_add(1)
+    } else {
+        count
     }
 }
 
@@ -89,12 +89,15 @@ impl Display for Lost {
     }
 }
 
-/// What the packets say of all bytes that a reader has left, as they come. A recording that can't be read is refused
-/// with its first fault; want of memory and the reader's failure are the others.
-pub fn lost_from<R: Advance + Drop>(alloc: Global, input: R) -> Result<Lost, StreamFault> {
+/// What the packets of messages say of all bytes that a reader has left, as they come. A recording that can't be read
+/// is refused with its first fault, K1 to K5, N2 or F1 to F3; want of memory and the reader's failure are the others.
+pub fn count_lost<R: Advance + Drop>(alloc: Global, input: R) -> Result<Lost, StreamFault>
+    ensures { (file : List ℕ) → R.remaining input ≡ Some file
+        → FoldsPackets (λ ps lost. lost ≡ spec.lost_of (listing ps)) result file }
+{
     let mut packets = Packets::over(alloc, input)?;
-    let mut lost = Lost::default();
-    'packets: for _made in 0..u64::MAX {
+    let mut lost = Lost::none();
+    'packets: for made in 0..u64::MAX {
         match packets.next() {
             Ok(Some(packet)) => lost.note(&packet),
             Ok(None) => return Ok(lost),

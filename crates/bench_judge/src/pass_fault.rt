@@ -1,4 +1,4 @@
-//! Why what is said of a recording was not said to its end.
+//! Faults of passes over a recording of which something is said.
 ghost use Rattle.bench_judge.specs.declared.fault.PrintFault.TheVariants.{Device};
 ghost use Rattle.bench_judge.specs.declared.pass_fault.PassFault.TheVariants.{Printing, Recording};
 ghost use Rattle.ch11_stream.specs.declared.fault.StreamFault.TheVariants.{Memory};
@@ -9,8 +9,7 @@ use ch11_stream::StreamFault;
 use std::alloc::AllocError;
 use std::io;
 
-/// Why what is said of a recording that is read packet by packet was not said to its end. Of one in memory want of
-/// memory and `Printing` are all.
+/// Why what is said of a recording was not said to its end.
 #[derive(Debug, Drop)]
 pub enum PassFault {
     /// A reader of the recording could not be had for one more pass.

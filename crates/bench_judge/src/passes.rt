@@ -1,4 +1,4 @@
-//! Verdicts as plain lines, of a recording that is read anew for each pass and never kept.
+//! Verdicts as plain lines, of a recording that is read anew for each pass.
 ghost use Rattle.bench_judge.specs.Lines.{rules_lines, verdict_lines, verdict_text};
 ghost use Rattle.bench_judge.specs.Streaming.{WritesLinesOf, history_of};
 ghost use Rattle.bench_judge.specs.Tallies.{miss_lines};
@@ -9,9 +9,9 @@ ghost use Rattle.ch11_reader.specs.Recording.{packets_in};
 ghost use Rattle.ch11_reader.specs.declared.error.Refusal.{Refusal};
 ghost use Rattle.std.specs.Prelude.{◌≡◌, ℕ, List, Some, Ok, Err, length, IfOk};
 
+use crate::judging::judge;
 use crate::lines::{write_count, write_last, write_messages, write_numbers};
 use crate::pass_fault::PassFault;
-use crate::streaming::judge_from;
 use crate::tallies::Tally;
 use crate::verdicts::RuleVerdict;
 use bench_watch::Reopen;
@@ -23,7 +23,7 @@ use std::io::Write;
 /// Writes the messages that miss a rule, each as a line, of all bytes that a reader has left, as their packets come. A
 /// recording that can't be read is refused with its first fault, K1 to K5, N2 or F1 to F3, and then the writer may have
 /// got lines of packets in front of it; want of memory and failures of the reader and the writer are the others.
-pub fn write_misses_from<R: Advance + Drop, W: Write>(
+pub fn write_misses<R: Advance + Drop, W: Write>(
     alloc: Global,
     input: R,
     rule: &Rule,
@@ -47,7 +47,7 @@ pub fn write_misses_from<R: Advance + Drop, W: Write>(
 }
 
 /// Writes the messages that miss a rule, of which there are so many: in a pass of its own, where there are any.
-fn write_missed_from<S: Reopen, W: Write>(
+fn write_missed<S: Reopen, W: Write>(
     alloc: Global,
     recording: &S,
     rule: &Rule,
@@ -62,13 +62,13 @@ fn write_missed_from<S: Reopen, W: Write>(
         return Ok(());
     }
     match recording.reopen() {
-        Ok(input) => write_misses_from(alloc, input, rule, out),
+        Ok(input) => write_misses(alloc, input, rule, out),
         Err(error) => Err(PassFault::Opening(error)),
     }
 }
 
 /// Writes the lines of a rule, of which this is the verdict.
-fn write_rule_from<S: Reopen, W: Write>(
+fn write_rule<S: Reopen, W: Write>(
     alloc: Global,
     recording: &S,
     rule: &Rule,
@@ -82,12 +82,12 @@ fn write_rule_from<S: Reopen, W: Write>(
     if verdict.miscounted {
         return Ok(write_count(out, verdict)?);
     }
-    write_missed_from(alloc, recording, rule, verdict.missed, out)?;
+    write_missed(alloc, recording, rule, verdict.missed, out)?;
     Ok(write_numbers(out, verdict)?)
 }
 
 /// Writes the lines of all rules, of which these are the verdicts.
-fn write_rules_from<S: Reopen, W: Write>(
+fn write_rules<S: Reopen, W: Write>(
     alloc: Global,
     recording: &S,
     rules: &[Rule],
@@ -100,17 +100,19 @@ fn write_rules_from<S: Reopen, W: Write>(
         → WritesLinesOf (rules_lines rules.now) result file (W.contents out.old) (W.contents out.new) }
 {
     'rules: for place in 0..rules.len() {
-        write_rule_from(alloc, recording, &rules[place], &verdicts[place], out)?;
+        write_rule(alloc, recording, &rules[place], &verdicts[place], out)?;
     }
     Ok(())
 }
 
-/// Judges a recording by rules and writes the verdicts as `write_verdicts` does, in memory for the largest packet of
-/// messages, the rules and, where one asks for a period, the channels. In a first pass all rules are judged, and
-/// nothing is written of a recording that is refused; each rule that messages miss takes one more pass, which writes
-/// these. Where the recording changed between the passes, the writer may have got lines in front of a fault of it, and
-/// what a rule's last line counts is what the first pass found.
-pub fn write_verdicts_from<S: Reopen, W: Write>(
+/// Judges a recording by rules and writes the verdicts as plain lines, rule by rule: a line for each message that
+/// misses the rule, or one for a count that is not met, and a line with its numbers; last how many rules there are and
+/// how many of them are not held. It takes memory for the largest packet of messages or of time, the rules and, where
+/// one asks for a period, the channels. In a first pass all rules are judged, and nothing is written of a recording
+/// that is refused; each rule that messages miss takes one more pass, which writes these. Where the recording changed
+/// between the passes, the writer may have got lines in front of a fault of it, and what a rule's last line counts is
+/// what the first pass found.
+pub fn write_verdicts<S: Reopen, W: Write>(
     alloc: Global,
     recording: &S,
     rules: &[Rule],
@@ -124,10 +126,10 @@ pub fn write_verdicts_from<S: Reopen, W: Write>(
         → out.new ≡ out.old }
 {
     let verdicts = match recording.reopen() {
-        Ok(input) => judge_from(alloc, input, rules)?,
+        Ok(input) => judge(alloc, input, rules)?,
         Err(error) => return Err(PassFault::Opening(error)),
     };
-    write_rules_from(alloc, recording, rules, verdicts.as_slice(), out)?;
+    write_rules(alloc, recording, rules, verdicts.as_slice(), out)?;
     write_last(out, verdicts.as_slice())?;
     out.flush()?;
     Ok(verdicts)

@@ -3,7 +3,7 @@ ghost use Rattle.bench_judge.specs.Checks.{meets as spec_meets};
 ghost use Rattle.bench_judge.specs.Clean.{IsKnown};
 ghost use Rattle.bench_judge.specs.Selection.{selects as selects_message};
 ghost use Rattle.bench_judge.specs.Tallies.{IsLatest, IsMissIf, IsTally, miss_at, misses_next};
-ghost use Rattle.ch11_reader.specs.Contents.{Heard};
+ghost use Rattle.bench_select.specs.Viewed.{Viewed};
 ghost use Rattle.bench_judge.specs.Verdicts.{latest_stamp};
 ghost use Rattle.std.specs.Prelude.{◌≡◌, ◌+◌, ◌∷◌, ◌<◌, ◌≤◌, ◌^◌, [], true, List, length, OnOk, IfOk};
 
@@ -49,17 +49,17 @@ impl Tally {
         ensures known { IsKnown known.new view.now }
         ensures selected { self.new.selected ≡ self.old.selected }
         ensures missed { self.new.missed ≡ self.old.missed }
-        ensures met { (rule : Rule) → (history : List Heard) → rule.check ≡ check.now → IsLatest rule history self.old
+        ensures met { (rule : Rule) → (history : List Viewed) → rule.check ≡ check.now → IsLatest rule history self.old
             → IfOk result (λ met. met
             ≡ spec_meets check.now (latest_stamp rule channel history) view.now) }
-        ensures latest { (rule : Rule) → (history : List Heard) → rule.check ≡ check.now
+        ensures latest { (rule : Rule) → (history : List Viewed) → rule.check ≡ check.now
             → selects_message rule channel view.now ≡ true → IsLatest rule history self.old
             → OnOk result (IsLatest rule ((channel, view.now) ∷ history) self.new) }
     {
         match period_of(check) {
             Some(bounds) => {
                 let before = self.latest.insert(channel, view.stamp())?;
-                Ok(follows_in(&bounds, before, view.stamp()))
+                Ok(view.has_time() && follows_in(&bounds, before, view.stamp()))
             }
             None => Ok(meets(check, None, view, known)),
         }
@@ -75,9 +75,9 @@ impl Tally {
     ) -> Result<bool, AllocError>
         requires { IsKnown known.old view.now }
         ensures known { IsKnown known.new view.now }
-        ensures told { (history : List Heard) → IsTally rule.now history self.old
+        ensures told { (history : List Viewed) → IsTally rule.now history self.old
             → IfOk result (λ told. told ≡ misses_next rule.now history (channel, view.now)) }
-        ensures noted { (history : List Heard) → IsTally rule.now history self.old → length history + 1 < 2 ^ 64
+        ensures noted { (history : List Viewed) → IsTally rule.now history self.old → length history + 1 < 2 ^ 64
             → OnOk result (IsTally rule.now ((channel, view.now) ∷ history) self.new) }
     {
         if !selects(rule, channel, view) {
@@ -100,14 +100,14 @@ impl Tally {
         channel: u16,
         view: &View<'_>,
     ) -> Result<Option<Miss>, AllocError>
-        ensures told { (history : List Heard) → IsTally rule.now history self.old
+        ensures told { (history : List Viewed) → IsTally rule.now history self.old
             → IfOk result (IsMissIf (misses_next rule.now history (channel, view.now))
             (miss_at number (channel, view.now))) }
-        ensures noted { (history : List Heard) → IsTally rule.now history self.old → length history + 1 < 2 ^ 64
+        ensures noted { (history : List Viewed) → IsTally rule.now history self.old → length history + 1 < 2 ^ 64
             → OnOk result (IsTally rule.now ((channel, view.now) ∷ history) self.new) }
     {
         let mut known = None;
-        let stamp = view.stamp();
+        let stamp = view.time();
         if self.note(rule, channel, view, &mut known)? {
             return Ok(Some(Miss {
                 number,

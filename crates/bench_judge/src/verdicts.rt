@@ -12,8 +12,8 @@ pub struct Miss {
     pub number: u64,
     /// Its channel.
     pub channel: u16,
-    /// Its stamp: ticks of 0.1 µs.
-    pub stamp: u64,
+    /// When it began: ticks of 0.1 µs; None where that is not known.
+    pub stamp: Option<u64>,
 }
 
 /// What became of a rule: how many messages it selects, and how many of them miss it.

@@ -16,7 +16,7 @@ use Rattle.mil_message.specs.Rules.{IsLawful}
 use Rattle.mil_message.proofs.Checked.{checked-request_for}
 use Rattle.mil_message.proofs.ReadBack.{read_back}
 use Rattle.mil_terminal.specs.Verdicts.{is_unknown}
-use Rattle.ch11_f1.specs.BodyReading.{Message}
+use Rattle.ch11_layout.specs.Stamps.{Recorded}
 use Rattle.ch11_layout.specs.Layouts.{size_of, commands_in, is_between, first_gap, second_gap, last_gap, has_front, has_back, data_start, first_word, word_of}
 use Rattle.ch11_layout.specs.Replies.{has_two, statuses, data_count, data_words, gaps}
 use Rattle.bench_judge.specs.Clean.{has_no_error, may_be_sent, form_number_of, controller_sends, parts_in, form_with, has_parts, data_fit, replies_fit, is_sent_as, clean}
@@ -52,7 +52,7 @@ one-command form number first second two words ds n t f w alone sends =
     n f (ap (λ b. if b then second else 0) t ∙ sym (ap (λ o. unwrap_or o 0) alone))
     (ap (λ k. if controller_sends k then words else []) n ∙ ap (λ (ws : List ℕ). if controller_sends (form_number form) then ws else []) w ∙ sends)
 
-pub record Fits (m : Message) (form : Form) (c : ℕ) (fs ds bs : List ℕ) : Type 0 where
+pub record Fits (m : Recorded) (form : Form) (c : ℕ) (fs ds bs : List ℕ) : Type 0 where
   pub laid : IsLaidOut m (c ∷ []) fs ds bs
   pub lawful : IsLawful form
   pub sound : has_no_error m.block ≡ true
@@ -64,7 +64,7 @@ pub record Fits (m : Message) (form : Form) (c : ℕ) (fs ds bs : List ℕ) : Ty
   pub few : length ds ≤ 32
   pub fit : (data_fit form (length ds) (fs ++ bs) && replies_fit (replies_due form) (fs ++ bs) (gaps m)) ≡ true
 
-pub is-clean : (m : Message) (form : Form) (c : ℕ) (fs ds bs : List ℕ) → Fits m form c fs ds bs → clean m ≡ true
+pub is-clean : (m : Recorded) (form : Form) (c : ℕ) (fs ds bs : List ℕ) → Fits m form c fs ds bs → clean m ≡ true
 unfolding clean
 is-clean m form c fs ds bs f =
     let many = count m (c ∷ []) fs ds bs f.laid in
@@ -110,13 +110,13 @@ one-of n k b is alone =
     let some : (n == 0) ≡ false = grind (arith, nat_tests) in
     rw (some, alone) refl
 
-pub size-is : (m : Message) (ws : List ℕ) → m.bytes ≡ flat_map (little_bytes 2) ws → size_of m ≡ length ws
+pub size-is : (m : Recorded) (ws : List ℕ) → m.bytes ≡ flat_map (little_bytes 2) ws → size_of m ≡ length ws
 size-is m ws is = ap (λ (bytes : List ℕ). length bytes / 2) is ∙ half (length (flat_map (little_bytes 2) ws)) (length ws) (bytes-long ws)
   where
     half : (n k : ℕ) → n ≡ 2 * k → n / 2 ≡ k
     half n k e = omega (arith, e)
 
-module _ (m : Message) (c : ℕ) (rest : List ℕ) (bytes : m.bytes ≡ flat_map (little_bytes 2) (c ∷ rest)) (alone : has_bit 11 m.block ≡ false) where
+module _ (m : Recorded) (c : ℕ) (rest : List ℕ) (bytes : m.bytes ≡ flat_map (little_bytes 2) (c ∷ rest)) (alone : has_bit 11 m.block ≡ false) where
   pub commands-one : commands_in m ≡ 1
   commands-one = one-of (size_of m) (length rest) (is_between m) (size-is m (c ∷ rest) bytes) alone
 

@@ -7,7 +7,7 @@ use Rattle.std.proofs.lemmas.List.{same_lists, get_or_append_left}
 use Rattle.std.proofs.lemmas.List.FromFn.{get_or-map-range_with_len, length-map-range_with_len}
 use Rattle.std.proofs.lemmas.Grind.{get_or_default_zero}
 use Rattle.byteorder.specs.Endian.{little_bytes}
-use Rattle.ch11_f1.specs.BodyReading.{Message}
+use Rattle.ch11_layout.specs.Stamps.{Recorded}
 use Rattle.ch11_layout.specs.declared.layouts.Layout.{Layout}
 use Rattle.ch11_layout.specs.Layouts.{size_of, word_of, commands_in, has_front, has_back, data_start, data_end, layout_of}
 use Rattle.ch11_layout.specs.Replies.{statuses_by, statuses, data_count, data_words}
@@ -22,7 +22,7 @@ abbrev pub all : List ℕ → List ℕ → List ℕ → List ℕ → List ℕ
 all cs fs ds bs = cs ++ (fs ++ (ds ++ bs))
 
 -- its words are commands, perhaps a status word, data words, and perhaps a status word
-pub record IsLaidOut (m : Message) (cs fs ds bs : List ℕ) : Type 0 where
+pub record IsLaidOut (m : Recorded) (cs fs ds bs : List ℕ) : Type 0 where
   pub bytes : m.bytes ≡ flat_map (little_bytes 2) (all cs fs ds bs)
   pub small : AreSmall (all cs fs ds bs)
   pub commands : commands_in m ≡ length cs
@@ -48,7 +48,7 @@ behind [] ys k j is = ap (λ i. get_or ys i 0) (omega (arith, is))
 behind (x ∷ xs) ys zero j is = absurd (omega (arith, is))
 behind (x ∷ xs) ys (suc k) j is = behind xs ys k j (omega (arith, is))
 
-module _ (m : Message) (cs fs ds bs : List ℕ) (laid : IsLaidOut m cs fs ds bs) where
+module _ (m : Recorded) (cs fs ds bs : List ℕ) (laid : IsLaidOut m cs fs ds bs) where
   pub size : size_of m ≡ length cs + length fs + length ds + length bs
   size =
       ap (λ (bytes : List ℕ). length bytes / 2) laid.bytes

@@ -29,7 +29,7 @@ use Rattle.mil_bus.specs.BlockStatus.{block_of, is_line_b}
 use Rattle.mil_bus.specs.Exchange.{contiguous_run}
 use Rattle.mil_monitor.specs.Observed.{gap_half, observed}
 use Rattle.ch11_f1.specs.Again.{as_message}
-use Rattle.ch11_f1.specs.BodyReading.{Message}
+use Rattle.ch11_layout.specs.Stamps.{Recorded, counted}
 use Rattle.ch11_layout.specs.Layouts.{first_word, first_gap, has_front, word_of}
 use Rattle.ch11_layout.specs.Replies.{gaps}
 use Rattle.bench_judge.specs.Clean.{has_no_error, form_number_of, controller_sends, words_due, sends_no_data, data_fit, status_fits, is_in_time, replies_fit, clean}
@@ -84,9 +84,9 @@ fit-alone form n times none many is =
 
 pub alone-clean : (start : ℕ) (line : Line) (form : Form) (g c : ℕ) (values : List ℕ) (sent : List Sent) → IsSingle form c values → length values ≤ 32
     → (if controller_sends (form_number form) then values else []) ≡ values → replies_due form ≡ []
-    → sent ≡ contiguous_run 0 Controller g (command_wave c ∷ map data_wave values) → clean (as_message (observed (talk start line form sent))) ≡ true
+    → sent ≡ contiguous_run 0 Controller g (command_wave c ∷ map data_wave values) → clean (counted (as_message (observed (talk start line form sent)))) ≡ true
 alone-clean start line form g c values sent f few sends none is =
-    let m : Message = as_message (observed (talk start line form sent)) in
+    let m : Recorded = counted (as_message (observed (talk start line form sent))) in
     let seen : seen_of form sent ≡ nothing_wrong (1 + length values) None None =
     ap (λ k. counts_of k (length (replies_due form)) sent) (commands-of form f.alone) ∙ ap (λ (d : List Due). counts_of 1 (length d) sent) none ∙ ap (counts_of 1 0) is
     ∙ counts-controller 0 g c values (omega arith) f.small f.words in
@@ -158,8 +158,8 @@ pub record IsOne (start : ℕ) (line : Line) (form : Form) (g c : ℕ) (values :
   pub is_sent : sent ≡ contiguous_run 0 Controller g (command_wave c ∷ map data_wave values) ++ contiguous_run 1 (Terminal due.address) gap (command_wave status ∷ map data_wave back)
 
 module _ (start : ℕ) (line : Line) (form : Form) (g c : ℕ) (values : List ℕ) (due : Due) (gap status : ℕ) (back : List ℕ) (sent : List Sent) (is : IsOne start line form g c values due gap status back sent) where
-  abbrev m : Message
-  m = as_message (observed (talk start line form sent))
+  abbrev m : Recorded
+  m = counted (as_message (observed (talk start line form sent)))
 
   f : IsSingle form c values
   f = is.single

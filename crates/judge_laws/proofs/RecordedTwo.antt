@@ -27,7 +27,7 @@ use Rattle.mil_bus.specs.BlockStatus.{first_due, second_due, is_late, is_miscoun
 use Rattle.mil_bus.specs.Exchange.{contiguous_run}
 use Rattle.mil_monitor.specs.Observed.{gap_half, observed}
 use Rattle.ch11_f1.specs.Again.{as_message}
-use Rattle.ch11_f1.specs.BodyReading.{Message}
+use Rattle.ch11_layout.specs.Stamps.{Recorded, counted}
 use Rattle.ch11_layout.specs.Layouts.{first_gap, second_gap}
 use Rattle.ch11_layout.specs.Replies.{gaps}
 use Rattle.bench_judge.specs.Clean.{has_no_error, form_number_of, controller_sends, words_due, sends_no_data, data_fit, status_fits, is_in_time, replies_fit, clean}
@@ -76,9 +76,9 @@ fit-two form n t1 s1 t2 s2 vs ws times d1 d2 dues many is one two =
 pub transfer-clean : (start : ℕ) (line : Line) (form : Form) (g c1 c2 : ℕ) (d1 d2 : Due) (t1 s1 t2 s2 : ℕ) (vs : List ℕ) (sent : List Sent) → IsDouble form c1 c2 → replies_due form ≡ d1 ∷ d2 ∷ []
     → IsDueReply d1 t1 s1 vs → IsDueReply d2 t2 s2 [] → d1.words ≤ 32
     → sent ≡ (contiguous_run 0 Controller g (command_wave c1 ∷ command_wave c2 ∷ []) ++ contiguous_run 1 (Terminal d1.address) t1 (command_wave s1 ∷ map data_wave vs)) ++ contiguous_run 2 (Terminal d2.address) t2 (command_wave s2 ∷ [])
-    → clean (as_message (observed (talk start line form sent))) ≡ true
+    → clean (counted (as_message (observed (talk start line form sent)))) ≡ true
 transfer-clean start line form g c1 c2 d1 d2 t1 s1 t2 s2 vs sent f dues one two few is =
-    let m : Message = as_message (observed (talk start line form sent)) in
+    let m : Recorded = counted (as_message (observed (talk start line form sent))) in
     let w0 = contiguous_run 0 Controller g (command_wave c1 ∷ command_wave c2 ∷ []) in
     let w1 = contiguous_run 1 (Terminal d1.address) t1 (command_wave s1 ∷ map data_wave vs) in
     let w2 = contiguous_run 2 (Terminal d2.address) t2 (command_wave s2 ∷ []) in
@@ -146,9 +146,9 @@ transfer-clean start line form g c1 c2 d1 d2 t1 s1 t2 s2 vs sent f dues one two 
 pub all-transfer-clean : (start : ℕ) (line : Line) (form : Form) (g c1 c2 : ℕ) (d1 : Due) (t1 s1 : ℕ) (vs : List ℕ) (sent : List Sent) → IsDouble form c1 c2 → replies_due form ≡ d1 ∷ []
     → IsDueReply d1 t1 s1 vs → d1.words ≤ 32
     → sent ≡ contiguous_run 0 Controller g (command_wave c1 ∷ command_wave c2 ∷ []) ++ contiguous_run 1 (Terminal d1.address) t1 (command_wave s1 ∷ map data_wave vs)
-    → clean (as_message (observed (talk start line form sent))) ≡ true
+    → clean (counted (as_message (observed (talk start line form sent)))) ≡ true
 all-transfer-clean start line form g c1 c2 d1 t1 s1 vs sent f dues one few is =
-    let m : Message = as_message (observed (talk start line form sent)) in
+    let m : Recorded = counted (as_message (observed (talk start line form sent))) in
     let w0 = contiguous_run 0 Controller g (command_wave c1 ∷ command_wave c2 ∷ []) in
     let w1 = contiguous_run 1 (Terminal d1.address) t1 (command_wave s1 ∷ map data_wave vs) in
     let seen : seen_of form sent ≡ nothing_wrong 2 (Some (came t1 s1 vs)) None =

@@ -24,7 +24,7 @@ use Rattle.mil_bus.specs.Lengthened.{goes_on, lengthened}
 use Rattle.mil_bus.specs.BlockStatus.{first_due, second_due, is_late, is_miscounted, has_other_address, bit_if, is_line_b, is_transfer, has_response_time_out, has_word_count_error, has_error, block_of}
 use Rattle.mil_bus.specs.Exchange.{contiguous_run}
 use Rattle.mil_bus.proofs.Passes.{and_false, counts_of-push}
-use Rattle.ch11_f1.specs.BodyReading.{Message}
+use Rattle.ch11_layout.specs.Stamps.{Recorded}
 use Rattle.ch11_layout.specs.Layouts.{size_of, commands_in, is_between, first_gap, second_gap, last_gap, first_word, has_front, has_back, data_start, word_of}
 use Rattle.ch11_layout.specs.Replies.{has_two, statuses, data_count, data_words, gaps}
 use Rattle.bench_judge.specs.Clean.{has_no_error, may_be_sent, form_number_of, controller_sends, parts_in, form_with, data_fit, replies_fit, is_sent_as, clean}
@@ -143,7 +143,7 @@ two-commands form number first second c2 two words n t f s alone sends none =
     n f (ap (λ b. if b then second else 0) t ∙ s ∙ sym (ap (λ o. unwrap_or o 0) alone))
     (ap (λ k. if controller_sends k then words else []) n ∙ ap (λ b. if b then words else []) sends ∙ sym none)
 
-pub record FitsTwo (m : Message) (form : Form) (c1 c2 : ℕ) (fs ds bs : List ℕ) : Type 0 where
+pub record FitsTwo (m : Recorded) (form : Form) (c1 c2 : ℕ) (fs ds bs : List ℕ) : Type 0 where
   pub laid : IsLaidOut m (c1 ∷ c2 ∷ []) fs ds bs
   pub lawful : IsLawful form
   pub sound : has_no_error m.block ≡ true
@@ -156,7 +156,7 @@ pub record FitsTwo (m : Message) (form : Form) (c1 c2 : ℕ) (fs ds bs : List �
   pub few : length ds ≤ 32
   pub fit : (data_fit form (length ds) (fs ++ bs) && replies_fit (replies_due form) (fs ++ bs) (gaps m)) ≡ true
 
-pub two-clean : (m : Message) (form : Form) (c1 c2 : ℕ) (fs ds bs : List ℕ) → FitsTwo m form c1 c2 fs ds bs → clean m ≡ true
+pub two-clean : (m : Recorded) (form : Form) (c1 c2 : ℕ) (fs ds bs : List ℕ) → FitsTwo m form c1 c2 fs ds bs → clean m ≡ true
 unfolding clean
 two-clean m form c1 c2 fs ds bs f =
     let many = count m (c1 ∷ c2 ∷ []) fs ds bs f.laid in
@@ -178,7 +178,7 @@ two-clean m form c1 c2 fs ds bs f =
     le-32 : (n : ℕ) → n ≤ 32 → nat_le n 32 ≡ true
     le-32 n le = grind (arith, nat_tests)
 
-module _ (m : Message) (c1 c2 : ℕ) (rest : List ℕ) (bytes : m.bytes ≡ flat_map (little_bytes 2) (c1 ∷ c2 ∷ rest)) (both : has_bit 11 m.block ≡ true) where
+module _ (m : Recorded) (c1 c2 : ℕ) (rest : List ℕ) (bytes : m.bytes ≡ flat_map (little_bytes 2) (c1 ∷ c2 ∷ rest)) (both : has_bit 11 m.block ≡ true) where
   pub commands-two : commands_in m ≡ 2
   commands-two = two-of (size_of m) (length rest) (is_between m) (size-is m (c1 ∷ c2 ∷ rest) bytes) both
 

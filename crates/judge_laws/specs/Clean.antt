@@ -9,13 +9,13 @@ use Rattle.mil_bus.specs.Actions.{station_of}
 use Rattle.mil_bus.specs.Exchange.{BusState, talk_of}
 use Rattle.mil_monitor.specs.Observed.{observed}
 use Rattle.ch11_f1.specs.Again.{as_message}
-use Rattle.ch11_f1.specs.BodyReading.{Message}
+use Rattle.ch11_layout.specs.Stamps.{Recorded, counted}
 use Rattle.judge_laws.specs.Messages.{AreTerminals, AreReady, IsMessage, IsLegal, CanReply}
 use Rattle.bench_judge.specs.Clean.{clean}
 
 -- what is recorded of a message on a line of a bus, where a gap is asked for and no fault is planned
-abbrev pub recorded : BusState → Line → Form → ℕ → Message
-recorded b line form gap = as_message (observed (talk_of b line form gap []))
+abbrev pub recorded : BusState → Line → Form → ℕ → Recorded
+recorded b line form gap = counted (as_message (observed (talk_of b line form gap [])))
 
 -- a message to all terminals that no reply is due to, over any terminals, whatever they have met
 abbrev pub CleanToAll : Type 0

@@ -1,5 +1,5 @@
 use Rattle.std.proofs.Common.{◌≡◌, ◌+◌, List, length}
-use Rattle.ch11_reader.specs.Contents.{Heard}
+use Rattle.bench_select.specs.Viewed.{Viewed}
 use Rattle.bench_judge.specs.Tallies.{IsFinding}
 use Rattle.bench_judge.proofs.Whole.{IsPassing}
 use Rattle.bench_judge.proofs.first.first_in.Given as goal
@@ -8,8 +8,8 @@ use Rattle.bench_judge.proofs.first.first_in.Given as goal
 abbrev pub invariant-messages : goal.invariant-messages
 invariant-messages l = record {
   counted : l.number + length l.rest ≡ l.fn.packet.before + length l.fn.messages;
-  passing : (history : List Heard) → IsFinding l.rule l.most history l.fn.found.items l.fn.tally → l.fn.packet.before ≡ length history
-      → IsPassing (λ hs. IsFinding l.rule l.most hs l.found.items l.tally) l.channel l.fn.messages l.rest history;
+  passing : (history : List Viewed) → IsFinding l.rule l.most history l.fn.found.items l.fn.tally → l.fn.packet.before ≡ length history
+      → IsPassing (λ hs. IsFinding l.rule l.most hs l.found.items l.tally) l.kind l.channel l.fn.messages l.rest history;
 }
 
 abbrev pub decreases-messages : goal.decreases-messages

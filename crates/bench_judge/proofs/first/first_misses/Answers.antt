@@ -1,36 +1,44 @@
-use Rattle.std.proofs.Common.{◌≡◌, ◌≤◌, List, ap, subst, arith, length, take, reverse}
-use Rattle.std.proofs.lemmas.List.{take_all}
+use Rattle.std.proofs.Common.{◌≡◌, ◌∙◌, List, ap, sym, subst, length, reverse, take}
+use Rattle.ch11_reader.specs.declared.packet.Packet.{Packet}
+use Rattle.ch11_reader.specs.Contents.{total_in}
+use Rattle.bench_select.specs.Viewed.{viewed_in, Viewed}
 use Rattle.ch11_reader.specs.Recording.{Found}
-use Rattle.ch11_reader.specs.Contents.{heard_in}
-use Rattle.bench_dump.proofs.Packets.{no_packet, at_place, same_count}
+use Rattle.ch11_stream.specs.Reading.{last_found}
+use Rattle.ch11_stream.proofs.Folding.{all_found, not_found}
+use Rattle.ch11_stream.proofs.Readings.{amid_on, amid_start}
 use Rattle.bench_judge.specs.Tallies.{IsFinding}
 use Rattle.bench_judge.specs.Verdicts.{misses}
-use Rattle.bench_judge.proofs.Finding.{finding-enough, finding-none}
-use Rattle.bench_judge.proofs.Whole.{before_packet, packets-more}
+use Rattle.bench_judge.proofs.Finding.{finding-none}
+use Rattle.bench_judge.proofs.Streamed.{heard_count, heard_more, heard_so_far}
 use Rattle.bench_judge.proofs.first.first_misses.Goals as goal
 
 pub packets-init : goal.packets-init
-packets-init c = rw c.new-found.ensures.items (finding-none c.args.rule.now c.args.most _ (c.new-tally.ensures c.args.rule.now))
-
-pub messages_in-messages-requires : goal.messages_in-messages-requires
-messages_in-messages-requires c = omega (arith, same_count c.args.index.now c.packets-packets.result.now c.packets-packets.ensures.listed, c.packets-test.true)
-
-pub first_in-requires : goal.first_in-requires
-first_in-requires c =
-    let at = at_place c.args.index.now c.packets-packets.result.now c.packets.place no_packet c.packets-packets.ensures.listed c.packets-test.true in
-    omega (arith, at.before, at.few, ap length (c.messages_in-messages.ensures at.packet at.there), c.packets-packets.ensures.few)
+packets-init g c = record {
+  known = λ file is. rw (c.in_ok-packets.ensures, is) (amid_start file);
+  finding = rw (c.in_ok-packets.ensures, c.new-found.ensures.items) (finding-none c.args.rule.now c.args.most _ (c.new-tally.ensures c.args.rule.now));
+}
 
 pub packets-preserved : goal.packets-preserved
-packets-preserved c =
-    let at = at_place c.args.index.now c.packets-packets.result.now c.packets.place no_packet c.packets-packets.ensures.listed c.packets-test.true in
-    let history = reverse (heard_in (take c.packets.place c.args.index.now)) in
-    let finding = rw (c.messages_in-messages.ensures at.packet at.there) at c.in_ok-first_in.ensures history c.packets.invariant (before_packet c.args.index.now c.packets.place _ at) in
-    packets-more (λ hs. IsFinding c.args.rule.now c.args.most hs c.first_in.new.found.items c.first_in.new.tally) c.args.index.now c.packets.place _ at finding
+packets-preserved g c =
+    let s = rw c.in-Ok-Some.field-0-is at c.in-Ok-Some.ensures in
+    let now = c.next.new.self in
+    let earlier = c.packets.packets.earlier in
+    let p = c.in-Ok-Some.packet in
+    let front : p.before ≡ total_in earlier = ap (λ (x : Packet). x.before) s.listed in
+    let behind : p.before ≡ length (heard_so_far earlier) = front ∙ sym (heard_count earlier) in
+    let finding = rw c.messages-messages.ensures at c.in_ok-first_in-in-Ok-Some.ensures (heard_so_far earlier) c.packets.invariant.finding behind in
+    record {
+      known = λ file is. amid_on file c.packets.packets now p s (c.packets.invariant.known file is);
+      finding = subst (λ (hs : List Viewed). IsFinding c.args.rule.now c.args.most hs c.first_in.new.found.items c.first_in.new.tally) (heard_more (last_found now p) earlier ∙ ap heard_so_far (sym s.entered)) finding;
+    }
 
-pub returns : goal.returns
-returns c =
-    let whole : take c.packets.place c.args.index.now ≡ c.args.index.now = take_all c.packets.place c.args.index.now (omega (arith, same_count c.args.index.now c.packets-packets.result.now c.packets-packets.ensures.listed, c.packets-test.false)) in
-    subst (λ (ps : List Found). c.packets.found.items ≡ take c.args.most (misses c.args.rule.now (reverse (heard_in ps)))) whole c.packets.invariant.first
+pub returns-in-Ok-None : goal.returns-in-Ok-None
+returns-in-Ok-None g c file is =
+    let e = rw c.in-Ok-None.field-0-is at c.in-Ok-None.ensures in
+    let all = all_found file c.packets.packets c.next.new.self e (c.packets.invariant.known file is) in (
+      all.0,
+      subst (λ (ps : List Found). c.packets.found.items ≡ take c.args.most (misses c.args.rule.now (reverse (viewed_in ps)))) all.1 c.packets.invariant.finding.first,
+    )
 
-pub returns-then-enough : goal.returns-then-enough
-returns-then-enough c = finding-enough c.args.rule.now c.args.most c.args.index.now c.packets.place c.packets.found.items c.packets.invariant.first (omega arith)
+pub returns-in-Err : goal.returns-in-Err
+returns-in-Err g c file is = not_found file c.packets.packets c.next.new.self c.in-Err.fault c.in-Err.ensures (c.packets.invariant.known file is)

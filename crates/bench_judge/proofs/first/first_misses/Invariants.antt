@@ -1,9 +1,12 @@
-use Rattle.std.proofs.Common.{take}
-use Rattle.std.specs.Prelude.{reverse}
-use Rattle.ch11_reader.specs.Contents.{heard_in}
+use Rattle.std.proofs.Common.{◌≡◌, ℕ, List, Some}
+use Rattle.ch11_stream.proofs.Readings.{IsAmid}
 use Rattle.bench_judge.specs.Tallies.{IsFinding}
+use Rattle.bench_judge.proofs.Streamed.{heard_so_far}
 use Rattle.bench_judge.proofs.first.first_misses.Given as goal
 
--- the first of the messages of the packets so far that miss the rule are found
+-- the packets so far are those of the file, and the first of their messages that miss the rule are found
 abbrev pub invariant-packets : goal.invariant-packets
-invariant-packets l = IsFinding l.rule l.most (reverse (heard_in (take l.place l.index))) l.found.items l.tally
+invariant-packets g l = record {
+  known : (file : List ℕ) → g.R.Read.remaining l.fn.input ≡ Some file → IsAmid file l.packets;
+  finding : IsFinding l.rule l.most (heard_so_far l.packets.earlier) l.found.items l.tally;
+}

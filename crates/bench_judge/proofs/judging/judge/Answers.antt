@@ -1,17 +1,53 @@
-use Rattle.std.proofs.Common.{arith, reverse}
-use Rattle.std.proofs.lemmas.List.{nil_from_length}
-use Rattle.std.proofs.lemmas.Grind.{common_steps}
-use Rattle.ch11_reader.specs.Contents.{heard_in}
-use Rattle.bench_judge.proofs.Judged.{judged-none, judged-more, judged-all}
+use Rattle.std.proofs.Common.{◌≡◌, ◌+◌, ◌<◌, ◌^◌, ◌∙◌, List, ap, sym, subst, arith, length, reverse}
+use Rattle.std.proofs.lemmas.List.{with_items_is}
+use Rattle.ch11_reader.specs.Contents.{total_in}
+use Rattle.bench_select.specs.Viewed.{viewed_in, Viewed}
+use Rattle.ch11_reader.specs.Recording.{Found}
+use Rattle.ch11_stream.specs.Reading.{last_found}
+use Rattle.ch11_stream.proofs.Folding.{all_found, not_found}
+use Rattle.ch11_stream.proofs.Readings.{amid_on, amid_start}
+use Rattle.bench_judge.specs.declared.tallies.Tally.{Tally}
+use Rattle.bench_judge.specs.Tallies.{AreTallies}
+use Rattle.bench_judge.specs.Verdicts.{AreVerdicts}
+use Rattle.bench_judge.proofs.Streamed.{heard_count, heard_more, heard_so_far}
 use Rattle.bench_judge.proofs.judging.judge.Goals as goal
 
-pub passes-init : goal.passes-init
-passes-init c = rw c.in_ok-verdicts.ensures.items (judged-none _ _)
+pub note_messages-requires : goal.note_messages-requires
+note_messages-requires g c = omega (arith, ap length c.as_mut_slice.ensures.value, c.packets.invariant.counted.many)
 
-pub passes-preserved : goal.passes-preserved
-passes-preserved c =
-    judged-more c.args.rules.now c.passes.rest.now c.split_at.result.0.now c.split_at.result.1.now c.fewer-many.result (reverse (heard_in c.args.index.now)) c.passes.verdicts.items c.judge_more.new.verdicts.items c.passes.invariant
-    c.split_at.ensures.front c.split_at.ensures.back c.in_ok-judge_more.ensures
+pub packets-init : goal.packets-init
+packets-init g c = record {
+  known = λ file is. rw (c.in_ok-packets.ensures, is) (amid_start file);
+  counted = rw c.in_ok-packets.ensures c.in_ok-tallies.ensures;
+}
 
-pub returns : goal.returns
-returns c = judged-all _ _ _ _ c.passes.invariant (nil_from_length c.passes.rest.now (grind (arith, common_steps)))
+pub packets-preserved : goal.packets-preserved
+packets-preserved g c =
+    let s = rw c.in-Ok-Some.field-0-is at c.in-Ok-Some.ensures in
+    let now = c.next.new.self in
+    let earlier = c.packets.packets.earlier in
+    let p = c.in-Ok-Some.packet in
+    let start = subst (λ (ts : List Tally). AreTallies c.args.rules.now (heard_so_far earlier) ts) (sym c.as_mut_slice.ensures.value) c.packets.invariant.counted in
+    let few : length (heard_so_far earlier) + length now.given < 2 ^ 64 = omega (arith, heard_count earlier, s.few, ap total_in s.entered) in
+    let noted = rw c.messages.ensures at c.in_ok-note_messages-in-Ok-Some.ensures (heard_so_far earlier) start few in
+    let kept : length c.note_messages.new.tallies ≡ c.packets.tallies.len = omega (arith, c.note_messages.auto.tallies, ap length c.as_mut_slice.ensures.value, c.as_mut_slice.ensures.len) in
+    let on = subst (λ (hs : List Viewed). AreTallies c.args.rules.now hs c.note_messages.new.tallies) (heard_more (last_found now p) earlier ∙ ap heard_so_far (sym s.entered)) noted in
+    record {
+      known = λ file is. amid_on file c.packets.packets now p s (c.packets.invariant.known file is);
+      counted = subst (λ (ts : List Tally). AreTallies c.args.rules.now (heard_so_far now.earlier) ts) (sym (with_items_is c.packets.tallies c.note_messages.new.tallies kept)) on;
+    }
+
+pub returns-in-Ok-None-clause-judged : goal.returns-in-Ok-None-clause-judged
+returns-in-Ok-None-clause-judged g c file is =
+    let e = rw c.in-Ok-None.field-0-is at c.in-Ok-None.ensures in
+    let all = all_found file c.packets.packets c.next.new.self e (c.packets.invariant.known file is) in (
+      all.0,
+      subst (λ (ps : List Found). AreVerdicts c.args.rules.now (reverse (viewed_in ps)) c.in_ok-verdicts-in-Ok-None.verdicts.items) all.1
+          (c.in_ok-verdicts-in-Ok-None.ensures (heard_so_far c.packets.packets.earlier) c.packets.invariant.counted),
+    )
+
+pub returns-in-Err-clause-judged : goal.returns-in-Err-clause-judged
+returns-in-Err-clause-judged g c file is = not_found file c.packets.packets c.next.new.self c.in-Err.fault c.in-Err.ensures (c.packets.invariant.known file is)
+
+pub returns-in-Ok-None-clause-many : goal.returns-in-Ok-None-clause-many
+returns-in-Ok-None-clause-many g c = (c.in_ok-verdicts-in-Ok-None.ensures (heard_so_far c.packets.packets.earlier) c.packets.invariant.counted).many

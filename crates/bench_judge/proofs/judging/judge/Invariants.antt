@@ -1,12 +1,12 @@
-use Rattle.std.proofs.Common.{length}
-use Rattle.std.specs.Prelude.{reverse}
-use Rattle.ch11_reader.specs.Contents.{heard_in}
-use Rattle.bench_judge.proofs.Judged.{IsJudged}
+use Rattle.std.proofs.Common.{◌≡◌, ℕ, List, Some}
+use Rattle.ch11_stream.proofs.Readings.{IsAmid}
+use Rattle.bench_judge.specs.Tallies.{AreTallies}
+use Rattle.bench_judge.proofs.Streamed.{heard_so_far}
 use Rattle.bench_judge.proofs.judging.judge.Given as goal
 
--- the rules so far have their verdicts
-abbrev pub invariant-passes : goal.invariant-passes
-invariant-passes l = IsJudged l.rules l.rest (reverse (heard_in l.index)) l.verdicts.items
-
-abbrev pub decreases-passes : goal.decreases-passes
-decreases-passes l = length l.rest
+-- the packets so far are those of the file, and their messages are counted
+abbrev pub invariant-packets : goal.invariant-packets
+invariant-packets g l = record {
+  known : (file : List ℕ) → g.R.Read.remaining l.fn.input ≡ Some file → IsAmid file l.packets;
+  counted : AreTallies l.rules (heard_so_far l.packets.earlier) l.tallies.items;
+}

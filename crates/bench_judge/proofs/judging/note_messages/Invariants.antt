@@ -1,5 +1,5 @@
 use Rattle.std.proofs.Common.{◌≡◌, ◌+◌, ◌<◌, ◌^◌, List, length}
-use Rattle.ch11_reader.specs.Contents.{Heard}
+use Rattle.bench_select.specs.Viewed.{Viewed}
 use Rattle.bench_judge.specs.Tallies.{AreTallies}
 use Rattle.bench_judge.proofs.Whole.{IsPassing}
 use Rattle.bench_judge.proofs.judging.note_messages.Given as goal
@@ -8,8 +8,8 @@ use Rattle.bench_judge.proofs.judging.note_messages.Given as goal
 abbrev pub invariant-messages : goal.invariant-messages
 invariant-messages l = record {
   many : length l.tallies ≡ length l.rules;
-  passing : (history : List Heard) → AreTallies l.rules history l.fn.tallies → length history + length l.fn.messages < 2 ^ 64
-      → IsPassing (λ hs. AreTallies l.rules hs l.tallies) l.channel l.fn.messages l.rest history;
+  passing : (history : List Viewed) → AreTallies l.rules history l.fn.tallies → length history + length l.fn.messages < 2 ^ 64
+      → IsPassing (λ hs. AreTallies l.rules hs l.tallies) l.kind l.channel l.fn.messages l.rest history;
 }
 
 abbrev pub decreases-messages : goal.decreases-messages

@@ -2,6 +2,7 @@ use Rattle.std.proofs.Common.{◌++◌, ◌∙◌, ap}
 use Rattle.text_lines.specs.Words.{Text}
 use Rattle.bench_judge.specs.Junit.{cases}
 use Rattle.bench_judge.specs.Names.{rule_text}
+use Rattle.bench_judge.specs.Streaming.{history_of}
 use Rattle.bench_judge.proofs.Cases.{case_more}
 use Rattle.bench_judge.proofs.junit.put_cases.Goals as goal
 
@@ -12,8 +13,9 @@ rules-preserved g c =
     record {
       text = c.at.ensures.text ∙ c.rules.invariant.text;
       left = c.at.ensures.left;
-      written = λ history known.
+      written = λ file known.
+          let history = history_of file in
           case_more text c.rules.rules.now c.in-Some.more.now c.in-Some.rule.now c.rules.verdicts.now c.in-Some-split_first.others.now v history c.at.result.now c.rules.text.items c.put_case.new.text.items
           (c.args.text.now.items ++ cases text c.args.judged.rules.now c.args.judged.verdicts.now history) c.in-Some.ensures.cases.0 c.in-Some-split_first.ensures.cases.0 (c.at.ensures.name ∙ ap (λ (t : Text). rule_text t v.line) c.rules.invariant.text)
-          (c.in_ok-put_case.ensures history known) (c.rules.invariant.written history known);
+          (c.in_ok-put_case.ensures file known) (c.rules.invariant.written file known);
     }

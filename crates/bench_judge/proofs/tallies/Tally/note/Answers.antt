@@ -1,6 +1,6 @@
 use Rattle.std.proofs.Common.{◌≡◌, ◌+◌, ◌<◌, ◌^◌, ◌∙◌, ◌∷◌, refl, sym, arith, true, length}
 use Rattle.std.proofs.lemmas.Grind.{common_steps}
-use Rattle.ch11_reader.specs.Contents.{Heard}
+use Rattle.bench_select.specs.Viewed.{Viewed}
 use Rattle.bench_judge.specs.Verdicts.{selected}
 use Rattle.bench_judge.proofs.Tallying.{tally-more, tally-met, tally-missed}
 use Rattle.bench_judge.proofs.tallies.Tally.note.Goals as goal
@@ -8,7 +8,7 @@ use Rattle.bench_judge.proofs.tallies.Tally.note.Goals as goal
 pub returns-clause-noted : goal.returns-clause-noted
 returns-clause-noted c history is small =
     let rule = c.args.rule.now in
-    let h : Heard = (c.args.channel, c.args.view.now) in
+    let h : Viewed = (c.args.channel, c.args.view.now) in
     let chosen : c.selects.result ≡ true = grind (arith, common_steps) in
     let sel = sym c.selects.ensures ∙ chosen in
     let met = c.in_ok-met.ensures.met rule history refl is.latest in
@@ -22,7 +22,7 @@ returns-clause-noted c history is small =
 pub returns-then-met-clause-noted : goal.returns-then-met-clause-noted
 returns-then-met-clause-noted c history is small =
     let rule = c.args.rule.now in
-    let h : Heard = (c.args.channel, c.args.view.now) in
+    let h : Viewed = (c.args.channel, c.args.view.now) in
     let chosen : c.selects.result ≡ true = grind (arith, common_steps) in
     let sel = sym c.selects.ensures ∙ chosen in
     let met = c.in_ok-met.ensures.met rule history refl is.latest in

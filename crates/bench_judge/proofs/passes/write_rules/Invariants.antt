@@ -5,7 +5,7 @@ use Rattle.ch11_reader.specs.Recording.{packets_in}
 use Rattle.bench_judge.specs.Lines.{rules_lines}
 use Rattle.bench_judge.specs.Streaming.{history_of}
 use Rattle.bench_judge.specs.Verdicts.{AreVerdicts}
-use Rattle.bench_judge.proofs.passes.write_rules_from.Given as goal
+use Rattle.bench_judge.proofs.passes.write_rules.Given as goal
 
 -- the lines of the rules so far are written
 abbrev pub invariant-rules : goal.invariant-rules

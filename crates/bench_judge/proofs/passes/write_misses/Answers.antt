@@ -1,7 +1,8 @@
 use Rattle.std.proofs.Common.{◌≡◌, ◌∙◌, List, ap, sym, subst, length, reverse}
 use Rattle.std.specs.Io.KnownBytes.{Appends}
 use Rattle.ch11_reader.specs.declared.packet.Packet.{Packet}
-use Rattle.ch11_reader.specs.Contents.{heard_in, total_in, Heard}
+use Rattle.ch11_reader.specs.Contents.{total_in}
+use Rattle.bench_select.specs.Viewed.{viewed_in, Viewed}
 use Rattle.ch11_reader.specs.Recording.{Found}
 use Rattle.ch11_stream.specs.Reading.{last_found}
 use Rattle.ch11_stream.proofs.Folding.{all_found, not_found}
@@ -9,7 +10,7 @@ use Rattle.ch11_stream.proofs.Readings.{amid_on, amid_start}
 use Rattle.bench_judge.specs.Tallies.{IsWriting, miss_lines}
 use Rattle.bench_judge.proofs.Streamed.{heard_count, heard_more, heard_so_far}
 use Rattle.bench_judge.proofs.Writing.{writing-none}
-use Rattle.bench_judge.proofs.passes.write_misses_from.Goals as goal
+use Rattle.bench_judge.proofs.passes.write_misses.Goals as goal
 
 pub packets-init : goal.packets-init
 packets-init g c = record {
@@ -29,7 +30,7 @@ packets-preserved g c =
     let written = rw c.messages.ensures at c.in_ok-write_messages-in-Ok-Some.ensures (heard_so_far earlier) got c.packets.invariant.written behind in
     record {
       known = λ file is. amid_on file c.packets.packets now p s (c.packets.invariant.known file is);
-      written = subst (λ (hs : List Heard). IsWriting c.args.rule.now got hs (g.W.Write.contents c.write_messages.new.out) c.write_messages.new.tally) (heard_more (last_found now p) earlier ∙ ap heard_so_far (sym s.entered)) written;
+      written = subst (λ (hs : List Viewed). IsWriting c.args.rule.now got hs (g.W.Write.contents c.write_messages.new.out) c.write_messages.new.tally) (heard_more (last_found now p) earlier ∙ ap heard_so_far (sym s.entered)) written;
     }
 
 pub returns-in-Ok-None : goal.returns-in-Ok-None
@@ -37,7 +38,7 @@ returns-in-Ok-None g c file is =
     let e = rw c.in-Ok-None.field-0-is at c.in-Ok-None.ensures in
     let all = all_found file c.packets.packets c.next.new.self e (c.packets.invariant.known file is) in (
       all.0,
-      subst (λ (ps : List Found). Appends (g.W.Write.contents c.args.out.now) (g.W.Write.contents c.packets.out) (miss_lines c.args.rule.now (reverse (heard_in ps)))) all.1 c.packets.invariant.written.written,
+      subst (λ (ps : List Found). Appends (g.W.Write.contents c.args.out.now) (g.W.Write.contents c.packets.out) (miss_lines c.args.rule.now (reverse (viewed_in ps)))) all.1 c.packets.invariant.written.written,
     )
 
 pub returns-in-Err : goal.returns-in-Err

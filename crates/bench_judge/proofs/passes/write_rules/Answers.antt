@@ -10,7 +10,7 @@ use Rattle.bench_judge.specs.Lines.{rules_lines, verdict_lines}
 use Rattle.bench_judge.specs.Streaming.{history_of}
 use Rattle.bench_judge.proofs.Rereading.{same_fault}
 use Rattle.bench_judge.proofs.Writing.{rules-more}
-use Rattle.bench_judge.proofs.passes.write_rules_from.Goals as goal
+use Rattle.bench_judge.proofs.passes.write_rules.Goals as goal
 
 pub rules-preserved : goal.rules-preserved
 rules-preserved g c file is read are =
@@ -18,17 +18,17 @@ rules-preserved g c file is read are =
     let asked : slice_get c.args.rules.now c.rules.place ≡ Some c.index-rules-place.result =
     slice_get-get_or c.args.rules.now c.rules.place c.index-rules-place.result within ∙ ap (λ (r : Rule). Some r) (sym c.index-rules-place.is) in
     let one = are.each c.rules.place c.index-rules-place.result _ asked (slice_get-get_or c.args.verdicts.now c.rules.place _ (omega (arith, c.requires, within))) in
-    rules-more c.args.rules.now c.rules.place c.index-rules-place.result (history_of file) (g.W.Write.contents c.args.out.now) (g.W.Write.contents c.rules.out) (g.W.Write.contents c.write_rule_from.new.out) asked
-    (c.rules.invariant file is read are) (c.in_ok-write_rule_from.ensures file is read one).1
+    rules-more c.args.rules.now c.rules.place c.index-rules-place.result (history_of file) (g.W.Write.contents c.args.out.now) (g.W.Write.contents c.rules.out) (g.W.Write.contents c.write_rule.new.out) asked
+    (c.rules.invariant file is read are) (c.in_ok-write_rule.ensures file is read one).1
 
-pub returns-in_err-write_rule_from : goal.returns-in_err-write_rule_from
-returns-in_err-write_rule_from g c file is read are =
+pub returns-in_err-write_rule : goal.returns-in_err-write_rule
+returns-in_err-write_rule g c file is read are =
     let within : c.rules.place < length c.args.rules.now = omega arith in
     let asked : slice_get c.args.rules.now c.rules.place ≡ Some c.index-rules-place.result =
     slice_get-get_or c.args.rules.now c.rules.place c.index-rules-place.result within ∙ ap (λ (r : Rule). Some r) (sym c.index-rules-place.is) in
     let one = are.each c.rules.place c.index-rules-place.result _ asked (slice_get-get_or c.args.verdicts.now c.rules.place _ (omega (arith, c.requires, within))) in
     let p = err_from_is_err_and c.from_residual.result c.from_residual.ensures.1 in
-    rw (p.1, p.2) (same_fault (verdict_lines c.index-rules-place.result) (rules_lines c.args.rules.now) c.in_err-write_rule_from.field-0.0 file _ _ _ _ (c.in_err-write_rule_from.ensures file is read one))
+    rw (p.1, p.2) (same_fault (verdict_lines c.index-rules-place.result) (rules_lines c.args.rules.now) c.in_err-write_rule.field-0.0 file _ _ _ _ (c.in_err-write_rule.ensures file is read one))
 
 pub returns : goal.returns
 returns g c file is read are =

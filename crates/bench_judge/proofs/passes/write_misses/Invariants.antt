@@ -1,12 +1,12 @@
 use Rattle.std.proofs.Common.{◌≡◌, ℕ, List, Some}
 use Rattle.ch11_stream.proofs.Readings.{IsAmid}
-use Rattle.bench_judge.specs.Tallies.{AreTallies}
+use Rattle.bench_judge.specs.Tallies.{IsWriting}
 use Rattle.bench_judge.proofs.Streamed.{heard_so_far}
-use Rattle.bench_judge.proofs.streaming.judge_from.Given as goal
+use Rattle.bench_judge.proofs.passes.write_misses.Given as goal
 
--- the packets so far are those of the file, and their messages are counted
+-- the packets so far are those of the file, and those of their messages that miss the rule are written
 abbrev pub invariant-packets : goal.invariant-packets
 invariant-packets g l = record {
   known : (file : List ℕ) → g.R.Read.remaining l.fn.input ≡ Some file → IsAmid file l.packets;
-  counted : AreTallies l.rules (heard_so_far l.packets.earlier) l.tallies.items;
+  written : IsWriting l.rule (g.W.Write.contents l.fn.out) (heard_so_far l.packets.earlier) (g.W.Write.contents l.out) l.tally;
 }

@@ -1,0 +1,39 @@
+use Rattle.std.proofs.Common.{◌≡◌, ◌-◌, ◌<◌, ◌^◌, List, length, refl, sym, ap, reverse, subst, ◌∙◌, arith}
+use Rattle.ch11_reader.specs.Listing.{listing}
+use Rattle.ch11_reader.specs.Recording.{Found}
+use Rattle.ch11_stream.proofs.Folding.{all_found, not_found}
+use Rattle.ch11_stream.proofs.Readings.{amid_on, amid_start}
+use Rattle.bench_judge.specs.Losses.{lost_of}
+use Rattle.bench_judge.proofs.Losing.{few_listed, listed_next}
+use Rattle.bench_judge.proofs.losses.count_lost.Goals as goal
+
+pub packets-init : goal.packets-init
+packets-init g c = record {
+  known = λ file is. rw (c.in_ok-packets.ensures, is) (amid_start file);
+  counted = rw c.in_ok-packets.ensures c.none-lost.ensures;
+  many = rw c.in_ok-packets.ensures refl;
+}
+
+pub packets-preserved : goal.packets-preserved
+packets-preserved g c =
+    let s = rw c.in-Ok-Some.field-0-is at c.in-Ok-Some.ensures in
+    let before = c.packets.packets in
+    let now = c.next.new.self in
+    let p = c.in-Ok-Some.packet in
+    let few : length before.earlier < 2 ^ 64 - 1 = omega (arith, c.packets.invariant.many, c.packets-test.true) in
+    record {
+      known = λ file is. amid_on file before now p s (c.packets.invariant.known file is);
+      counted = c.note.ensures (listing (reverse before.earlier)) (few_listed before.earlier few) c.packets.invariant.counted ∙ ap lost_of (sym (listed_next before now p s));
+      many = omega (arith, ap (λ (ps : List Found). length ps) s.entered, c.packets.invariant.many);
+    }
+
+pub returns-in-Ok-None : goal.returns-in-Ok-None
+returns-in-Ok-None g c file is =
+    let e = rw c.in-Ok-None.field-0-is at c.in-Ok-None.ensures in
+    let all = all_found file c.packets.packets c.next.new.self e (c.packets.invariant.known file is) in (
+      all.0,
+      subst (λ (ps : List Found). c.packets.lost ≡ lost_of (listing ps)) all.1 c.packets.invariant.counted,
+    )
+
+pub returns-in-Err : goal.returns-in-Err
+returns-in-Err g c file is = not_found file c.packets.packets c.next.new.self c.in-Err.fault c.in-Err.ensures (c.packets.invariant.known file is)

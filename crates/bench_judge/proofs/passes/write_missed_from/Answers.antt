@@ -1,4 +1,0 @@
-use Rattle.bench_judge.proofs.passes.write_missed_from.Goals as goal
-
-pub returns-in-Ok : goal.returns-in-Ok
-returns-in-Ok g c file is read many = c.write_misses_from.ensures file (c.in-Ok.ensures file is)
