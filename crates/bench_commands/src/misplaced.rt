@@ -141,7 +141,7 @@ pub(crate) fn other_in_place<R: AllocGlobal>(
     let mut out = String::new(rt.alloc());
     write!(out, "  {name} is {told}\n")?;
     out.push_str(order_of(request))?;
-    if found == Content::Recording && is_lossy(rt, text) {
+    if found == Content::Recording && is_lossy(rt.alloc(), text) {
         out.push_str(
             "  messages are missing from this recording: packets with the overflow flag\n",
         )?;

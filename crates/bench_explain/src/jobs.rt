@@ -69,7 +69,8 @@ pub(crate) static EXPLANATIONS: [Explanation; 14] = [
     Explanation {
         code: "H3",
         means: "a number of a host action out of its range",
-        remedy: "Subaddresses are 1 to 30 (29 for transmit), counts 1 to 32, response times 40 to 120 ticks of 0.1 us.",
+        remedy: "Subaddresses are 1 to 30 (29 for transmit), counts and places of words 1 to 32, mode codes 0 to 31, \
+            response times 40 to 120 ticks of 0.1 us, gaps 21 to 255.",
         example: "at 1 5 response 20",
     },
     Explanation {

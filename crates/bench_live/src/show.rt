@@ -2,7 +2,7 @@
 
 use bench_decode::{Place, Shown, TextLine, write_columns, write_message};
 use ch11_f1::{RECORD_HEAD, body, put_record};
-use ch11_layout::View;
+use ch11_layout::{StampKind, View};
 use crossbeam_queue::ArrayQueue;
 use mil_line::MOST_SENT;
 use mil_monitor::Record;
@@ -104,7 +104,12 @@ fn write_waiting<W: Write>(line: &mut TextLine, out: &mut W, waiting: &Waiting) 
     };
     let mut rest = messages;
     'messages: while let Some(seen) = rest.next() {
-        write_message(line, out, &waiting.place, &View::of(&seen))?;
+        write_message(
+            line,
+            out,
+            &waiting.place,
+            &View::of(StampKind::Counter, &seen),
+        )?;
     }
     Ok(())
 }

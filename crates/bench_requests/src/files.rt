@@ -16,18 +16,6 @@ fn size_of<F: OpenFile>(file: &F) -> u64 {
     }
 }
 
-/// Plain files of more bytes than this, 64 MiB (own choice), are read packet by packet and never kept, where a command
-/// can do that.
-const LARGE: u64 = 67_108_864;
-
-/// Whether this is a plain file of more than 67,108,864 bytes.
-pub fn is_large<R: Files>(rt: &R, name: &str) -> bool {
-    match fs::metadata(rt, name) {
-        Ok(about) => about.is_file() && about.len() > LARGE,
-        Err(_) => false,
-    }
-}
-
 /// A file that is to be read from its start. One that cannot be opened is a device fault with its name as given.
 pub fn open_to_read<'a, R: Files>(rt: &R, name: &'a str) -> Result<R::File, Fault<'a>> {
     match fs::open(rt, name) {

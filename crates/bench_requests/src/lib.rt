@@ -24,7 +24,7 @@ pub use ending::Ending;
 pub use endings::{ending_of_run, ending_of_settings};
 pub use fault::Fault;
 pub use files::{
-    begin, is_large, open_to_read, put_in_place, read_again, read_texts, read_whole, replaceable,
+    begin, open_to_read, put_in_place, read_again, read_texts, read_whole, replaceable,
     texts_again, write_new, writer_of,
 };
 pub use jobs::jobs_of;

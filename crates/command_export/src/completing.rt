@@ -1,5 +1,6 @@
 //! `bench complete`: a recording made into the file that other Chapter 10 and 11 tools expect.
 
+use crate::channels::described;
 use bench_complete::{Additions, CompleteFault, Completion, UtcSecond};
 use bench_files::{Hold, Kind};
 use bench_requests::{Fault, read_whole};
@@ -32,10 +33,12 @@ Example:
 pub fn command<'a>(alloc: Global) -> Result<Command<'a>, AllocError> {
     let about = "Makes a recording into the file that other Chapter 10 and 11 tools expect";
     let setup = "The text of the setup record (TMATS) to put in front, 1 to 524000 bytes";
+    let auto_setup = "Puts a setup record in front that names and numbers the recording's channels";
     let rows = [
         argument("RECORDING", "The Chapter 11 file to complete"),
         file("out", "The file to write the complete file to").required(),
         file("setup", setup),
+        flag("auto-setup", auto_setup).never_with(&["setup"]),
         time(),
         time_channel(),
         second_time(),
@@ -80,6 +83,8 @@ pub struct Request<'a> {
     pub out: &'a str,
     /// The file of the setup record's text.
     pub setup: Option<&'a str>,
+    /// Whether a setup record of the recording's channels is made, where there is no such file.
+    pub auto_setup: bool,
     /// The time at tick 0, as a text.
     pub time: Option<&'a str>,
     /// The channel of the time packets.
@@ -107,6 +112,7 @@ pub fn request_in<'a>(given: &ArgMatches<'a>) -> Request<'a> {
         recording: given.get_str("RECORDING").unwrap_or(""),
         out: given.get_str("out").unwrap_or(""),
         setup: given.get_str("setup"),
+        auto_setup: given.get_flag("auto-setup"),
         time: given.get_str("time"),
         time_channel: time_channel_in(given),
         second_time: given.get_flag("second-time"),
@@ -148,9 +154,15 @@ pub fn run<'a, R: Files<File: Hold> + AllocGlobal, E: Eprint>(
     ];
     may_write(rt, request.out, Kind::Recording, request.force, &read)?;
     let recording = read_whole(rt, request.recording)?;
-    let text = setup_text(rt, request.setup)?;
+    let text = if request.auto_setup {
+        let times = start.map(|_| request.time_channel);
+        described(rt.alloc(), recording.as_slice(), request.skip, times)?
+    } else {
+        setup_text(rt, request.setup)?
+    };
+    let asked = request.auto_setup || request.setup.is_some();
     let additions = Additions {
-        setup: request.setup.map(|_| text.as_slice()),
+        setup: if asked { Some(text.as_slice()) } else { None },
         start,
         time_channel: request.time_channel,
         second_time: request.second_time,
@@ -178,8 +190,10 @@ fn complete_read<'a, 'b, R: Files<File: Hold> + AllocGlobal, E: Eprint>(
     recording: &'b [u8],
     additions: &Additions<'b>,
 ) -> Result<(), Fault<'a>> {
-    let completion = plan(rt.alloc(), errors, recording, additions, request.skip)?;
-    put_out(rt, request, &completion)
+    match plan(rt.alloc(), errors, recording, additions, request.skip) {
+        Ok(completion) => put_out(rt, request, &completion),
+        Err(fault) => Err(misuse_of(fault, request)),
+    }
 }
 
 /// The time at tick 0.
@@ -194,27 +208,31 @@ pub fn start_of<'a>(time: Option<&'a str>) -> Result<Option<UtcSecond>, Fault<'a
 }
 
 /// Judges a recording and what is to be added; what is skipped is printed.
-fn plan<'a, 'b, E: Eprint>(
+fn plan<'b, E: Eprint>(
     alloc: Global,
     errors: &E,
     recording: &'b [u8],
     additions: &Additions<'b>,
     skip: bool,
-) -> Result<Completion<'b>, Fault<'a>> {
-    let answer = if skip {
-        match Completion::plan_skipping(alloc, recording, additions) {
-            Ok((completion, skips)) => {
-                print_skips(errors, &skips);
-                Ok(completion)
-            }
-            Err(fault) => Err(fault),
-        }
-    } else {
-        Completion::plan(alloc, recording, additions)
-    };
-    match answer {
-        Ok(completion) => Ok(completion),
-        Err(fault) => Err(fault_of(fault, "")),
+) -> Result<Completion<'b>, CompleteFault> {
+    if !skip {
+        return Completion::plan(alloc, recording, additions);
+    }
+    let (completion, skips) = Completion::plan_skipping(alloc, recording, additions)?;
+    print_skips(errors, &skips);
+    Ok(completion)
+}
+
+/// What a fault of what was asked is to the program, where the setup record may be one that is made.
+fn misuse_of<'a>(fault: CompleteFault, request: &Request<'a>) -> Fault<'a> {
+    match fault {
+        CompleteFault::SetupSize if request.auto_setup => Fault::Usage(
+            "--auto-setup for a recording of more channels than a setup record has room for",
+        ),
+        CompleteFault::SetupTwice if request.auto_setup => Fault::Usage(
+            "--auto-setup for a recording that has computer generated data of type 01",
+        ),
+        fault => fault_of(fault, ""),
     }
 }
 

@@ -1,15 +1,15 @@
 //! `bench draw`: the messages of a recording as a picture.
 
-use bench_draw::{DrawFault, Drawing, draw, draw_from};
+use bench_draw::{DrawFault, Drawing, draw};
 use bench_files::{Hold, Kind};
-use bench_requests::{Fault, is_large, read_whole, write_new};
+use bench_names::ChannelNames;
+use bench_requests::{Fault, write_new};
 use bench_select::Selection;
-use bench_watch::Watch;
 use clap::{ArgMatches, Command};
 use command_parts::extracting::{Extract, extract_options};
-use command_parts::large::{Large, clock_of_large, fault_of_reading};
-use command_parts::looking::{clock_if, index_of, tell_of_unread};
-use command_parts::options::command_of;
+use command_parts::looking::{tell_of_unknown, tell_of_unread};
+use command_parts::options::{command_of, time_channel};
+use command_parts::recordings::{Recording, Source, Times, fault_of_reading};
 use command_parts::selecting::selection_options;
 use std::alloc::{AllocError, Global};
 use std::io::IsTerminal;
@@ -22,8 +22,9 @@ with the terminal that they call, its data words, and the status words with the 
 its number, the address, R to receive or T to transmit and the subaddress; a red mark stands for an error and its
 kind. Of up to 24 messages all are labelled, of more those that have the room. Where messages are too close for
 that, the load of the line in percent is drawn; --from and --to show a part of them. Times are those of the
-recording, from tick 0 of its stamps. Where commands recur with a period, a dashed line marks the begin of a
-frame. Where the mouse rests on a bar, a browser shows the message decoded.
+recording, from tick 0 of its stamps, or from 1970 where these are times of day. Where commands recur with a
+period, a dashed line marks the begin of a frame. Where the mouse rests on a bar, a browser shows the message
+decoded.
 
 Example:
   bench draw flight.ch11 --out flight.svg
@@ -34,8 +35,8 @@ pub fn command<'a>(alloc: Global) -> Result<Command<'a>, AllocError> {
     let about = "Draws the messages of a recording over time, as a picture for a browser";
     let out = "The file to write the picture to, as SVG";
     let rows = extract_options("The Chapter 11 file to draw", out);
-    let selection = selection_options();
-    command_of(alloc, "draw", about, NOTES, &[&rows, &selection])
+    let (times, selection) = ([time_channel()], selection_options());
+    command_of(alloc, "draw", about, NOTES, &[&rows, &times, &selection])
 }
 
 /// What is to be drawn, and where to.
@@ -43,12 +44,15 @@ pub fn command<'a>(alloc: Global) -> Result<Command<'a>, AllocError> {
 pub struct Request<'a> {
     /// Which messages, and the file to write to.
     pub extract: Extract<'a>,
+    /// The channel whose time packets tell times of day; all where none is named.
+    pub time_channel: Option<u16>,
 }
 
 /// What a command line asks of `bench draw`.
 pub fn request_in<'a>(given: &ArgMatches<'a>) -> Request<'a> {
     Request {
         extract: Extract::given(given),
+        time_channel: given.get_one::<u16>("time-channel"),
     }
 }
 
@@ -62,7 +66,7 @@ fn fault_of_drawing<'a>(name: &'a str, fault: DrawFault) -> Fault<'a> {
 
 /// Writes the messages of a recording, or those that were selected, as a picture. The out file takes the place of what
 /// is there once it is whole; it may not be the recording itself. Where a selection has no message, nothing is written,
-/// and that is said. A recording of more than 64 MiB is read packet by packet.
+/// and that is said.
 pub fn run<'a, R: Files<File: Hold> + AllocGlobal + Clock, E: Eprint + IsTerminal>(
     rt: &R,
     errors: &E,
@@ -70,7 +74,14 @@ pub fn run<'a, R: Files<File: Hold> + AllocGlobal + Clock, E: Eprint + IsTermina
 ) -> Result<(), Fault<'a>> {
     let extract = &request.extract;
     let selection = extract.judge(rt, Kind::Picture)?;
-    let drawn = draw_recording(rt, errors, extract.recording, &selection)?;
+    let source = Source::of(rt, errors, extract.recording)?;
+    let recording = source.recording(false, false);
+    let stamps = recording.stamps(true)?;
+    let selection = selection.counting_from(stamps.origins.as_slice());
+    let drawn = draw_recording(&recording, request, &selection);
+    source.end();
+    tell_of_unknown(errors, extract.recording, &stamps);
+    let drawn = drawn?;
     put_picture(rt, extract, &drawn.drawing)?;
     tell_of_unread(errors, extract.recording, drawn.unread);
     Ok(())
@@ -97,71 +108,23 @@ struct Drawn {
     unread: bool,
 }
 
-/// Draws a recording, read whole or packet by packet.
+/// Draws a recording: a pass for its clock, and those of the picture.
 fn draw_recording<'a, R: Files + AllocGlobal + Clock, E: Eprint + IsTerminal>(
-    rt: &R,
-    errors: &E,
-    name: &'a str,
+    recording: &Recording<'_, 'a, R, E>,
+    request: &Request<'a>,
     selection: &Selection,
 ) -> Result<Drawn, Fault<'a>> {
-    if is_large(rt, name) {
-        draw_large(rt, errors, name, selection)
-    } else {
-        draw_whole(rt, name, selection)
-    }
-}
-
-/// Draws a recording that is read whole.
-fn draw_whole<'a, R: Files + AllocGlobal>(
-    rt: &R,
-    name: &'a str,
-    selection: &Selection,
-) -> Result<Drawn, Fault<'a>> {
-    let bytes = read_whole(rt, name)?;
-    let index = index_of(rt.alloc(), bytes.as_slice(), false)?;
-    let read = clock_if(rt.alloc(), bytes.as_slice(), &index, true)?;
-    match draw(rt.alloc(), &index, selection, &read.clock) {
+    let read = recording.clock(Times {
+        asked: true,
+        channel: request.time_channel,
+    })?;
+    let front = recording.front()?;
+    let names = ChannelNames::of(front.as_slice());
+    match draw(recording.alloc(), recording, selection, &read.clock, &names) {
         Ok(drawing) => Ok(Drawn {
             drawing,
             unread: read.unread,
         }),
-        Err(fault) => Err(fault_of_drawing(name, fault)),
-    }
-}
-
-/// Draws a recording that is read packet by packet.
-fn draw_large<'a, R: Files + AllocGlobal + Clock, E: Eprint + IsTerminal>(
-    rt: &R,
-    errors: &E,
-    name: &'a str,
-    selection: &Selection,
-) -> Result<Drawn, Fault<'a>> {
-    let watch = Watch::begin(rt, errors, name);
-    let drawn = draw_watched(rt, name, &watch, selection);
-    watch.end();
-    drawn
-}
-
-/// Draws a recording that is watched: a pass for its clock, and those of the picture.
-fn draw_watched<'a, R: Files + AllocGlobal + Clock, E: Eprint + IsTerminal>(
-    rt: &R,
-    name: &'a str,
-    watch: &Watch<'_, R, E>,
-    selection: &Selection,
-) -> Result<Drawn, Fault<'a>> {
-    let read = clock_of_large(rt, name, watch, false, true)?;
-    let large = Large {
-        rt,
-        name,
-        watch,
-        skip: false,
-        prints: false,
-    };
-    match draw_from(rt.alloc(), &large, selection, &read.clock) {
-        Ok(drawing) => Ok(Drawn {
-            drawing,
-            unread: read.unread,
-        }),
-        Err(fault) => Err(fault_of_drawing(name, fault)),
+        Err(fault) => Err(fault_of_drawing(request.extract.recording, fault)),
     }
 }

@@ -1,25 +1,19 @@
 //! `bench export`: the messages of a recording for spreadsheets, data frames and waveform viewers.
 
 use bench_clock::Clock as RecordingClock;
-use bench_export::{
-    Columns, ExportFromFault, Table, export, export_from, export_waves, export_waves_from,
-    selects_any,
-};
+use bench_export::{Columns, ExportFault, Table, export, export_waves, selects_any};
 use bench_files::{Hold, Kind, OutFile, leads_to_output};
-use bench_requests::{Fault, is_large, read_whole};
+use bench_requests::Fault;
 use bench_select::Selection;
-use bench_watch::Watch;
-use ch11_reader::Index;
 use ch11_stream::Advance;
 use clap::{ArgMatches, Command};
 use command_parts::extracting::{Extract, extract_options};
-use command_parts::large::{clock_of_large, fault_of_reading};
-use command_parts::looking::{clock_if, index_of, tell_of_unread};
-use command_parts::options::{Row, choice, command_of, flag};
+use command_parts::looking::{tell_of_unknown, tell_of_unread};
+use command_parts::options::{Row, choice, command_of, flag, time_channel};
+use command_parts::recordings::{Recording, Source, Times};
 use command_parts::replacing::{begin_to_write, put_or_give_up};
 use command_parts::selecting::selection_options;
 use command_parts::streams::flushed;
-use command_parts::watching::open_watched;
 use std::alloc::{AllocError, Global};
 use std::fs;
 use std::io::{BufWriter, IsTerminal, Write};
@@ -32,8 +26,9 @@ With --frames each value has a column of its own, for data frames: the time in s
 words, each bit of a status word and each error as 0 or 1, and each data word. --hex 0x puts 0x in front of words, so
 that a spreadsheet takes none for a number.
 
-With --time a column `time` behind that of the stamp has the time of day (UTC) as YYYY-MM-DDTHH:MM:SS.fffffff, by the
-last time packet at or before it; it is empty where the recording has none there.
+With --time a column `time` behind that of the stamp has the time of day (UTC) as YYYY-MM-DDTHH:MM:SS.fffffff, the
+stamp itself where it is one (IEEE 1588), else by the last time packet at or before it; it is empty where the recording
+has none there.
 
 With --vcd the file is a value change dump (IEEE 1364), as GTKWave shows it: for each channel and line the word on the
 line, its kind (1 command, 2 data, 3 status), its terminal and the number of its message, and whether it is of a message
@@ -55,7 +50,7 @@ pub fn command<'a>(alloc: Global) -> Result<Command<'a>, AllocError> {
 }
 
 /// The options that say what messages are exported as.
-fn form_options<'a>() -> [Row<'a>; 4] {
+fn form_options<'a>() -> [Row<'a>; 5] {
     let frames = "Writes rows with a column for each value, for data frames";
     let hex = "With --frames: puts 0x in front of words";
     let time = "Writes the time of day behind each time stamp, by the recording's time packets";
@@ -64,6 +59,7 @@ fn form_options<'a>() -> [Row<'a>; 4] {
         flag("frames", frames),
         choice("hex", "PREFIX", &["0x"], hex).only_with("frames"),
         flag("time", time).never_with(&["vcd"]),
+        time_channel().only_with("time"),
         flag("vcd", vcd).never_with(&["frames"]),
     ]
 }
@@ -99,9 +95,19 @@ pub struct Request<'a> {
     pub extract: Extract<'a>,
     /// What they are exported as.
     pub exported: Exported,
+    /// The channel whose time packets tell times of day; all where none is named.
+    pub time_channel: Option<u16>,
 }
 
 impl<'a> Request<'a> {
+    /// The times of day that are asked for.
+    fn times(&self) -> Times {
+        Times {
+            asked: self.exported.is_timed(),
+            channel: self.time_channel,
+        }
+    }
+
     /// The out file, which is begun, and where its bytes go.
     fn begin<R: Files<File: Hold> + AllocGlobal>(
         &self,
@@ -121,6 +127,7 @@ pub fn request_in<'a>(given: &ArgMatches<'a>) -> Request<'a> {
     Request {
         extract: Extract::given(given),
         exported: exported_in(given),
+        time_channel: given.get_one::<u16>("time-channel"),
     }
 }
 
@@ -144,82 +151,70 @@ fn columns_in(given: &ArgMatches<'_>) -> Columns {
     }
 }
 
-/// The fault of an export that did not end well, and of a selection that has no message.
-fn some_written<'a>(
-    request: &Request<'a>,
-    written: Result<bool, ExportFromFault>,
-) -> Result<(), Fault<'a>> {
-    match written {
-        Ok(selected) if selected || request.extract.selection.is_empty() => Ok(()),
-        Ok(_) => Err(Fault::NoneSelected),
-        Err(ExportFromFault::Reading(fault)) => Err(fault_of_reading(
-            request.extract.recording,
-            fault,
-        )),
-        Err(ExportFromFault::Writing(fault)) => Err(fault_of_writing(request.extract.out, fault)),
-    }
-}
-
-/// The fault of an out file that was not written to its end.
-fn fault_of_writing<'a>(out: &'a str, fault: WriteFault) -> Fault<'a> {
-    match fault {
-        WriteFault::Memory => Fault::Memory,
-        WriteFault::Device => Fault::Device(out),
-    }
-}
-
 /// Writes the messages of a recording, or those that were selected, for other programs. The out file takes the place of
 /// what is there once it is whole; it may not be the recording itself. Where a selection has no message, nothing is
-/// written. A recording of more than 64 MiB is read packet by packet, and once more first where times of day are asked
-/// for, or a value change dump.
+/// written. The faults of the recording come before those of the out file.
 pub fn run<'a, R: Files<File: Hold> + AllocGlobal + Clock, E: Eprint + IsTerminal>(
     rt: &R,
     errors: &E,
     request: &Request<'a>,
 ) -> Result<(), Fault<'a>> {
     let selection = request.extract.judge(rt, request.exported.kind())?;
-    let (recording, out) = (request.extract.recording, request.extract.out);
-    if is_large(rt, recording) && is_replaced(rt, out) {
-        let watch = Watch::begin(rt, errors, recording);
-        let written = write_watched(rt, request, &watch, &selection);
-        watch.end();
-        tell_of_unread(errors, recording, written?);
-        return Ok(());
-    }
-    let bytes = read_whole(rt, recording)?;
-    let unread = export_whole(rt, request, bytes.as_slice(), &selection)?;
-    tell_of_unread(errors, recording, unread);
+    let source = Source::of(rt, errors, request.extract.recording)?;
+    let recording = source.recording(false, false);
+    let stamps = recording.stamps(true)?;
+    let selection = selection.counting_from(stamps.origins.as_slice());
+    let written = export_recording(rt, &recording, request, &selection);
+    source.end();
+    tell_of_unknown(errors, request.extract.recording, &stamps);
+    tell_of_unread(errors, request.extract.recording, written?);
     Ok(())
 }
 
-/// Writes the messages of a recording that was read whole; answers whether times of day are asked for and it has time
-/// packets of which none can be read.
-fn export_whole<'a, R: Files<File: Hold> + AllocGlobal>(
+/// Writes the messages of a recording; answers whether times of day are asked for and it has time packets of which none
+/// can be read. Where the out file takes its place once it is whole, the pass that writes is also the one that tells
+/// whether the recording can be read and has a message of the selection; else a pass before it does, and so does one
+/// where the out file cannot be begun or written.
+fn export_recording<'a, R: Files<File: Hold> + AllocGlobal + Clock, E: Eprint + IsTerminal>(
     rt: &R,
+    recording: &Recording<'_, 'a, R, E>,
     request: &Request<'a>,
-    bytes: &[u8],
     selection: &Selection,
 ) -> Result<bool, Fault<'a>> {
-    let index = index_of(rt.alloc(), bytes, false)?;
-    if !request.extract.selection.is_empty() && !selects_any(&index, selection) {
-        return Err(Fault::NoneSelected);
+    if !is_replaced(rt, request.extract.out) {
+        some_selected(recording, request, selection)?;
     }
-    let read = clock_if(rt.alloc(), bytes, &index, request.exported.is_timed())?;
-    write_whole(rt, request, &index, &read.clock, selection)?;
+    let read = recording.clock(request.times())?;
+    let (file, writer) = match request.begin(rt) {
+        Ok(begun) => begun,
+        Err(fault) => {
+            some_selected(recording, request, selection)?;
+            return Err(fault);
+        }
+    };
+    let written = write_messages(recording, request, selection, &read.clock, writer);
+    put_or_give_up(rt, request.extract.out, file, written)?;
     Ok(read.unread)
 }
 
-/// Writes the messages of a recording that was read whole to the out file.
-fn write_whole<'a, R: Files<File: Hold> + AllocGlobal>(
-    rt: &R,
+/// The fault of a recording that cannot be read, or whose selection has no message: a pass.
+fn some_selected<'a, R: Files + AllocGlobal + Clock, E: Eprint + IsTerminal>(
+    recording: &Recording<'_, 'a, R, E>,
     request: &Request<'a>,
-    index: &Index<'_>,
-    clock: &RecordingClock,
     selection: &Selection,
 ) -> Result<(), Fault<'a>> {
-    let (file, writer) = request.begin(rt)?;
-    let written = write_exported(rt.alloc(), index, clock, selection, request, writer);
-    put_or_give_up(rt, request.extract.out, file, written)
+    let bytes = recording.begin_reading()?;
+    let selected = selects_any(recording.alloc(), bytes, selection);
+    judge_selected(request, recording.answer(selected)?)
+}
+
+/// The fault of a selection that has no message.
+fn judge_selected<'a>(request: &Request<'a>, selected: bool) -> Result<(), Fault<'a>> {
+    if selected || request.extract.selection.is_empty() {
+        Ok(())
+    } else {
+        Err(Fault::NoneSelected)
+    }
 }
 
 /// Whether what is written to this name takes its place only once it is whole: a new file, or a plain one that is not
@@ -231,107 +226,16 @@ fn is_replaced<R: Files>(rt: &R, name: &str) -> bool {
     }
 }
 
-/// Writes the messages of a recording that is watched to the out file; answers as `export_whole` does.
-fn write_watched<'a, R: Files<File: Hold> + AllocGlobal + Clock, E: Eprint + IsTerminal>(
-    rt: &R,
+/// Writes the messages of a recording to where the bytes of the out file go.
+fn write_messages<'a, R: Files + AllocGlobal + Clock, E: Eprint + IsTerminal, W: Write + Drop>(
+    recording: &Recording<'_, 'a, R, E>,
     request: &Request<'a>,
-    watch: &Watch<'_, R, E>,
     selection: &Selection,
-) -> Result<bool, Fault<'a>> {
-    match request.exported {
-        Exported::Rows { columns, timed } => {
-            let table = Table {
-                columns,
-                timed,
-                selection: *selection,
-            };
-            write_rows_watched(rt, request, watch, &table)
-        }
-        Exported::Waves => write_dump_watched(rt, request, watch, selection),
-    }
-}
-
-/// Writes the rows of a recording that is watched to the out file; answers whether times of day are asked for and it
-/// has time packets of which none can be read.
-fn write_rows_watched<'a, R: Files<File: Hold> + AllocGlobal + Clock, E: Eprint + IsTerminal>(
-    rt: &R,
-    request: &Request<'a>,
-    watch: &Watch<'_, R, E>,
-    table: &Table,
-) -> Result<bool, Fault<'a>> {
-    let recording = request.extract.recording;
-    let input = open_watched(rt, recording, watch, true)?;
-    let read = clock_of_large(rt, recording, watch, false, table.timed)?;
-    let (file, writer) = request.begin(rt)?;
-    let written = write_rows_from(rt.alloc(), input, table, &read.clock, writer);
-    put_or_give_up(
-        rt,
-        request.extract.out,
-        file,
-        some_written(request, written),
-    )?;
-    Ok(read.unread)
-}
-
-/// Writes the value change dump of a recording that is watched, and opened twice, to the out file, which has no times
-/// of day.
-fn write_dump_watched<'a, R: Files<File: Hold> + AllocGlobal + Clock, E: Eprint + IsTerminal>(
-    rt: &R,
-    request: &Request<'a>,
-    watch: &Watch<'_, R, E>,
-    selection: &Selection,
-) -> Result<bool, Fault<'a>> {
-    let recording = request.extract.recording;
-    let first = open_watched(rt, recording, watch, true)?;
-    let second = open_watched(rt, recording, watch, true)?;
-    let (file, writer) = request.begin(rt)?;
-    let written = write_dump_from(rt.alloc(), first, second, selection, writer);
-    put_or_give_up(
-        rt,
-        request.extract.out,
-        file,
-        some_written(request, written),
-    )?;
-    Ok(false)
-}
-
-/// Writes rows of what a reader has left; answers whether any message was selected.
-fn write_rows_from<F: Advance + Drop, W: Write + Drop>(
-    alloc: Global,
-    input: F,
-    table: &Table,
     clock: &RecordingClock,
-    writer: W,
-) -> Result<bool, ExportFromFault> {
-    let exported = export_from(alloc, input, table, clock, writer)?;
-    Ok(exported.selected)
-}
-
-/// Writes a value change dump of a recording that two readers give; answers whether any message was selected.
-fn write_dump_from<F: Advance + Drop, W: Write + Drop>(
-    alloc: Global,
-    first: F,
-    second: F,
-    selection: &Selection,
-    writer: W,
-) -> Result<bool, ExportFromFault> {
-    let Ok(mut out) = BufWriter::new(alloc, writer) else {
-        return Err(ExportFromFault::Writing(WriteFault::Memory));
-    };
-    let selected = export_waves_from(alloc, first, second, selection, &mut out)?;
-    flushed(&mut out)?;
-    Ok(selected)
-}
-
-/// Writes what is asked for to the out file.
-fn write_exported<'a, W: Write + Drop>(
-    alloc: Global,
-    index: &Index<'_>,
-    clock: &RecordingClock,
-    selection: &Selection,
-    request: &Request<'a>,
     writer: W,
 ) -> Result<(), Fault<'a>> {
+    let first = recording.begin_reading()?;
+    let alloc = recording.alloc();
     let written = match request.exported {
         Exported::Rows { columns, timed } => {
             let table = Table {
@@ -339,40 +243,55 @@ fn write_exported<'a, W: Write + Drop>(
                 timed,
                 selection: *selection,
             };
-            write_rows(alloc, index, clock, &table, writer)
+            write_rows(alloc, first, &table, clock, writer)
         }
-        Exported::Waves => write_dump(alloc, index, selection, writer),
+        Exported::Waves => {
+            let second = recording.begin_reading()?;
+            write_waves(alloc, first, second, selection, writer)
+        }
     };
     match written {
-        Ok(()) => Ok(()),
-        Err(fault) => Err(fault_of_writing(request.extract.out, fault)),
+        Ok(selected) => judge_selected(request, selected),
+        Err(ExportFault::Reading(fault)) => recording.answer(Err(fault)),
+        Err(ExportFault::Writing(fault)) => {
+            some_selected(recording, request, selection)?;
+            Err(fault_of_writing(request.extract.out, fault))
+        }
     }
 }
 
-/// Writes rows.
-fn write_rows<W: Write + Drop>(
+/// The fault of an out file that was not written to its end.
+fn fault_of_writing<'a>(out: &'a str, fault: WriteFault) -> Fault<'a> {
+    match fault {
+        WriteFault::Memory => Fault::Memory,
+        WriteFault::Device => Fault::Device(out),
+    }
+}
+
+/// Writes rows of what a reader has left; answers whether any message was selected.
+fn write_rows<F: Advance + Drop, W: Write + Drop>(
     alloc: Global,
-    index: &Index<'_>,
-    clock: &RecordingClock,
+    input: F,
     table: &Table,
+    clock: &RecordingClock,
     writer: W,
-) -> Result<(), WriteFault> {
-    match export(alloc, index, table, clock, writer) {
-        Ok(_) => Ok(()),
-        Err(fault) => Err(fault),
-    }
+) -> Result<bool, ExportFault> {
+    let exported = export(alloc, input, table, clock, writer)?;
+    Ok(exported.selected)
 }
 
-/// Writes a value change dump.
-fn write_dump<W: Write + Drop>(
+/// Writes a value change dump of a recording that two readers give; answers whether any message was selected.
+fn write_waves<F: Advance + Drop, W: Write + Drop>(
     alloc: Global,
-    index: &Index<'_>,
+    first: F,
+    second: F,
     selection: &Selection,
     writer: W,
-) -> Result<(), WriteFault> {
+) -> Result<bool, ExportFault> {
     let Ok(mut out) = BufWriter::new(alloc, writer) else {
-        return Err(WriteFault::Memory);
+        return Err(ExportFault::Writing(WriteFault::Memory));
     };
-    export_waves(alloc, index, selection, &mut out)?;
-    flushed(&mut out)
+    let selected = export_waves(alloc, first, second, selection, &mut out)?;
+    flushed(&mut out)?;
+    Ok(selected)
 }

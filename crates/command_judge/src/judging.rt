@@ -1,24 +1,27 @@
 //! `bench judge`: whether a recording is what rules expect.
 
-use crate::judged::{Judged, Spelled};
 use bench_files::{Hold, Kind};
-use bench_judge::{Lost, PassFault, PrintFault, RuleVerdict};
-use bench_requests::{
-    Fault, is_large, junit_of, open_to_read, read_whole, recording_first, rules_asked, rules_text,
-    verdict_on, write_new,
+use bench_judge::{
+    Lost, PassFault, PrintFault, RuleVerdict, count_lost, judge, junit_text, write_colored,
+    write_verdicts,
 };
-use bench_watch::Watch;
+use bench_names::ChannelNames;
+use bench_requests::{
+    Fault, junit_of, read_whole, recording_first, rules_asked, rules_text, verdict_on, write_new,
+};
+use bench_watch::Reopen;
 use clap::{ArgMatches, Command};
 use command_parts::hosts::System;
-use command_parts::large::{Large, check_large, fault_of_reading};
-use command_parts::looking::index_of;
+use command_parts::looking::tell_of_unknown;
 use command_parts::options::{argument, command_of, file, flag, force, optional};
+use command_parts::recordings::{Recording, Source, fault_of_reading};
 use command_parts::replacing::may_write;
 use command_parts::streams::listing;
-use command_parts::watching::is_for_people;
+use command_parts::terminals::is_for_people;
+use judge_rules::Rule;
 use std::alloc::{AllocError, Global};
 use std::io::{BufWriter, IsTerminal};
-use std::rt::Files;
+use std::rt::{Clock, Files};
 
 /// What the help of `bench judge` ends with.
 const NOTES: &str = "\
@@ -79,8 +82,17 @@ pub fn request_in<'a>(given: &ArgMatches<'a>) -> Request<'a> {
     }
 }
 
+/// Rules, and the text that spells them.
+#[derive(Clone, Copy)]
+pub struct Spelled<'r> {
+    /// The text.
+    pub text: &'r [u8],
+    /// The rules that it spells.
+    pub rules: &'r [Rule],
+}
+
 /// The fault of a recording with this name that was not judged to its end.
-fn fault_of_pass<'a>(name: &'a str, fault: PassFault) -> Fault<'a> {
+pub fn fault_of_pass<'a>(name: &'a str, fault: PassFault) -> Fault<'a> {
     match fault {
         PassFault::Opening(error) => Fault::of_stream(name, &error),
         PassFault::Recording(fault) => fault_of_reading(name, fault),
@@ -89,7 +101,7 @@ fn fault_of_pass<'a>(name: &'a str, fault: PassFault) -> Fault<'a> {
 }
 
 /// The fault of verdicts that were not printed to their end.
-pub fn fault_of_printing<'a>(fault: PrintFault) -> Fault<'a> {
+fn fault_of_printing<'a>(fault: PrintFault) -> Fault<'a> {
     match fault {
         PrintFault::Memory => Fault::Memory,
         PrintFault::Device(error) => Fault::of_stream("-", &error),
@@ -106,7 +118,6 @@ fn tell_lost<E: Eprint>(errors: &E, lost: &Lost) {
 
 /// Judges a recording, whose faults come before those of the rules, and prints the verdicts. Where a rule is not held
 /// it ends with a fault of its own. The JUnit file, which may be none of the others, is written behind what is printed.
-/// A recording of more than 64 MiB is read packet by packet.
 pub fn run<'a, R: System, E: Eprint + IsTerminal>(
     rt: &R,
     errors: &E,
@@ -122,25 +133,12 @@ pub fn run<'a, R: System, E: Eprint + IsTerminal>(
             &[request.recording, rules],
         )?;
     }
-    if is_large(rt, request.recording) {
-        return judge_large(rt, errors, request);
-    }
-    let bytes = read_whole(rt, request.recording)?;
+    let source = Source::of(rt, errors, request.recording)?;
     let given = given_rules(rt, request)?;
-    let text = lent(&given);
-    let index = index_of(rt.alloc(), bytes.as_slice(), request.skip);
-    let (index, rules) = recording_first(index, rules_asked(rt.alloc(), text))?;
-    let judged: Judged<'_, R, E> = Judged::Whole(&index);
-    judge_by(
-        rt,
-        errors,
-        request,
-        &judged,
-        Spelled {
-            text: rules_text(text),
-            rules: rules.as_slice(),
-        },
-    )
+    let recording = source.recording(request.skip, true);
+    let judged = judge_recording(rt, errors, request, &recording, lent(&given));
+    source.end();
+    judged
 }
 
 /// The text of the file of rules, if there is one.
@@ -162,48 +160,29 @@ fn lent(given: &Option<Vec<u8>>) -> Option<&[u8]> {
     }
 }
 
-/// Judges a recording that is read packet by packet, while it is watched.
-fn judge_large<'a, R: System, E: Eprint + IsTerminal>(
+/// Judges a recording by the rules of this text, where one is given. Its faults come before those of the rules: where
+/// these are refused, it is read to its end first.
+fn judge_recording<'a, R: System, E: Eprint + IsTerminal>(
     rt: &R,
     errors: &E,
     request: &Request<'a>,
-) -> Result<(), Fault<'a>> {
-    drop(open_to_read(rt, request.recording)?);
-    let given = given_rules(rt, request)?;
-    let watch = Watch::begin(rt, errors, request.recording);
-    let judged = judge_watched(rt, errors, request, &watch, lent(&given));
-    watch.end();
-    judged
-}
-
-/// Judges a recording that is watched by the rules of this text, where one is given. Its faults come before those of
-/// the rules: where these are refused, it is read to its end first.
-fn judge_watched<'a, R: System, E: Eprint + IsTerminal>(
-    rt: &R,
-    errors: &E,
-    request: &Request<'a>,
-    watch: &Watch<'_, R, E>,
+    recording: &Recording<'_, 'a, R, E>,
     text: Option<&[u8]>,
 ) -> Result<(), Fault<'a>> {
-    let large = Large {
-        rt,
-        name: request.recording,
-        watch,
-        skip: request.skip,
-        prints: true,
-    };
     let rules = rules_asked(rt.alloc(), text);
     let read = if rules.is_ok() || request.skip {
         Ok(())
     } else {
-        check_large(rt, request.recording, watch)
+        recording.check()
     };
     let (_, rules) = recording_first(read, rules)?;
+    let stamps = recording.stamps(true)?;
+    tell_of_unknown(errors, request.recording, &stamps);
     let spelled = Spelled {
         text: rules_text(text),
         rules: rules.as_slice(),
     };
-    judge_by(rt, errors, request, &Judged::Large(&large), spelled)
+    judge_by(rt, errors, request, recording, spelled)
 }
 
 /// Judges by these rules, prints the verdicts, tells of messages that are missing and writes the JUnit file.
@@ -211,17 +190,14 @@ fn judge_by<'a, R: System, E: Eprint + IsTerminal>(
     rt: &R,
     errors: &E,
     request: &Request<'a>,
-    judged: &Judged<'_, R, E>,
+    recording: &Recording<'_, 'a, R, E>,
     spelled: Spelled<'_>,
 ) -> Result<(), Fault<'a>> {
-    let printed = print_verdicts(rt, request.recording, judged, spelled);
+    let printed = print_verdicts(rt, request.recording, recording, spelled);
     let junit = junit_of(request.junit, &printed);
     let verdicts = printed?;
     let lost = if junit.is_some() || errors.is_terminal() {
-        match judged.lost(rt.alloc()) {
-            Ok(lost) => lost,
-            Err(fault) => return Err(fault_of_pass(request.recording, fault)),
-        }
+        lost_of(request.recording, recording)?
     } else {
         Lost::default()
     };
@@ -229,20 +205,33 @@ fn judge_by<'a, R: System, E: Eprint + IsTerminal>(
         tell_lost(errors, &lost);
     }
     if let Some(junit) = junit {
-        let made = judged.junit_text(rt.alloc(), spelled, verdicts.as_slice(), lost);
+        let (text, rules) = (spelled.text, spelled.rules);
+        let alloc = rt.alloc();
+        let made = junit_text(alloc, recording, text, rules, verdicts.as_slice(), lost);
         write_report(rt, request, junit, made)?;
     }
     verdict_on(verdicts.as_slice())
+}
+
+/// What the packets of the recording with this name say of messages that are missing: a pass.
+fn lost_of<'a, R: Files + AllocGlobal + Clock, E: Eprint + IsTerminal>(
+    name: &'a str,
+    recording: &Recording<'_, 'a, R, E>,
+) -> Result<Lost, Fault<'a>> {
+    match recording.reopen() {
+        Ok(input) => recording.answer(count_lost(recording.alloc(), input)),
+        Err(error) => Err(Fault::of_stream(name, &error)),
+    }
 }
 
 /// Judges the recording with this name by these rules and prints the verdicts.
 pub fn print_verdicts<'a, R: System, E: Eprint + IsTerminal>(
     rt: &R,
     name: &'a str,
-    judged: &Judged<'_, R, E>,
+    recording: &Recording<'_, 'a, R, E>,
     spelled: Spelled<'_>,
 ) -> Result<Vec<RuleVerdict>, Fault<'a>> {
-    match print_judged(rt, judged, spelled) {
+    match print_judged(rt, recording, spelled) {
         Ok(verdicts) => Ok(verdicts),
         Err(fault) => Err(fault_of_pass(name, fault)),
     }
@@ -251,15 +240,23 @@ pub fn print_verdicts<'a, R: System, E: Eprint + IsTerminal>(
 /// Prints the verdicts of these rules, for people where they go to a terminal.
 fn print_judged<R: System, E: Eprint + IsTerminal>(
     rt: &R,
-    judged: &Judged<'_, R, E>,
+    recording: &Recording<'_, '_, R, E>,
     spelled: Spelled<'_>,
 ) -> Result<Vec<RuleVerdict>, PassFault> {
-    let mut out = BufWriter::new(rt.alloc(), listing(rt))?;
+    let alloc = rt.alloc();
+    let (text, rules) = (spelled.text, spelled.rules);
+    let mut out = BufWriter::new(alloc, listing(rt))?;
     if !is_for_people(rt) {
-        return judged.write_lines(rt.alloc(), spelled.rules, &mut out);
+        return write_verdicts(alloc, recording, rules, &mut out);
     }
-    let verdicts = judged.verdicts(rt.alloc(), spelled.rules)?;
-    judged.write_colored(rt.alloc(), spelled, verdicts.as_slice(), &mut out)?;
+    let verdicts = match recording.reopen() {
+        Ok(input) => judge(alloc, input, rules)?,
+        Err(error) => return Err(PassFault::Opening(error)),
+    };
+    let front = recording.front()?;
+    let names = ChannelNames::of(front.as_slice());
+    let verdicts_now = verdicts.as_slice();
+    write_colored(alloc, recording, names, text, rules, verdicts_now, &mut out)?;
     Ok(verdicts)
 }
 

@@ -1,14 +1,12 @@
 //! `bench dump --decode`, and the selection of messages of `bench dump`.
 
-use bench_decode::{Output, Shown, decode, decode_from};
-use bench_requests::{Fault, Listing, is_large, read_whole, unless_gone};
-use bench_select::Selection;
-use bench_watch::Watch;
+use bench_decode::{Output, Shown, decode, decode_by_time};
+use bench_requests::{Fault, Listing, unless_gone};
 use clap::ArgMatches;
-use command_parts::large::{answer_of_watched, check_large, fault_of_dump, tell_of_large_loss};
-use command_parts::looking::tell_of_loss;
+use command_parts::looking::{tell_of_loss, tell_of_unknown};
+use command_parts::recordings::{Recording, Source};
 use command_parts::selecting::{GivenSelection, given_selection, selection_in};
-use command_parts::watching::{is_for_people, open_watched, prints_to_terminal};
+use command_parts::terminals::is_for_people;
 use std::io::{self, IsTerminal, Printer, Write};
 use std::rt::{Clock, Env, Files};
 
@@ -44,36 +42,44 @@ pub(crate) fn messages_in<'a>(given: &ArgMatches<'a>) -> Messages<'a> {
 }
 
 /// Shows the messages that are asked for. Where a selection has none, it says so and ends with the status of a refused
-/// input. A recording of more than 64 MiB is read packet by packet, unless its messages are to be sorted, which wants
-/// all of it.
+/// input.
 pub(crate) fn show_messages<
     'a,
     R: Env + Files + AllocGlobal + Print + Clock,
     E: Eprint + IsTerminal,
 >(rt: &R, errors: &E, request: &Messages<'a>) -> Result<(), Fault<'a>> {
     let output = output_of(rt, request)?;
-    if !request.by_time && is_large(rt, request.recording) {
-        return show_large(rt, errors, request.recording, &output);
-    }
-    let bytes = read_whole(rt, request.recording)?;
+    let source = if request.by_time {
+        Source::kept(rt, errors, request.recording)?
+    } else {
+        Source::of(rt, errors, request.recording)?
+    };
+    let recording = source.recording(request.skip, true);
+    let stamps = recording.stamps(tells_times(&output, request.by_time))?;
+    let output = output.counting_from(stamps.origins.as_slice());
     let mut out = listing_of(rt, &output);
-    match decode(rt.alloc(), bytes.as_slice(), &mut out, &output) {
+    let printed = print_messages(&recording, request.by_time, &output, &mut out);
+    source.end();
+    match printed {
         Ok(count) => {
+            tell_of_unknown(errors, request.recording, &stamps);
             some_selected(count, &output)?;
-            tell_of_loss(rt, errors, bytes.as_slice());
+            tell_of_loss(errors, &recording);
             Ok(())
         }
-        Err(fault) => unless_gone(
-            out.is_gone(),
-            Err(fault_of_dump(request.recording, fault, false)),
-        ),
+        Err(fault) => unless_gone(out.is_gone(), Err(fault)),
     }
+}
+
+/// Whether anything is told of times, sorted or chosen by them.
+fn tells_times(output: &Output, by_time: bool) -> bool {
+    output.decoded || by_time || output.selection.is_timed()
 }
 
 /// Where messages are printed. What was printed tells that there is a message among those that are asked for, so that
 /// the rest decides nothing where its reader has gone; but where skips are printed among them the rest may decide.
 fn listing_of<'r, R: Print>(rt: &'r R, output: &Output) -> Listing<Printer<'r, R>> {
-    if output.skip && output.selection != Selection::all() {
+    if output.skip && !output.selection.is_all() {
         Listing::going_on(io::writer(rt))
     } else {
         Listing::ending(io::writer(rt))
@@ -84,7 +90,7 @@ fn listing_of<'r, R: Print>(rt: &'r R, output: &Output) -> Listing<Printer<'r, R
 fn output_of<'a, R: Env + Files + AllocGlobal>(
     rt: &R,
     request: &Messages<'a>,
-) -> Result<Output, Fault<'a>> {
+) -> Result<Output<'static>, Fault<'a>> {
     Ok(Output {
         selection: selection_in(&request.selection)?,
         decoded: request.decoded,
@@ -94,52 +100,34 @@ fn output_of<'a, R: Env + Files + AllocGlobal>(
             Shown::Plain
         },
         skip: request.skip,
-        by_time: request.by_time,
     })
 }
 
 /// The fault of a selection that has none of the messages.
 fn some_selected<'a>(count: u64, output: &Output) -> Result<(), Fault<'a>> {
-    if count == 0 && output.selection != Selection::all() {
+    if count == 0 && !output.selection.is_all() {
         return Err(Fault::NoneSelected);
     }
     Ok(())
 }
 
-/// Shows messages of a recording in two passes over it: none where the first refuses it. One that may be damaged takes
-/// the second alone.
-fn show_large<'a, R: Files + AllocGlobal + Print + Clock, E: Eprint + IsTerminal>(
-    rt: &R,
-    errors: &E,
-    name: &'a str,
-    output: &Output,
-) -> Result<(), Fault<'a>> {
-    let watch = Watch::begin(rt, errors, name);
-    let mut out = listing_of(rt, output);
-    let printed = print_watched(rt, name, &watch, output, &mut out);
-    watch.end();
-    match printed {
-        Ok(count) => {
-            some_selected(count, output)?;
-            tell_of_large_loss(rt, errors, name);
-            Ok(())
-        }
-        Err(fault) => unless_gone(out.is_gone(), Err(fault)),
-    }
-}
-
-/// Prints messages of a recording that is watched, once it is checked, and answers how many.
-fn print_watched<'a, R: Files + AllocGlobal + Clock, E: Eprint + IsTerminal, W: Write>(
-    rt: &R,
-    name: &'a str,
-    watch: &Watch<'_, R, E>,
+/// Prints messages of a recording and answers how many. Those in the file's order take two passes over it, of which the
+/// first checks that it can be read: none is printed where it refuses it, and one that may be damaged takes the second
+/// alone. To sort them wants all of its bytes, which are kept.
+fn print_messages<'a, R: Files + AllocGlobal + Clock, E: Eprint + IsTerminal, W: Write>(
+    recording: &Recording<'_, 'a, R, E>,
+    by_time: bool,
     output: &Output,
     out: &mut W,
 ) -> Result<u64, Fault<'a>> {
-    if !output.skip {
-        check_large(rt, name, watch)?;
+    let alloc = recording.alloc();
+    if by_time {
+        let bytes = recording.bytes().unwrap_or(&[]);
+        return recording.printed(decode_by_time(alloc, bytes, out, output));
     }
-    let input = open_watched(rt, name, watch, !prints_to_terminal(rt))?;
-    let printed = decode_from(rt.alloc(), input, out, output);
-    answer_of_watched(name, watch, printed)
+    if !output.skip {
+        recording.check()?;
+    }
+    let bytes = recording.begin_printing()?;
+    recording.printed(decode(alloc, bytes, out, output))
 }

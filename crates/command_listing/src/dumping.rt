@@ -1,17 +1,13 @@
 //! `bench dump`: the packets and messages of a recording as lines.
 
 use crate::decoding::{Messages, asks_for_messages, messages_in, show_messages};
-use bench_clock::Clock as RecordingClock;
-use bench_dump::{dump, dump_skipping_from, dump_with_times};
-use bench_passes::{dump_in_two_passes, dump_with_times_in_two_passes};
-use bench_requests::{Fault, Listing, is_large, read_whole, unless_gone};
-use bench_watch::Watch;
+use bench_dump::{dump, dump_skipping, dump_with_times};
+use bench_requests::{Fault, Listing, unless_gone};
 use clap::{ArgMatches, Command};
-use command_parts::large::{answer_of_watched, clock_of_large, fault_of_dump, tell_of_large_loss};
-use command_parts::looking::{tell_of_loss, tell_of_unread, tell_of_unread_in};
-use command_parts::options::{argument, command_of, flag};
+use command_parts::looking::{tell_of_loss, tell_of_unknown, tell_of_unread};
+use command_parts::options::{argument, command_of, flag, time_channel};
+use command_parts::recordings::{Recording, Source, Times};
 use command_parts::selecting::selection_options;
-use command_parts::watching::{open_watched, prints_to_terminal};
 use std::alloc::{AllocError, Global};
 use std::io::{self, IsTerminal, Write};
 use std::rt::{Clock, Env, Files};
@@ -37,8 +33,9 @@ the second.
 A recording with a fault is refused, and nothing is shown, unless --skip is given: then a line
 `skipped OFFSET length LENGTH FAULT` stands in the place of the bytes that are no packet.
 
-With --time each stamp is followed by its time of day, ` time YYYY-MM-DDTHH:MM:SS.fffffff` (UTC), by the last
-time packet at or before it. A recording without time packets, as `bench complete --time` writes them, has none.
+With --time each stamp is followed by its time of day, ` time YYYY-MM-DDTHH:MM:SS.fffffff` (UTC), its own where
+stamps are times of day (IEEE 1588), else by the last time packet at or before it. A recording of counters without
+time packets, as `bench complete --time` writes them, has none.
 
 With --decode each message is a line as people read it, with its time in seconds, its number in the file and in
 its channel, its form, status words, data words and errors by name; packets have no line. --channel, --line, --only,
@@ -64,6 +61,7 @@ pub fn command<'a>(alloc: Global) -> Result<Command<'a>, AllocError> {
     let rows = [
         flag("skip", skip),
         flag("time", time).never_with(FOR_MESSAGES),
+        time_channel().only_with("time"),
         argument("RECORDING", "The Chapter 11 file to show"),
         flag(
             "decode",
@@ -91,8 +89,8 @@ pub struct Packets<'a> {
     pub recording: &'a str,
     /// Whether a damaged recording is shown as far as it is sound.
     pub skip: bool,
-    /// Whether each stamp is followed by its time of day.
-    pub times: bool,
+    /// Whether each stamp is followed by its time of day, and who tells it.
+    pub times: Times,
 }
 
 /// What a command line asks of `bench dump`.
@@ -103,7 +101,10 @@ pub fn request_in<'a>(given: &ArgMatches<'a>) -> Request<'a> {
     Request::Packets(Packets {
         recording: given.get_str("RECORDING").unwrap_or(""),
         skip: given.get_flag("skip"),
-        times: given.get_flag("time"),
+        times: Times {
+            asked: given.get_flag("time"),
+            channel: given.get_one::<u16>("time-channel"),
+        },
     })
 }
 
@@ -119,57 +120,29 @@ pub fn run<'a, R: Env + Files + AllocGlobal + Print + Clock, E: Eprint + IsTermi
     }
 }
 
-/// Prints a recording. One of more than 64 MiB is read packet by packet.
+/// Prints the packets and messages of a recording.
 fn show_packets<'a, R: Files + AllocGlobal + Print + Clock, E: Eprint + IsTerminal>(
     rt: &R,
     errors: &E,
     request: &Packets<'a>,
 ) -> Result<(), Fault<'a>> {
-    let (recording, skip, times) = (request.recording, request.skip, request.times);
-    if is_large(rt, recording) {
-        return dump_large(rt, errors, recording, skip, times);
-    }
-    let bytes = read_whole(rt, recording)?;
+    let source = Source::of(rt, errors, request.recording)?;
+    let recording = source.recording(request.skip, true);
     let mut out = Listing::ending(io::writer(rt));
-    let printed = if times {
-        dump_with_times(rt.alloc(), bytes.as_slice(), &mut out, skip)
+    let printed = if request.skip {
+        print_sound(&recording, request.times, &mut out)
     } else {
-        dump(rt.alloc(), bytes.as_slice(), &mut out, skip)
+        print_whole(&recording, request.times, &mut out)
     };
-    match printed {
-        Ok(()) => {
-            if times {
-                tell_of_unread_in(rt, errors, recording, bytes.as_slice(), skip);
-            }
-            tell_of_loss(rt, errors, bytes.as_slice());
-            Ok(())
-        }
-        Err(fault) => unless_gone(out.is_gone(), Err(fault_of_dump(recording, fault, false))),
-    }
-}
-
-/// Prints a recording in two passes over it, with times of day where they are asked for: nothing where the first
-/// refuses it. With `skip` what is sound of it is printed in one pass, and its times come from one before it. Where the
-/// reader of what is printed goes away, the rest is not read.
-fn dump_large<'a, R: Files + AllocGlobal + Print + Clock, E: Eprint + IsTerminal>(
-    rt: &R,
-    errors: &E,
-    name: &'a str,
-    skip: bool,
-    times: bool,
-) -> Result<(), Fault<'a>> {
-    let watch = Watch::begin(rt, errors, name);
-    let mut out = Listing::ending(io::writer(rt));
-    let printed = if skip {
-        dump_sound(rt, name, &watch, times, &mut out)
-    } else {
-        dump_watched(rt, name, &watch, times, &mut out)
-    };
-    watch.end();
+    source.end();
     let told = match printed {
         Ok(unread) => {
-            tell_of_unread(errors, name, unread);
-            tell_of_large_loss(rt, errors, name);
+            tell_of_unread(errors, request.recording, unread);
+            if request.times.asked {
+                let stamps = recording.stamps_unseen()?;
+                tell_of_unknown(errors, request.recording, &stamps);
+            }
+            tell_of_loss(errors, &recording);
             Ok(())
         }
         Err(fault) => Err(fault),
@@ -177,50 +150,38 @@ fn dump_large<'a, R: Files + AllocGlobal + Print + Clock, E: Eprint + IsTerminal
     unless_gone(out.is_gone(), told)
 }
 
-/// Prints what is sound of a recording while it is watched; answers whether times of day are asked for and it has time
-/// packets of which none can be read.
-fn dump_sound<'a, R: Files + AllocGlobal + Clock, E: Eprint + IsTerminal, W: Write>(
-    rt: &R,
-    name: &'a str,
-    watch: &Watch<'_, R, E>,
-    times: bool,
+/// Prints a recording in two passes over it: nothing where the first refuses it. Where the reader of what is printed
+/// goes away, the rest is not read. Answers whether times of day are asked for and it has time packets of which none
+/// can be read.
+fn print_whole<'a, R: Files + AllocGlobal + Clock, E: Eprint + IsTerminal, W: Write>(
+    recording: &Recording<'_, 'a, R, E>,
+    times: Times,
     out: &mut W,
 ) -> Result<bool, Fault<'a>> {
-    let read = clock_of_large(rt, name, watch, true, times)?;
-    dump_sound_watched(rt, name, watch, &read.clock, out)?;
-    Ok(read.unread)
-}
-
-/// Prints a recording that is opened twice, while it is watched; answers as `dump_sound` does.
-fn dump_watched<'a, R: Files + AllocGlobal + Clock, E: Eprint + IsTerminal, W: Write>(
-    rt: &R,
-    name: &'a str,
-    watch: &Watch<'_, R, E>,
-    times: bool,
-    out: &mut W,
-) -> Result<bool, Fault<'a>> {
-    let first = open_watched(rt, name, watch, true)?;
-    let second = open_watched(rt, name, watch, !prints_to_terminal(rt))?;
-    let printed = if times {
-        dump_with_times_in_two_passes(rt.alloc(), first, second, out)
+    let alloc = recording.alloc();
+    let first = recording.begin_reading()?;
+    let second = recording.begin_printing()?;
+    let printed = if times.asked {
+        dump_with_times(alloc, first, second, times.channel, out)
     } else {
-        match dump_in_two_passes(rt.alloc(), first, second, out) {
+        match dump(alloc, first, second, out) {
             Ok(()) => Ok(false),
             Err(fault) => Err(fault),
         }
     };
-    answer_of_watched(name, watch, printed)
+    recording.printed(printed)
 }
 
-/// Prints what is sound of a recording that is watched, with the times of day of this clock.
-fn dump_sound_watched<'a, R: Files + AllocGlobal + Clock, E: Eprint + IsTerminal, W: Write>(
-    rt: &R,
-    name: &'a str,
-    watch: &Watch<'_, R, E>,
-    clock: &RecordingClock,
+/// Prints what is sound of a recording in one pass; its times of day come from one before it. Answers as `print_whole`
+/// does.
+fn print_sound<'a, R: Files + AllocGlobal + Clock, E: Eprint + IsTerminal, W: Write>(
+    recording: &Recording<'_, 'a, R, E>,
+    times: Times,
     out: &mut W,
-) -> Result<(), Fault<'a>> {
-    let file = open_watched(rt, name, watch, !prints_to_terminal(rt))?;
-    let printed = dump_skipping_from(rt.alloc(), file, clock, out);
-    answer_of_watched(name, watch, printed)
+) -> Result<bool, Fault<'a>> {
+    let read = recording.clock(times)?;
+    let bytes = recording.begin_printing()?;
+    let printed = dump_skipping(recording.alloc(), bytes, &read.clock, times.asked, out);
+    recording.printed(printed)?;
+    Ok(read.unread)
 }

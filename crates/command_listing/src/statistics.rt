@@ -1,21 +1,19 @@
 //! `bench stat`: the figures of a recording.
 
-use bench_clock::{Clock as RecordingClock, ReadClock};
-use bench_requests::{Fault, is_large, read_whole};
+use bench_clock::ReadClock;
+use bench_names::ChannelNames;
+use bench_requests::Fault;
 use bench_select::Selection;
 use bench_stat::{
-    ChannelFigures, Indexed, Shown, Tells, ToldChannels, print_page, print_tables, stat, stat_from,
-    told_from,
+    ChannelFigures, KindFigures, Shown, ToldChannels, print_kinds, print_page, print_tables,
+    read_kinds, stat, told_channels,
 };
-use bench_watch::Watch;
-use ch11_reader::Index;
 use clap::{ArgMatches, Command};
-use command_parts::large::{answer_of_reading, clock_of_large, tell_of_large_loss};
-use command_parts::looking::{clock_if, index_of, tell_of_loss, tell_of_unread};
-use command_parts::options::{argument, choice, command_of, flag};
+use command_parts::looking::{tell_of_loss, tell_of_unknown, tell_of_unread};
+use command_parts::options::{argument, choice, command_of, flag, time_channel};
+use command_parts::recordings::{Recording, Source, Times};
 use command_parts::selecting::{GivenSelection, given_selection, selection_in, selection_options};
 use command_parts::streams::{listing, on_stream, printed};
-use command_parts::watching::open_watched;
 use std::alloc::{AllocError, Global};
 use std::io;
 use std::io::{BufWriter, IsTerminal, Write};
@@ -29,8 +27,9 @@ its retries, and its terminals with their commands and response times. --channel
 --to count in some messages alone, chosen as by bench dump.
 
 With --time a line behind the span tells the times of day (UTC) of the channel's first and last message, as bench dump
---time has them; a channel for which the recording's time packets tell none has no such line. With --csv each row of a
-terminal or a subaddress ends with the two times of its channel, in columns first_time and last_time.
+--time has them; a channel for which neither its stamps nor the recording's time packets tell them has no such line.
+With --csv each row of a terminal or a subaddress ends with the two times of its channel, in columns first_time and
+last_time.
 
 Example:
   bench stat flight.ch11
@@ -40,7 +39,7 @@ Example:
 /// The command line of `bench stat`.
 pub fn command<'a>(alloc: Global) -> Result<Command<'a>, AllocError> {
     let about = "Shows bus load, errors, retries and response times of a recording";
-    let long = "Shows messages that are missing, rates, gaps and status bits too";
+    let long = "Shows messages that are missing, rates, gaps, status bits and packets by type too";
     let by = "One row a terminal, or one a terminal, direction and subaddress";
     let time = "Shows the times of day of each channel's first and last message";
     let rows = [
@@ -49,6 +48,7 @@ pub fn command<'a>(alloc: Global) -> Result<Command<'a>, AllocError> {
         choice("by", "WHAT", &["terminal", "subaddress"], by),
         flag("load", "Shows the bus load over time, in twenty slices"),
         flag("time", time),
+        time_channel().only_with("time"),
     ];
     let arguments = [argument("RECORDING", "The Chapter 11 file to count in")];
     let selection = selection_options();
@@ -72,6 +72,18 @@ pub struct Request<'a> {
     pub rows: bool,
     /// What more is shown.
     pub shown: Shown,
+    /// The channel whose time packets tell times of day; all where none is named.
+    pub time_channel: Option<u16>,
+}
+
+impl Request<'_> {
+    /// The times of day that are asked for.
+    fn times(&self) -> Times {
+        Times {
+            asked: self.shown.time,
+            channel: self.time_channel,
+        }
+    }
 }
 
 /// What a command line asks of `bench stat`.
@@ -86,114 +98,92 @@ pub fn request_in<'a>(given: &ArgMatches<'a>) -> Request<'a> {
             load: given.get_flag("load"),
             time: given.get_flag("time"),
         },
+        time_channel: given.get_one::<u16>("time-channel"),
     }
 }
 
 /// Prints the figures of a recording, aligned for people or as rows of comma-separated values. Where a selection has no
-/// messages, it says so and ends with the status of a refused input. A recording of more than 64 MiB is read packet by
-/// packet.
+/// messages, it says so and ends with the status of a refused input. Nothing is printed in front of the last pass over
+/// the recording that it takes.
 pub fn run<'a, R: Files + AllocGlobal + Print + Clock, E: Eprint + IsTerminal>(
     rt: &R,
     errors: &E,
     request: &Request<'a>,
 ) -> Result<(), Fault<'a>> {
     let selection = selection_in(&request.selection)?;
-    if is_large(rt, request.recording) {
-        return show_large(rt, errors, request, &selection);
-    }
-    let bytes = read_whole(rt, request.recording)?;
-    let index = index_of(rt.alloc(), bytes.as_slice(), false)?;
-    let figures = match stat(rt.alloc(), &index, &selection) {
-        Ok(figures) => figures,
-        Err(_) => return Err(Fault::Memory),
-    };
-    if selection != Selection::all() && counts_nothing(figures.as_slice()) {
-        return Err(Fault::NoneSelected);
-    }
-    let read = clock_if(rt.alloc(), bytes.as_slice(), &index, request.shown.time)?;
-    print_indexed(
-        rt,
-        &index,
-        &selection,
-        &read.clock,
-        figures.as_slice(),
-        request,
-    )?;
-    tell_of_unread(errors, request.recording, read.unread);
-    tell_of_loss(rt, errors, bytes.as_slice());
+    let source = Source::of(rt, errors, request.recording)?;
+    let recording = source.recording(false, true);
+    let stamps = recording.stamps(true)?;
+    let selection = selection.counting_from(stamps.origins.as_slice());
+    let counted = count(&recording, request, &selection);
+    source.end();
+    tell_of_unknown(errors, request.recording, &stamps);
+    let counted = counted?;
+    print_counted(rt, &counted, request)?;
+    tell_of_unread(errors, request.recording, counted.times.unread);
+    tell_of_loss(errors, &recording);
     Ok(())
 }
 
-/// What is printed of a recording that is not kept.
+/// What is printed of a recording.
 #[derive(Drop)]
 struct Counted {
     figures: Vec<ChannelFigures>,
     told: ToldChannels,
     times: ReadClock,
+    front: Vec<u8>,
+    kinds: Vec<KindFigures>,
 }
 
-/// The same for a recording that is read packet by packet. Nothing is printed in front of the last pass that it takes.
-fn show_large<'a, R: Files + AllocGlobal + Print + Clock, E: Eprint + IsTerminal>(
-    rt: &R,
-    errors: &E,
+/// The figures of a recording, and in further passes times of day and what more is shown.
+fn count<'a, R: Files + AllocGlobal + Clock, E: Eprint + IsTerminal>(
+    recording: &Recording<'_, 'a, R, E>,
     request: &Request<'a>,
-    selection: &Selection,
-) -> Result<(), Fault<'a>> {
-    let watch = Watch::begin(rt, errors, request.recording);
-    let counted = count_watched(rt, request, &watch, selection);
-    watch.end();
-    let counted = counted?;
-    print_counted(rt, &counted, request)?;
-    tell_of_unread(errors, request.recording, counted.times.unread);
-    tell_of_large_loss(rt, errors, request.recording);
-    Ok(())
-}
-
-/// The figures of a recording that is watched, and in further passes times of day and what more is shown.
-fn count_watched<'a, R: Files + AllocGlobal + Clock, E: Eprint + IsTerminal>(
-    rt: &R,
-    request: &Request<'a>,
-    watch: &Watch<'_, R, E>,
     selection: &Selection,
 ) -> Result<Counted, Fault<'a>> {
-    let figures = figures_watched(rt, request.recording, watch, selection)?;
-    if *selection != Selection::all() && counts_nothing(figures.as_slice()) {
+    let bytes = recording.begin_reading()?;
+    let figures = recording.answer(stat(recording.alloc(), bytes, selection))?;
+    if !selection.is_all() && counts_nothing(figures.as_slice()) {
         return Err(Fault::NoneSelected);
     }
-    let times = clock_of_large(rt, request.recording, watch, false, request.shown.time)?;
-    let told = told_watched(rt, request, watch, selection, figures.as_slice())?;
+    let times = recording.clock(request.times())?;
+    let told = told_of(recording, request, selection, figures.as_slice())?;
+    let kinds = kinds_of(recording, request)?;
     Ok(Counted {
         figures,
         told,
         times,
+        front: recording.front()?,
+        kinds,
     })
 }
 
-/// What more is shown of a recording that is watched.
-fn told_watched<'a, R: Files + AllocGlobal + Clock, E: Eprint + IsTerminal>(
-    rt: &R,
+/// What more is shown of a recording.
+fn told_of<'a, R: Files + AllocGlobal + Clock, E: Eprint + IsTerminal>(
+    recording: &Recording<'_, 'a, R, E>,
     request: &Request<'a>,
-    watch: &Watch<'_, R, E>,
     selection: &Selection,
     figures: &[ChannelFigures],
 ) -> Result<ToldChannels, Fault<'a>> {
+    let alloc = recording.alloc();
     if !request.shown.needs_more() {
-        return Ok(ToldChannels::new(rt.alloc()));
+        return Ok(ToldChannels::new(alloc));
     }
-    let file = open_watched(rt, request.recording, watch, true)?;
-    let told = told_from(rt.alloc(), file, selection, figures, &request.shown);
-    answer_of_reading(request.recording, told)
+    let bytes = recording.begin_reading()?;
+    let told = told_channels(alloc, bytes, selection, figures, &request.shown);
+    recording.answer(told)
 }
 
-/// The figures of a recording that is watched.
-fn figures_watched<'a, R: Files + AllocGlobal + Clock, E: Eprint + IsTerminal>(
-    rt: &R,
-    name: &'a str,
-    watch: &Watch<'_, R, E>,
-    selection: &Selection,
-) -> Result<Vec<ChannelFigures>, Fault<'a>> {
-    let file = open_watched(rt, name, watch, true)?;
-    answer_of_reading(name, stat_from(rt.alloc(), file, selection))
+/// The packets of a recording by their type, where more is shown.
+fn kinds_of<'a, R: Files + AllocGlobal + Clock, E: Eprint + IsTerminal>(
+    recording: &Recording<'_, 'a, R, E>,
+    request: &Request<'a>,
+) -> Result<Vec<KindFigures>, Fault<'a>> {
+    if !request.shown.long {
+        return Ok(Vec::new(recording.alloc()));
+    }
+    let bytes = recording.begin_reading()?;
+    recording.answer(read_kinds(recording.alloc(), bytes))
 }
 
 /// Whether no message was counted.
@@ -201,46 +191,33 @@ fn counts_nothing(figures: &[ChannelFigures]) -> bool {
     figures.iter().all(|channel| channel.traffic.messages == 0)
 }
 
-/// Prints the figures of an index.
-fn print_indexed<'a, R: AllocGlobal + Print>(
-    rt: &R,
-    index: &Index<'_>,
-    selection: &Selection,
-    clock: &RecordingClock,
-    figures: &[ChannelFigures],
-    request: &Request<'a>,
-) -> Result<(), Fault<'a>> {
-    let mut out = on_stream("-", BufWriter::new(rt.alloc(), listing(rt)))?;
-    let told = Indexed { index, selection };
-    let answer = print_figures(rt.alloc(), &mut out, &told, clock, figures, request);
-    printed(answer, &mut out)
-}
-
-/// Prints the figures of a recording that is not kept.
+/// Prints the figures of a recording.
 fn print_counted<'a, R: AllocGlobal + Print>(
     rt: &R,
     counted: &Counted,
     request: &Request<'a>,
 ) -> Result<(), Fault<'a>> {
     let mut out = on_stream("-", BufWriter::new(rt.alloc(), listing(rt)))?;
-    let (told, clock) = (&counted.told, &counted.times.clock);
-    let figures = counted.figures.as_slice();
-    let answer = print_figures(rt.alloc(), &mut out, told, clock, figures, request);
+    let answer = print_figures(&mut out, counted, request);
     printed(answer, &mut out)
 }
 
 /// Prints figures, and what is told beside them, as rows or as a page.
-fn print_figures<W: Write, T: Tells>(
-    alloc: Global,
+fn print_figures<W: Write>(
     out: &mut W,
-    told: &T,
-    clock: &RecordingClock,
-    figures: &[ChannelFigures],
+    counted: &Counted,
     request: &Request<'_>,
 ) -> Result<(), WriteFault> {
+    let (told, figures) = (&counted.told, counted.figures.as_slice());
+    let (shown, clock) = (&request.shown, &counted.times.clock);
     if request.rows {
-        print_tables(alloc, out, told, figures, &request.shown, clock)
+        print_tables(out, told, figures, shown, clock)?;
     } else {
-        print_page(alloc, out, told, figures, &request.shown, clock)
+        let names = ChannelNames::of(counted.front.as_slice());
+        print_page(out, told, figures, shown, clock, &names)?;
     }
+    if shown.long {
+        print_kinds(out, counted.kinds.as_slice(), request.rows)?;
+    }
+    Ok(())
 }

@@ -49,7 +49,7 @@ impl<'a> Extract<'a> {
         &self,
         rt: &R,
         kind: Kind,
-    ) -> Result<Selection, Fault<'a>> {
+    ) -> Result<Selection<'static>, Fault<'a>> {
         let selection = selection_in(&self.selection)?;
         may_write(rt, self.out, kind, self.force, &[self.recording])?;
         Ok(selection)

@@ -1,18 +1,18 @@
 //! What the commands of `bench` share: the tables of their options, the choice of messages, recordings that are read
-//! whole or pass by pass, files that take their place once they are whole, and where they print.
+//! pass by pass, files that take their place once they are whole, and where they print.
 //!
-//! It may know: words, requests, files, the reader, the packets of a stream with `ch11_check`, times, watched files,
-//! rules, selections, words of a text. It has no tests: each command is tried by `.ci/commands`, and its faults by
+//! It may know: words, requests, files, the packets of a stream with `ch11_check`, times, watched files, rules,
+//! selections, words of a text. It has no tests: each command is tried by `.ci/commands`, and its faults by
 //! `.ci/faults`. It has no wrong bodies.
 #![tactic(auto)]
 
 pub mod context;
 pub mod extracting;
 pub mod hosts;
-pub mod large;
 pub mod looking;
 pub mod options;
+pub mod recordings;
 pub mod replacing;
 pub mod selecting;
 pub mod streams;
-pub mod watching;
+pub mod terminals;

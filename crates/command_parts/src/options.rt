@@ -163,6 +163,12 @@ pub fn channel<'a>(name: &'a str, help: &'a str) -> Row<'a> {
     Row::new(name, Form::Channel, help)
 }
 
+/// The channel whose time packets tell times of day.
+pub fn time_channel<'a>() -> Row<'a> {
+    let help = "The channel whose time packets count, 1 to 65535; all where it is left out";
+    channel("time-channel", help)
+}
+
 /// An option whose number the command judges.
 pub fn number<'a>(name: &'a str, help: &'a str) -> Row<'a> {
     Row::new(name, Form::Number, help)

@@ -81,7 +81,7 @@ pub fn given_selection<'a>(given: &ArgMatches<'a>) -> GivenSelection<'a> {
 }
 
 /// The selection that a command line asks for, or the usage fault of an option that spells none.
-pub fn selection_in<'a>(given: &GivenSelection<'a>) -> Result<Selection, Fault<'a>> {
+pub fn selection_in<'a>(given: &GivenSelection<'a>) -> Result<Selection<'static>, Fault<'a>> {
     Ok(Selection {
         channel: given.channel,
         line: match given.line {
@@ -99,6 +99,7 @@ pub fn selection_in<'a>(given: &GivenSelection<'a>) -> Result<Selection, Fault<'
             given.to,
             "--to takes the number of a message, counted from 1, or a time, as 1.2s, 350ms or 12us",
         )?,
+        origins: &[],
     })
 }
 

@@ -1,20 +1,17 @@
 //! `bench run --judge`: the rules of a run, read before it begins, and the verdicts on what it recorded.
 
 use bench_files::leads_to_output;
-use bench_judge::{PrintFault, RuleVerdict, write_verdicts};
+use bench_judge::{PassFault, RuleVerdict, write_verdicts};
 use bench_requests::{Fault, RunRequest, read_whole, rules_of, verdict_on};
-use ch11_reader::Index;
-use command_judge::judged::{Judged, Spelled};
-use command_judge::judging::{fault_of_printing, print_verdicts};
+use command_judge::judging::{Spelled, fault_of_pass, print_verdicts};
 use command_parts::hosts::System;
-use command_parts::looking::index_of;
 use command_parts::options::{Row, value};
+use command_parts::recordings::{Recording, Source};
 use judge_rules::Rule;
-use std::alloc::Global;
 use std::fs;
 use std::io::{self, BufWriter, IsTerminal, Write};
 use std::os::unix::fs::FileTypeExt;
-use std::rt::Files;
+use std::rt::{Clock, Files};
 
 /// The rules of a run, and the text that spells them.
 #[derive(Drop)]
@@ -84,15 +81,15 @@ impl<E: Eprint> Write for ErrorStream<'_, E> {
     }
 }
 
-/// Judges by rules and tells the verdicts on the error stream, as plain lines.
-fn tell_verdicts<E: Eprint>(
-    alloc: Global,
+/// Judges a recording by rules and tells the verdicts on the error stream, as plain lines.
+fn tell_verdicts<R: Files + AllocGlobal + Clock, E: Eprint + IsTerminal>(
     errors: &E,
-    index: &Index<'_>,
+    recording: &Recording<'_, '_, R, E>,
     rules: &[Rule],
-) -> Result<Vec<RuleVerdict>, PrintFault> {
+) -> Result<Vec<RuleVerdict>, PassFault> {
+    let alloc = recording.alloc();
     let mut out = BufWriter::new(alloc, ErrorStream { errors })?;
-    write_verdicts(alloc, index, rules, &mut out)
+    write_verdicts(alloc, recording, rules, &mut out)
 }
 
 /// Judges what a run recorded, and prints the verdicts where its counts went. Where a rule is not held it ends with a
@@ -103,18 +100,27 @@ pub(crate) fn judge_run<'a, R: System, E: Eprint + IsTerminal>(
     request: &RunRequest<'a>,
     given: &RunRules,
 ) -> Result<(), Fault<'a>> {
-    let bytes = read_whole(rt, request.out)?;
-    let index = index_of(rt.alloc(), bytes.as_slice(), false)?;
+    let source = Source::of(rt, errors, request.out)?;
+    let judged = judge_recorded(rt, errors, request, given, &source.recording(false, true));
+    source.end();
+    verdict_on(judged?.as_slice())
+}
+
+/// The verdicts on what a run recorded, which are printed.
+fn judge_recorded<'a, R: System, E: Eprint + IsTerminal>(
+    rt: &R,
+    errors: &E,
+    request: &RunRequest<'a>,
+    given: &RunRules,
+    recording: &Recording<'_, 'a, R, E>,
+) -> Result<Vec<RuleVerdict>, Fault<'a>> {
     let rules = given.rules.as_slice();
-    let verdicts = if leads_to_output(rt, request.report) {
-        match tell_verdicts(rt.alloc(), errors, &index, rules) {
-            Ok(verdicts) => verdicts,
-            Err(fault) => return Err(fault_of_printing(fault)),
-        }
-    } else {
-        let judged: Judged<'_, R, E> = Judged::Whole(&index);
+    if !leads_to_output(rt, request.report) {
         let text = given.text.as_slice();
-        print_verdicts(rt, request.out, &judged, Spelled { text, rules })?
-    };
-    verdict_on(verdicts.as_slice())
+        return print_verdicts(rt, request.out, recording, Spelled { text, rules });
+    }
+    match tell_verdicts(errors, recording, rules) {
+        Ok(verdicts) => Ok(verdicts),
+        Err(fault) => Err(fault_of_pass(request.out, fault)),
+    }
 }

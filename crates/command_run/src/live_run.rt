@@ -16,7 +16,7 @@ use ch11_writer::Sink;
 use clap::ArgMatches;
 use command_parts::hosts::{Errors, Host};
 use command_parts::options::{Row, flag, value};
-use command_parts::watching::is_for_people;
+use command_parts::terminals::is_for_people;
 use job_file::Job;
 use std::alloc::{AllocError, Global};
 use std::io::BufReader;

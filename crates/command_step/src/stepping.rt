@@ -4,11 +4,11 @@ use bench_reasons::Explained;
 use bench_report::{Report, ReportError, ReportFault, read_report};
 use bench_requests::{Fault, Listing, jobs_of, read_texts, read_whole, unless_gone};
 use bench_step::{Prompted, step};
-use ch11_check::check_from;
+use ch11_check::check;
 use clap::{ArgMatches, Command};
 use command_parts::context::Context;
-use command_parts::large::answer_of_reading;
 use command_parts::options::{argument, arguments, command_of, words_in};
+use command_parts::recordings::answer_of_reading;
 use command_parts::streams::on_stream;
 use job_file::Job;
 use std::alloc::{AllocError, Global};
@@ -105,7 +105,7 @@ fn step_read<'a, R: AllocGlobal + Input<Reader: IsTerminal> + Print, E: Eprint +
 
 /// A recording is judged before the report and the jobs are, by a pass that keeps nothing of it.
 fn judge_recording<'a>(alloc: Global, name: &'a str, recording: &[u8]) -> Result<(), Fault<'a>> {
-    answer_of_reading(name, check_from(alloc, recording))
+    answer_of_reading(name, check(alloc, recording))
 }
 
 fn judge_report<'a>(alloc: Global, text: &[u8]) -> Result<Report, Fault<'a>> {

@@ -8,6 +8,7 @@ pub(crate) mod equal;
 mod explanations;
 mod exports;
 pub(crate) mod made;
+mod names;
 mod pages;
 mod pictures;
 mod seconds;

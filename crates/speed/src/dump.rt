@@ -3,7 +3,8 @@
 //! many messages there are, and how many bytes the dump has.
 use crate::watch::Watch;
 use crate::words::file;
-use bench_dump::dump;
+use bench_clock::Clock;
+use bench_dump::{dump, dump_skipping};
 use ch11_reader::Index;
 use std::io::{self, Write};
 
@@ -37,8 +38,12 @@ fn messages_in(watch: &Watch<'_>, bytes: &[u8]) -> u64 {
 
 /// How many bytes a dump has.
 fn dumped(watch: &Watch<'_>, bytes: &[u8], skips: bool) -> u64 {
-    let mut counter = Counter { bytes: 0 };
-    let _ = dump(watch.rt.alloc(), bytes, &mut counter, skips);
+    let (alloc, mut counter) = (watch.rt.alloc(), Counter { bytes: 0 });
+    let _ = if skips {
+        dump_skipping(alloc, bytes, &Clock::unset(alloc), false, &mut counter)
+    } else {
+        dump(alloc, bytes, bytes, &mut counter)
+    };
     counter.bytes
 }
 

@@ -40,11 +40,11 @@ bz wB1\nbz kB1\nbz tB1\nbz mB1\n0eB1\n\
 $end\n\
 b10100000100011 wA1\nb1 kA1\nb101 tA1\nb1 mA1\n\
 #200\n\
-b1 wA1\nb10 kA1\nb101 tA1\nb1 mA1\n\
+b1 wA1\nb10 kA1\n\
 #400\n\
-b10 wA1\nb10 kA1\nb101 tA1\nb1 mA1\n\
+b10 wA1\n\
 #600\n\
-b11 wA1\nb10 kA1\nb101 tA1\nb1 mA1\n\
+b11 wA1\n\
 #800\n\
 bz wA1\nbz kA1\nbz tA1\nbz mA1\n\
 #860\n\

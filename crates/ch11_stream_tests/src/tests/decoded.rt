@@ -1,9 +1,9 @@
-//! Messages printed as packets come from a reader, against what is printed of all bytes.
+//! Messages printed as packets come from a reader, against what is printed of bytes in memory.
 
 use crate::tests::equal::{are_bytes, same, wrote};
 use crate::tests::streamed::{damaged, failing, pair, refusal};
 use crate::tests::streams::{Slow, reader_of};
-use bench_decode::{Output, Shown, decode, decode_from};
+use bench_decode::{Output, Shown, decode};
 use bench_select::Selection;
 use ch11_stream::StreamFault;
 use std::alloc::Global;
@@ -21,7 +21,7 @@ const ERROR_LINES: &str =
 ";
 
 /// The messages, or those with an error, as people read them or as a dump has them.
-fn output_of(errors: bool, decoded: bool) -> Output {
+fn output_of(errors: bool, decoded: bool) -> Output<'static> {
     let mut selection = Selection::all();
     selection.errors = errors;
     Output {
@@ -29,14 +29,13 @@ fn output_of(errors: bool, decoded: bool) -> Output {
         decoded,
         shown: Shown::Plain,
         skip: false,
-        by_time: false,
     }
 }
 
 /// What is printed of a reader's file, and of how many messages or why not.
 fn printed(alloc: Global, input: Slow<'_>, output: &Output) -> (Result<u64, StreamFault>, Vec<u8>) {
     let mut out = Vec::new(alloc);
-    let answer = decode_from(alloc, input, &mut out, output);
+    let answer = decode(alloc, input, &mut out, output);
     (answer, out)
 }
 
@@ -57,7 +56,11 @@ fn lines_come_from_packets(rt: HostRuntime) {
 fn is_decoded_alike(rt: &impl Abort, alloc: Global, output: &Output, count: u64) {
     let file = pair();
     let mut wanted = Vec::new(alloc);
-    same(rt, &decode(alloc, &file, &mut wanted, output), &Ok(count));
+    same(
+        rt,
+        &decode(alloc, file.as_slice(), &mut wanted, output),
+        &Ok(count),
+    );
     let (answer, out) = printed(alloc, reader_of(&file, 1), output);
     same(rt, &answer, &Ok(count));
     are_bytes(rt, &out, &wanted);

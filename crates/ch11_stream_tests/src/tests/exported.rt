@@ -4,7 +4,7 @@ use crate::tests::equal::{are_bytes, same};
 use crate::tests::streamed::{damaged, failing, pair, refusal};
 use crate::tests::streams::{Slow, reader_of};
 use bench_clock::Clock;
-use bench_export::{Columns, ExportFromFault, Exported, Table, export_from};
+use bench_export::{Columns, ExportFault, Exported, Table, export, selects_any};
 use bench_select::{Bound, Selection};
 use ch11_stream::StreamFault;
 use std::alloc::Global;
@@ -55,7 +55,7 @@ impl Write for Full {
 }
 
 /// The rows of these messages.
-fn table_of(selection: Selection) -> Table {
+fn table_of(selection: Selection<'static>) -> Table<'static> {
     Table {
         columns: Columns::Messages,
         timed: false,
@@ -65,14 +65,13 @@ fn table_of(selection: Selection) -> Table {
 
 /// What of a reader's file is exported to a writer.
 fn exported<W: Write + Drop>(
-    rt: &impl Abort,
     alloc: Global,
     input: Slow<'_>,
     table: &Table,
     out: W,
-) -> Result<Exported<W>, ExportFromFault> {
-    let clock = Clock::of(alloc, &[], &[]).ok().expect(rt, "memory");
-    export_from(alloc, input, table, &clock, out)
+) -> Result<Exported<W>, ExportFault> {
+    let clock = Clock::unset(alloc);
+    export(alloc, input, table, &clock, out)
 }
 
 /// A file has these rows, and a selected message or none.
@@ -84,16 +83,16 @@ fn has_rows(
     wanted: &str,
     selected: bool,
 ) {
-    let found = exported(rt, alloc, reader_of(file, 1), table, Vec::new(alloc));
+    let found = exported(alloc, reader_of(file, 1), table, Vec::new(alloc));
     let exported = found.ok().expect(rt, "rows");
     are_bytes(rt, &exported.out, wanted.as_bytes());
     same(rt, &exported.selected, &selected);
 }
 
 /// The fault of an export of all messages of a reader's file.
-fn fails(rt: &impl Abort, alloc: Global, input: Slow<'_>, wanted: ExportFromFault) {
+fn fails(rt: &impl Abort, alloc: Global, input: Slow<'_>, wanted: ExportFault) {
     let table = table_of(Selection::all());
-    let found = exported(rt, alloc, input, &table, Vec::new(alloc));
+    let found = exported(alloc, input, &table, Vec::new(alloc));
     same(rt, &found.err(), &Some(wanted));
 }
 
@@ -134,17 +133,46 @@ fn no_message_is_selected(rt: HostRuntime) {
 
 #[test]
 fn a_damaged_file_is_refused(rt: HostRuntime) {
-    let refused = ExportFromFault::Reading(StreamFault::Refused(refusal()));
+    let refused = ExportFault::Reading(StreamFault::Refused(refusal()));
     fails(&rt, rt.alloc(), reader_of(&damaged(), 1), refused);
 }
 
 #[test]
 fn a_failing_reader_and_a_failing_writer_are_told_apart(rt: HostRuntime) {
-    let read = ExportFromFault::Reading(StreamFault::Device);
+    let read = ExportFault::Reading(StreamFault::Device);
     fails(&rt, rt.alloc(), failing(&pair(), 100), read);
     let table = table_of(Selection::all());
     let file = pair();
-    let found = exported(&rt, rt.alloc(), reader_of(&file, 7), &table, Full);
-    let written = ExportFromFault::Writing(WriteFault::Device);
+    let found = exported(rt.alloc(), reader_of(&file, 7), &table, Full);
+    let written = ExportFault::Writing(WriteFault::Device);
     same(&rt, &found.err(), &Some(written));
+}
+
+/// Whether a reader's file has a selected message.
+fn selects(alloc: Global, input: Slow<'_>, channel: u16) -> Result<bool, StreamFault> {
+    let selection = Selection {
+        channel: Some(channel),
+        ..Selection::all()
+    };
+    selects_any(alloc, input, &selection)
+}
+
+/// A file is read to its end also where its first message is selected.
+#[test]
+fn a_selected_message_is_looked_for(rt: HostRuntime) {
+    let (file, broken) = (pair(), damaged());
+    same(&rt, &selects(rt.alloc(), reader_of(&file, 1), 1), &Ok(true));
+    same(
+        &rt,
+        &selects(rt.alloc(), reader_of(&file, 7), 2),
+        &Ok(false),
+    );
+    let refused = Err(StreamFault::Refused(refusal()));
+    same(
+        &rt,
+        &selects(rt.alloc(), reader_of(&broken, 1), 1),
+        &refused,
+    );
+    let failed = Err(StreamFault::Device);
+    same(&rt, &selects(rt.alloc(), failing(&file, 100), 1), &failed);
 }

@@ -4,8 +4,11 @@ use crate::tests::equal::{are_bytes, same};
 use crate::tests::streamed::{damaged, pair, pair_figures, refusal};
 use crate::tests::streams::reader_of;
 use bench_clock::Clock;
+use bench_names::ChannelNames;
 use bench_select::Selection;
-use bench_stat::{Flow, Losses, Shown, Slice, ToldChannels, print_page, print_tables, told_from};
+use bench_stat::{
+    Flow, Losses, Shown, Slice, ToldChannels, print_page, print_tables, told_channels,
+};
 use ch11_stream::StreamFault;
 use std::alloc::Global;
 use std::process::Abort;
@@ -98,7 +101,7 @@ fn of_pair() -> Flow {
 fn told_of(rt: &impl Abort, alloc: Global, shown: &Shown) -> ToldChannels {
     let file = lossy();
     let all = Selection::all();
-    let found = told_from(alloc, reader_of(&file, 7), &all, &[pair_figures()], shown);
+    let found = told_channels(alloc, reader_of(&file, 7), &all, &[pair_figures()], shown);
     found.ok().expect(rt, "a sound file")
 }
 
@@ -150,7 +153,7 @@ fn what_is_not_shown_is_not_told(rt: HostRuntime) {
 fn nothing_is_told_of_a_damaged_file(rt: HostRuntime) {
     let file = damaged();
     let all = Selection::all();
-    let found = told_from(
+    let found = told_channels(
         rt.alloc(),
         reader_of(&file, 1),
         &all,
@@ -162,14 +165,21 @@ fn nothing_is_told_of_a_damaged_file(rt: HostRuntime) {
 
 /// What is told of the lossy pair, as tables or on a page, is printed so.
 fn is_printed(rt: &impl Abort, alloc: Global, as_tables: bool, shown: &Shown, text: &str) {
-    let clock = Clock::of(alloc, &[], &[]).ok().expect(rt, "memory");
+    let clock = Clock::unset(alloc);
     let figures = [pair_figures()];
     let told = told_of(rt, alloc, shown);
     let mut out = Vec::new(alloc);
     let printed = if as_tables {
-        print_tables(alloc, &mut out, &told, &figures, shown, &clock)
+        print_tables(&mut out, &told, &figures, shown, &clock)
     } else {
-        print_page(alloc, &mut out, &told, &figures, shown, &clock)
+        print_page(
+            &mut out,
+            &told,
+            &figures,
+            shown,
+            &clock,
+            &ChannelNames::of(&[]),
+        )
     };
     same(rt, &printed.is_ok(), &true);
     are_bytes(rt, &out, text.as_bytes());

@@ -5,9 +5,10 @@ use crate::tests::followed::lossy;
 use crate::tests::streamed::{damaged, pair, refusal};
 use crate::tests::streams::{Slow, reader_of};
 use bench_judge::{
-    Lost, Miss, PassFault, RuleVerdict, first_misses_from, judge_from, junit_text_from, lost_from,
-    write_colored_from, write_misses_from, write_verdicts_from,
+    Lost, Miss, PassFault, RuleVerdict, count_lost, first_misses, judge, junit_text, write_colored,
+    write_misses, write_verdicts,
 };
+use bench_names::ChannelNames;
 use bench_watch::Reopen;
 use ch11_stream::StreamFault;
 use judge_rules::{Rule, read_rules};
@@ -96,7 +97,7 @@ fn judged(
 ) -> Result<Vec<RuleVerdict>, PassFault> {
     let rules = rules_of(rt, alloc);
     let mut out = Vec::new(alloc);
-    let found = write_verdicts_from(alloc, recording, rules.as_slice(), &mut out);
+    let found = write_verdicts(alloc, recording, rules.as_slice(), &mut out);
     are_bytes(rt, &out, text.as_bytes());
     found
 }
@@ -154,10 +155,10 @@ fn misses_of_a_rule_come_from_packets(rt: HostRuntime) {
     let rules = rules_of(&rt, alloc);
     let rule = rules.as_slice().first().expect(&rt, "a rule");
     let mut out = Vec::new(alloc);
-    let found = write_misses_from(alloc, reader_of(&pair(), 7), rule, &mut out);
+    let found = write_misses(alloc, reader_of(&pair(), 7), rule, &mut out);
     same(&rt, &found.is_ok(), &true);
     are_bytes(&rt, &out, b"missed 1 message 1 channel 1 stamp 0\n");
-    let found = write_misses_from(alloc, reader_of(&damaged(), 7), rule, &mut out);
+    let found = write_misses(alloc, reader_of(&damaged(), 7), rule, &mut out);
     is_refused(&rt, found);
 }
 
@@ -173,7 +174,7 @@ pub(crate) fn apart() -> [u8; 192] {
 fn apart_verdicts(rt: &impl Abort, alloc: Global) -> (Vec<Rule>, Vec<RuleVerdict>) {
     let rules = read_rules(alloc, APART_RULES).ok().expect(rt, "rules");
     let file = apart();
-    let verdicts = judge_from(alloc, reader_of(&file, 7), rules.as_slice())
+    let verdicts = judge(alloc, reader_of(&file, 7), rules.as_slice())
         .ok()
         .expect(rt, "verdicts");
     (rules, verdicts)
@@ -187,10 +188,10 @@ fn the_first_misses_come_from_packets(rt: HostRuntime) {
     let miss = Miss {
         number: 2,
         channel: 1,
-        stamp: 10_000,
+        stamp: Some(10_000),
     };
     for most in [0, 1, 100] {
-        let found = first_misses_from(alloc, reader_of(&apart(), 7), rule, most);
+        let found = first_misses(alloc, reader_of(&apart(), 7), rule, most);
         let misses = found.ok().expect(&rt, "misses");
         same(&rt, &misses.len(), &most.min(1));
         same(
@@ -199,7 +200,7 @@ fn the_first_misses_come_from_packets(rt: HostRuntime) {
             &(if most == 0 { None } else { Some(miss) }),
         );
     }
-    let found = first_misses_from(alloc, reader_of(&damaged(), 7), rule, 1);
+    let found = first_misses(alloc, reader_of(&damaged(), 7), rule, 1);
     same(&rt, &found.err(), &Some(StreamFault::Refused(refusal())));
 }
 
@@ -211,9 +212,10 @@ fn shown(
 ) -> (Result<(), PassFault>, Vec<u8>) {
     let (rules, verdicts) = apart_verdicts(rt, alloc);
     let mut out = Vec::new(alloc);
-    let answer = write_colored_from(
+    let answer = write_colored(
         alloc,
         recording,
+        ChannelNames::of(&[]),
         APART_RULES,
         rules.as_slice(),
         verdicts.as_slice(),
@@ -240,7 +242,7 @@ fn reported(
     recording: &Changing<'_>,
 ) -> Result<Vec<u8>, PassFault> {
     let (rules, verdicts) = apart_verdicts(rt, alloc);
-    junit_text_from(
+    junit_text(
         alloc,
         recording,
         APART_RULES,
@@ -264,18 +266,18 @@ fn a_report_tells_misses_of_packets(rt: HostRuntime) {
 #[test]
 fn packets_tell_of_messages_that_are_missing(rt: HostRuntime) {
     for (file, overflows) in [(pair(), 0), (lossy(), 1)] {
-        let found = lost_from(rt.alloc(), reader_of(&file, 7));
-        let lost = found.ok().expect(&rt, "a sound file");
+        let found = count_lost(rt.alloc(), reader_of(&file, 7));
+        let told = found.ok().expect(&rt, "a sound file");
         same(
             &rt,
-            &lost,
+            &told,
             &Lost {
                 overflows,
                 jumps: 1,
             },
         );
-        same(&rt, &lost.is_any(), &true);
+        same(&rt, &told.is_any(), &true);
     }
-    let found = lost_from(rt.alloc(), reader_of(&damaged(), 7));
+    let found = count_lost(rt.alloc(), reader_of(&damaged(), 7));
     same(&rt, &found.err(), &Some(StreamFault::Refused(refusal())));
 }

@@ -4,7 +4,7 @@ use crate::tests::equal::{same, wrote};
 use crate::tests::streamed::failing;
 use crate::tests::streams::{Slow, reader_of};
 use bench_clock::Clock;
-use bench_dump::dump_skipping_from;
+use bench_dump::dump_skipping;
 use ch11_header::HeaderError;
 use ch11_reader::{Fault, Index, Packet, Skip};
 use ch11_stream::{StreamFault, Stretch, Stretches};
@@ -51,17 +51,17 @@ fn over_a_packet() -> [u8; 88] {
 }
 
 /// What is printed of a reader's file, and how that ends.
-fn dumped(rt: &impl Abort, alloc: Global, input: Slow<'_>) -> (Result<(), StreamFault>, Vec<u8>) {
-    let clock = Clock::of(alloc, &[], &[]).ok().expect(rt, "memory");
+fn dumped(alloc: Global, input: Slow<'_>) -> (Result<(), StreamFault>, Vec<u8>) {
+    let clock = Clock::unset(alloc);
     let mut out = Vec::new(alloc);
-    let answer = dump_skipping_from(alloc, input, &clock, &mut out);
+    let answer = dump_skipping(alloc, input, &clock, false, &mut out);
     (answer, out)
 }
 
 /// A file is printed so, whether it is given one byte at a time or at once.
 fn is_printed(rt: &impl Abort, alloc: Global, file: &[u8], text: &str) {
     for most in [1, usize::MAX] {
-        let found = dumped(rt, alloc, reader_of(file, most));
+        let found = dumped(alloc, reader_of(file, most));
         wrote(rt, found, Ok(()), text);
     }
 }
@@ -125,7 +125,7 @@ fn a_failing_reader_is_told(rt: HostRuntime) {
     same(&rt, &stretches.next().is_ok(), &true);
     gives(&rt, &mut stretches, Err(StreamFault::Device));
     gives(&rt, &mut stretches, Err(StreamFault::Device));
-    let found = dumped(&rt, rt.alloc(), input);
+    let found = dumped(rt.alloc(), input);
     wrote(&rt, found, Err(StreamFault::Device), "");
 }
 

@@ -2,12 +2,13 @@
 
 use crate::tests::equal::{are, same, wrote};
 use crate::tests::streams::{Slow, reader_of};
-use bench_judge::{RuleVerdict, judge_from};
-use bench_passes::dump_in_two_passes;
+use bench_dump::dump;
+use bench_judge::{RuleVerdict, judge};
 use bench_select::Selection;
-use bench_stat::{ChannelFigures, Errors, Stretches, TerminalFigures, Traffic, stat_from};
-use ch11_check::check_from;
+use bench_stat::{ChannelFigures, Errors, Stretches, TerminalFigures, Traffic, stat};
+use ch11_check::check;
 use ch11_header::HeaderError;
+use ch11_layout::StampKind;
 use ch11_reader::{Fault, Refusal};
 use ch11_stream::StreamFault;
 use judge_rules::read_rules;
@@ -80,6 +81,7 @@ pub(crate) fn pair_figures() -> ChannelFigures {
             messages: 2,
             words: 10,
             busy: 2120,
+            stamps: Some(StampKind::Counter),
             begin: 0,
             last: 10_000,
             end: 11_060,
@@ -106,7 +108,7 @@ pub(crate) fn pair_figures() -> ChannelFigures {
 
 /// The figures of a reader's file, or its fault.
 fn counted(alloc: Global, input: Slow<'_>) -> Result<Vec<ChannelFigures>, StreamFault> {
-    stat_from(alloc, input, &Selection::all())
+    stat(alloc, input, &Selection::all())
 }
 
 /// How many channels of a file have figures.
@@ -165,7 +167,7 @@ fn a_damaged_file_has_no_figures(rt: HostRuntime) {
 fn listed_of(rt: &impl Abort, alloc: Global, channel: u16) -> usize {
     let mut selection = Selection::all();
     selection.channel = Some(channel);
-    let found = stat_from(alloc, reader_of(&pair(), 7), &selection);
+    let found = stat(alloc, reader_of(&pair(), 7), &selection);
     found.ok().expect(rt, "figures").len()
 }
 
@@ -205,7 +207,7 @@ fn judged(
 ) -> Result<Vec<RuleVerdict>, StreamFault> {
     let text = "expect any ok\nexpect any period 1000 1000\n";
     let rules = read_rules(alloc, text.as_bytes()).ok().expect(rt, "rules");
-    judge_from(alloc, input, rules.as_slice())
+    judge(alloc, input, rules.as_slice())
 }
 
 #[test]
@@ -226,18 +228,18 @@ fn a_damaged_file_has_no_verdicts(rt: HostRuntime) {
 #[test]
 fn a_file_is_checked_to_its_end(rt: HostRuntime) {
     let alloc = rt.alloc();
-    same(&rt, &check_from(alloc, reader_of(&pair(), 1)), &Ok(()));
-    same(&rt, &check_from(alloc, reader_of(&[], 1)), &Ok(()));
+    same(&rt, &check(alloc, reader_of(&pair(), 1)), &Ok(()));
+    same(&rt, &check(alloc, reader_of(&[], 1)), &Ok(()));
     let refused = Err(StreamFault::Refused(refusal()));
-    same(&rt, &check_from(alloc, reader_of(&damaged(), 1)), &refused);
+    same(&rt, &check(alloc, reader_of(&damaged(), 1)), &refused);
     let failed = Err(StreamFault::Device);
-    same(&rt, &check_from(alloc, failing(&pair(), 192)), &failed);
+    same(&rt, &check(alloc, failing(&pair(), 192)), &failed);
 }
 
 /// What is printed of two readers' files, and how that ends.
 fn dumped(alloc: Global, first: Slow<'_>, second: Slow<'_>) -> (Result<(), StreamFault>, Vec<u8>) {
     let mut out = Vec::new(alloc);
-    let answer = dump_in_two_passes(alloc, first, second, &mut out);
+    let answer = dump(alloc, first, second, &mut out);
     (answer, out)
 }
 

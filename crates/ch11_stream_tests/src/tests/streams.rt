@@ -219,3 +219,53 @@ fn reads_a_long_file_alike(rt: HostRuntime) {
         is_read_alike(&rt, rt.alloc(), &file, reader_of(&file, most));
     }
 }
+
+/// Packets of PCM data (0x09) without any, one behind the other: the channel of each, its sequence number, and whether
+/// that breaks its channel's sequence.
+const NUMBERED: [(u16, u8, bool); 11] = [
+    (7, 0, false),
+    (65_535, 9, false),
+    (7, 1, false),
+    (300, 255, false),
+    (65_535, 10, false),
+    (300, 0, false),
+    (7, 3, true),
+    (64, 0, false),
+    (65_535, 10, true),
+    (0, 4, false),
+    (64, 255, true),
+];
+
+/// Each channel has a sequence of its own, whatever its number and however high those in front of it are.
+#[test]
+fn sees_jumps_on_any_channel(rt: HostRuntime) {
+    let mut file = Vec::new(rt.alloc());
+    for (channel, sequence, _) in NUMBERED {
+        let header = Header {
+            channel,
+            packet_length: 24,
+            data_length: 0,
+            version: 6,
+            sequence,
+            flags: 0,
+            kind: 0x09,
+            counter: 0,
+        };
+        file.extend_from_slice(&write_header(&header))
+            .expect(&rt, "memory");
+    }
+    let mut packets = Packets::over(rt.alloc(), file.as_slice())
+        .ok()
+        .expect(&rt, "memory");
+    for (channel, _, jump) in NUMBERED {
+        match packets.next() {
+            Ok(Some(packet)) => same(
+                &rt,
+                &(packet.header.channel, packet.sequence_jump),
+                &(channel, jump),
+            ),
+            _ => same(&rt, &"no packet", &"a packet"),
+        }
+    }
+    same(&rt, &packets.next(), &Ok(None));
+}

@@ -4,9 +4,8 @@ ghost use Rattle.std.specs.Prelude.{◌≡◌, ◌+◌, ◌<◌, ◌≤◌, ◌^
 use crate::tests::equal::{are_bytes, same, wrote};
 use crate::tests::streamed::{PAIR_TEXT, failing, pair};
 use crate::tests::streams::{Slow, reader_of};
-use bench_clock::{Clock, clock_from};
-use bench_dump::dump_skipping_from;
-use bench_passes::dump_with_times_in_two_passes;
+use bench_clock::{Clock, read_clock, read_sound_clock};
+use bench_dump::{dump_skipping, dump_with_times, read_all};
 use ch11_header::{Header, HeaderError, write_header};
 use ch11_reader::{Fault, Refusal};
 use ch11_stream::{Packets, SoundPackets, StreamFault};
@@ -89,7 +88,7 @@ fn tells(rt: &impl Abort, clock: &Clock, stamp: u64, text: &str) {
 
 /// Why there is no clock of what a reader has left.
 fn fault_of(rt: &impl Abort, alloc: Global, input: Slow<'_>) -> StreamFault {
-    clock_from(alloc, input).err().expect(rt, "a fault")
+    read_clock(alloc, input, None).err().expect(rt, "a fault")
 }
 
 /// The same of the first bytes of a file.
@@ -102,7 +101,7 @@ fn fault_of_front(rt: &impl Abort, alloc: Global, file: &[u8], count: usize) -> 
 fn a_clock_comes_from_packets(rt: HostRuntime) {
     let file = timed();
     for most in [1, 7, usize::MAX] {
-        let found = clock_from(rt.alloc(), reader_of(&file, most));
+        let found = read_clock(rt.alloc(), reader_of(&file, most), None);
         let clock = found.ok().expect(&rt, "a clock").clock;
         tells(&rt, &clock, 999, "");
         tells(&rt, &clock, 1000, "2024-12-31T23:59:58.0000000");
@@ -113,7 +112,7 @@ fn a_clock_comes_from_packets(rt: HostRuntime) {
 
 #[test]
 fn a_file_without_time_packets_has_no_clock(rt: HostRuntime) {
-    let found = clock_from(rt.alloc(), reader_of(&FOREIGN, 1));
+    let found = read_clock(rt.alloc(), reader_of(&FOREIGN, 1), None);
     let read = found.ok().expect(&rt, "a clock");
     same(&rt, &read.clock.is_empty(), &true);
     same(&rt, &read.unread, &false);
@@ -124,7 +123,7 @@ const OTHER: [u8; 12] = [0x30, 7, 0, 0, 0, 0x59, 0x59, 0x23, 0x31, 0x12, 0x24, 0
 
 /// Whether the time packets of a file are none that can be read.
 fn is_unread(rt: &impl Abort, alloc: Global, file: &[u8]) -> bool {
-    let found = clock_from(alloc, reader_of(file, 7));
+    let found = read_clock(alloc, reader_of(file, 7), None);
     found.ok().expect(rt, "a clock").unread
 }
 
@@ -208,7 +207,7 @@ fn dumped(
     second: Slow<'_>,
 ) -> (Result<bool, StreamFault>, Vec<u8>) {
     let mut out = Vec::new(alloc);
-    let answer = dump_with_times_in_two_passes(alloc, first, second, &mut out);
+    let answer = dump_with_times(alloc, first, second, None, &mut out);
     (answer, out)
 }
 
@@ -249,10 +248,8 @@ fn no_times_are_printed_where_the_first_pass_fails(rt: HostRuntime) {
 
 /// The clock of what is sound of a file.
 fn clock_of_sound(rt: &impl Abort, alloc: Global, file: &[u8]) -> Clock {
-    let sound = SoundPackets::over(alloc, reader_of(file, 7))
-        .ok()
-        .expect(rt, "memory");
-    clock_from(alloc, sound).ok().expect(rt, "a clock").clock
+    let read = read_sound_clock(alloc, reader_of(file, 7), None);
+    read.ok().expect(rt, "a clock").clock
 }
 
 /// A damaged recording is printed with the times of day that its sound packets tell. Where the second time packet is
@@ -264,8 +261,22 @@ fn what_is_sound_has_its_times(rt: HostRuntime) {
     file[164] = 0x26;
     let clock = clock_of_sound(&rt, alloc, &file);
     let mut out = Vec::new(alloc);
-    let printed = dump_skipping_from(alloc, reader_of(&file, 1), &clock, &mut out);
+    let printed = dump_skipping(alloc, reader_of(&file, 1), &clock, true, &mut out);
     same(&rt, &printed, &Ok(()));
     let text = timed_text(&rt, alloc, "skipped 164 length 36 K2\n");
     are_bytes(&rt, &out, text.as_bytes());
+}
+
+/// The bytes of sound packets stand one behind the other: all but those of the second time packet.
+#[test]
+fn sound_packets_are_a_recording(rt: HostRuntime) {
+    let alloc = rt.alloc();
+    let mut file = timed();
+    file[164] = 0x26;
+    let input = reader_of(&file, 7);
+    let mut sound = SoundPackets::over(alloc, input).ok().expect(&rt, "memory");
+    let bytes = read_all(alloc, &mut sound).ok().expect(&rt, "the bytes");
+    let (front, behind) = bytes.as_slice().split_at(bytes.len().min(164));
+    are_bytes(&rt, front, file.get(..164).unwrap_or(&[]));
+    are_bytes(&rt, behind, file.get(200..).unwrap_or(&[]));
 }

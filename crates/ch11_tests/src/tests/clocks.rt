@@ -3,8 +3,9 @@ ghost use Rattle.std.specs.Prelude.{◌<◌};
 
 use crate::tests::dumps::dumped;
 use crate::tests::equal::{are_bytes, reads, same};
-use crate::tests::readers::built;
-use bench_clock::{Clock, PacketTime, UtcTime, YearTime, body_of, is_time_body, read_time};
+use bench_clock::{
+    Clock, PacketTime, UtcTime, YearTime, body_of, is_time_body, read_clock, read_time,
+};
 use bench_dump::dump_with_times;
 use std::process::Abort;
 use test_values::FOREIGN;
@@ -147,8 +148,8 @@ pub(crate) fn tells(rt: &impl Abort, clock: &Clock, stamp: u64, wanted: &str) {
 #[test]
 fn stamps_have_times_of_day(rt: HostRuntime) {
     let file = timed();
-    let index = built(&rt, rt.alloc(), &file);
-    let clock = Clock::of(rt.alloc(), &file, index.packets()).expect(&rt, "memory");
+    let read = read_clock(rt.alloc(), file.as_slice(), None);
+    let clock = read.ok().expect(&rt, "a clock").clock;
     same(&rt, &clock.is_empty(), &false);
     for (stamp, wanted) in [
         (0, ""),
@@ -173,9 +174,10 @@ message 2 channel 2 stamp 20000000 time 2025-01-01T00:00:00.0000000 block 0000 g
 /// The time of day stands behind the stamp.
 #[test]
 fn dumps_have_times_of_day(rt: HostRuntime) {
+    let file = timed();
     let mut out = Vec::new(rt.alloc());
-    let answer = dump_with_times(rt.alloc(), &timed(), &mut out, false);
-    same(&rt, &answer, &Ok(()));
+    let answer = dump_with_times(rt.alloc(), file.as_slice(), file.as_slice(), None, &mut out);
+    same(&rt, &answer, &Ok(false));
     are_bytes(&rt, &out, PRINTED.as_bytes());
 }
 
@@ -183,7 +185,8 @@ fn dumps_have_times_of_day(rt: HostRuntime) {
 #[test]
 fn other_dumps_stay(rt: HostRuntime) {
     let mut out = Vec::new(rt.alloc());
-    let answer = dump_with_times(rt.alloc(), &FOREIGN, &mut out, true);
-    same(&rt, &answer, &Ok(()));
-    are_bytes(&rt, &out, &dumped(&rt, rt.alloc(), &FOREIGN, true));
+    let file = FOREIGN.as_slice();
+    let answer = dump_with_times(rt.alloc(), file, file, None, &mut out);
+    same(&rt, &answer, &Ok(false));
+    are_bytes(&rt, &out, &dumped(&rt, rt.alloc(), file, false));
 }

@@ -1,7 +1,8 @@
 //! Dumps against the worked one.
 
 use crate::tests::equal::{are_bytes, reads, same};
-use bench_dump::{dump, read_all};
+use bench_clock::Clock;
+use bench_dump::{dump, dump_skipping, read_all};
 use ch11_stream::StreamFault;
 use std::alloc::Global;
 use std::io;
@@ -35,7 +36,11 @@ fn prints_the_foreign_file(rt: HostRuntime) {
 /// What is printed of a file, with or without skipping.
 pub(crate) fn dumped(rt: &impl Abort, alloc: Global, file: &[u8], skip: bool) -> Vec<u8> {
     let mut out = Vec::new(alloc);
-    let answer = dump(alloc, file, &mut out, skip);
+    let answer = if skip {
+        dump_skipping(alloc, file, &Clock::unset(alloc), false, &mut out)
+    } else {
+        dump(alloc, file, file, &mut out)
+    };
     same(rt, &answer, &Ok(()));
     out
 }
@@ -57,7 +62,7 @@ fn prints_nothing_of_a_refused_file(rt: HostRuntime) {
 /// The fault of a file of which nothing is printed.
 fn refused(rt: &impl Abort, alloc: Global, file: &[u8]) -> Option<StreamFault> {
     let mut out = Vec::new(alloc);
-    let answer = dump(alloc, file, &mut out, false);
+    let answer = dump(alloc, file, file, &mut out);
     assert!(rt; out.is_empty());
     answer.err()
 }

@@ -3,8 +3,7 @@ ghost use Rattle.std.specs.Prelude.{◌<◌, ◌≤◌, ◌^◌, length};
 
 use crate::tests::clocks::tells;
 use crate::tests::equal::same;
-use crate::tests::readers::built;
-use bench_clock::{PacketTime, ReadClock, is_time_body, read_time};
+use bench_clock::{PacketTime, ReadClock, is_time_body, read_clock, read_time};
 use ch11_header::kinds::TIME_DATA;
 use ch11_header::{Header, write_header};
 use std::alloc::Global;
@@ -203,8 +202,7 @@ fn packet_of(counter: u64, body: &[u8]) -> [u8; 36]
 
 /// The clock of a recording.
 fn clock_of(rt: &impl Abort, alloc: Global, file: &[u8]) -> ReadClock {
-    let index = built(rt, alloc, file);
-    ReadClock::of(alloc, file, index.packets()).expect(rt, "memory")
+    read_clock(alloc, file, None).ok().expect(rt, "a clock")
 }
 
 /// Packets, one behind the other.

@@ -1,10 +1,12 @@
 //! What `bench dump --decode` shows of messages, worked out by hand.
 use crate::looks::equal::{reads, reads_all, same, same_in};
 use crate::looks::made::{TRANSFER, recorded};
-use bench_decode::{Numbers, Output, Place, Shown, TextLine, decode, write_message};
+use bench_decode::{
+    Numbers, Output, Place, Shown, TextLine, decode, decode_by_time, write_message,
+};
 use bench_select::{Bound, Selection};
 use ch11_f1::Seen;
-use ch11_layout::View;
+use ch11_layout::{StampKind, View};
 use mil_word::Line;
 use std::alloc::Global;
 use std::process::Abort;
@@ -208,7 +210,12 @@ pub(crate) fn line_of(rt: &impl Abort, alloc: Global, message: Message, shown: S
     };
     let mut line = TextLine::new(alloc, shown).ok().expect(rt, "memory");
     let mut out = Vec::new(alloc);
-    let written = write_message(&mut line, &mut out, &place, &View::of(&seen));
+    let written = write_message(
+        &mut line,
+        &mut out,
+        &place,
+        &View::of(StampKind::Counter, &seen),
+    );
     written.ok().expect(rt, "a line");
     line.finish(&mut out).ok().expect(rt, "a line");
     out
@@ -249,14 +256,33 @@ pub(crate) fn shows(
     reads_all(rt, out.as_slice(), wanted);
 }
 
+/// The same of a file whose messages are sorted by their stamps.
+pub(crate) fn shows_by_time(
+    rt: &impl Abort,
+    alloc: Global,
+    file: &[u8],
+    output: &Output,
+    wanted: &[&str],
+    many: u64,
+) {
+    let mut out = Vec::new(alloc);
+    let count = decode_by_time(alloc, file, &mut out, output).ok();
+    same(rt, &count.expect(rt, "a recording"), &many);
+    reads_all(rt, out.as_slice(), wanted);
+}
+
 /// All messages of a file, as people read them or as a dump has them.
-pub(crate) fn all(decoded: bool) -> Output {
+pub(crate) fn all(decoded: bool) -> Output<'static> {
+    printed(Selection::all(), decoded)
+}
+
+/// Chosen messages of a file, as people read them or as a dump has them.
+fn printed(selection: Selection<'_>, decoded: bool) -> Output<'_> {
     Output {
-        selection: Selection::all(),
+        selection,
         decoded,
         shown: Shown::Plain,
         skip: false,
-        by_time: false,
     }
 }
 
@@ -277,21 +303,42 @@ fn files_are_decoded(rt: HostRuntime) {
 #[test]
 fn messages_are_chosen(rt: HostRuntime) {
     let file = recorded(&rt, rt.alloc(), &[POLL, TRANSFER, POLL]);
-    let mut output = all(true);
-    output.selection.channel = Some(1);
-    output.selection.from = Some(Bound::Number(4));
+    let mut chosen = Selection::all();
+    chosen.channel = Some(1);
+    chosen.from = Some(Bound::Number(4));
     let [_, _, _, fourth, _, _] = FILE_LINES;
-    shows(&rt, rt.alloc(), &file, &output, &[COLUMNS, fourth], 1);
-    output.decoded = false;
-    shows(&rt, rt.alloc(), &file, &output, &[CHOSEN_DUMP], 1);
-    output.selection = Selection::all();
-    output.selection.line = Some(Line::B);
-    output.selection.to = Some(Bound::Number(1));
-    shows(&rt, rt.alloc(), &file, &output, &[POLL_DUMP], 1);
-    output.selection.line = Some(Line::A);
-    shows(&rt, rt.alloc(), &file, &output, &[], 0);
-    output.selection = Selection::all();
-    output.selection.errors = true;
+    shows(
+        &rt,
+        rt.alloc(),
+        &file,
+        &printed(chosen, true),
+        &[COLUMNS, fourth],
+        1,
+    );
+    shows(
+        &rt,
+        rt.alloc(),
+        &file,
+        &printed(chosen, false),
+        &[CHOSEN_DUMP],
+        1,
+    );
+    let mut chosen = Selection::all();
+    chosen.line = Some(Line::B);
+    chosen.to = Some(Bound::Number(1));
+    shows(
+        &rt,
+        rt.alloc(),
+        &file,
+        &printed(chosen, false),
+        &[POLL_DUMP],
+        1,
+    );
+    chosen.line = Some(Line::A);
+    shows(&rt, rt.alloc(), &file, &printed(chosen, false), &[], 0);
+    let mut chosen = Selection::all();
+    chosen.errors = true;
+    let mut output = printed(chosen, false);
     shows(&rt, rt.alloc(), &file, &output, &[], 0);
     output.skip = true;
     let skipped = "skipped 0 length 2 K1\n";

@@ -1,10 +1,9 @@
 //! What `bench export` writes of recordings, worked out by hand.
 use crate::looks::equal::{behind, reads, same};
 use crate::looks::made::{FORMS, RETRY, TRANSFER, recorded};
-use bench_clock::Clock;
+use bench_clock::read_clock;
 use bench_export::{Columns, Table, export, selects_any};
 use bench_select::{Bound, Selection};
-use ch11_reader::Index;
 use std::alloc::Global;
 use std::process::Abort;
 use test_values::FOREIGN;
@@ -89,15 +88,13 @@ fn has_names_and_rows(rt: &impl Abort, found: &[u8], table: &Table, rows: &str) 
 
 /// The rows of selected messages of a file.
 pub(crate) fn has_table(rt: &impl Abort, alloc: Global, file: &[u8], table: &Table, wanted: &str) {
-    let index = Index::build(alloc, file).ok().expect(rt, "a recording");
-    let clock = Clock::of(alloc, file, index.packets()).ok();
-    let clock = clock.expect(rt, "memory");
-    let rows = export(alloc, &index, table, &clock, Vec::new(alloc)).ok();
-    has_names_and_rows(rt, &rows.expect(rt, "rows"), table, wanted);
+    let read = read_clock(alloc, file, None).ok().expect(rt, "a clock");
+    let exported = export(alloc, file, table, &read.clock, Vec::new(alloc)).ok();
+    has_names_and_rows(rt, &exported.expect(rt, "rows").out, table, wanted);
 }
 
 /// All messages in these columns, with times of day or without.
-pub(crate) fn all_of(columns: Columns, timed: bool) -> Table {
+pub(crate) fn all_of(columns: Columns, timed: bool) -> Table<'static> {
     Table {
         columns,
         timed,
@@ -138,20 +135,24 @@ fn values_are_columns(rt: HostRuntime) {
 
 /// Of a file, whether a selection has a message.
 fn has_any(rt: &impl Abort, alloc: Global, file: &[u8], selection: &Selection, wanted: bool) {
-    let index = Index::build(alloc, file).ok().expect(rt, "a recording");
-    same(rt, &selects_any(&index, selection), &wanted);
+    same(rt, &selects_any(alloc, file, selection), &Ok(wanted));
 }
 
 /// Some messages alone, with the numbers of the file; and a selection of none.
 #[test]
 fn selected_messages_are_rows(rt: HostRuntime) {
     let retry = recorded(&rt, rt.alloc(), &[RETRY]);
-    let mut table = all_of(Columns::Messages, false);
-    table.selection.from = Some(Bound::Time(3351));
-    table.selection.to = Some(Bound::Number(5));
+    let mut selection = Selection::all();
+    selection.from = Some(Bound::Time(3351));
+    selection.to = Some(Bound::Number(5));
+    let table = Table {
+        columns: Columns::Messages,
+        timed: false,
+        selection,
+    };
     has_table(&rt, rt.alloc(), &retry, &table, CHOSEN_ROWS);
-    has_any(&rt, rt.alloc(), &retry, &table.selection, true);
-    table.selection.channel = Some(2);
-    has_any(&rt, rt.alloc(), &retry, &table.selection, false);
+    has_any(&rt, rt.alloc(), &retry, &selection, true);
+    selection.channel = Some(2);
+    has_any(&rt, rt.alloc(), &retry, &selection, false);
     has_any(&rt, rt.alloc(), b"", &Selection::all(), false);
 }

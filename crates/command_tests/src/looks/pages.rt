@@ -1,9 +1,9 @@
 //! What `bench stat` tells of a file, and the lines that many of its pages have.
 use crate::looks::equal::reads_all;
-use bench_clock::Clock;
+use bench_clock::read_clock;
+use bench_names::ChannelNames;
 use bench_select::Selection;
-use bench_stat::{Indexed, Shown, print_page, print_tables, stat};
-use ch11_reader::Index;
+use bench_stat::{Shown, print_page, print_tables, stat, told_channels};
 use std::alloc::Global;
 use std::process::Abort;
 
@@ -56,19 +56,25 @@ pub(crate) fn is_told(
     rows: bool,
     wanted: &[&str],
 ) {
-    let index = Index::build(alloc, file).ok().expect(rt, "a recording");
-    let clock = Clock::of(alloc, file, index.packets()).ok();
-    let clock = clock.expect(rt, "memory");
-    let figures = stat(alloc, &index, selection).ok().expect(rt, "figures");
+    let clock = read_clock(alloc, file, None)
+        .ok()
+        .expect(rt, "a clock")
+        .clock;
+    let figures = stat(alloc, file, selection).ok().expect(rt, "figures");
+    let told = told_channels(alloc, file, selection, &figures, shown);
+    let told = told.ok().expect(rt, "what is told");
     let mut out = Vec::new(alloc);
-    let told = Indexed {
-        index: &index,
-        selection,
-    };
     let printed = if rows {
-        print_tables(alloc, &mut out, &told, &figures, shown, &clock)
+        print_tables(&mut out, &told, &figures, shown, &clock)
     } else {
-        print_page(alloc, &mut out, &told, &figures, shown, &clock)
+        print_page(
+            &mut out,
+            &told,
+            &figures,
+            shown,
+            &clock,
+            &ChannelNames::of(file),
+        )
     };
     assert!(rt; printed.is_ok());
     reads_all(rt, &out, wanted);

@@ -2,11 +2,12 @@
 use crate::looks::completions::{FRONT, LATE};
 use crate::looks::equal::same_in;
 use crate::looks::made::{FORMS, RETRY, recorded};
+use crate::looks::names::recorded_under;
 use crate::looks::selections::selected;
-use bench_clock::Clock;
+use bench_clock::read_clock;
 use bench_draw::{MOST_BYTES, draw, first_step};
+use bench_names::ChannelNames;
 use bench_select::{Bound, Selection};
-use ch11_reader::Index;
 use mil_word::Line;
 use std::alloc::Global;
 use std::process::Abort;
@@ -211,13 +212,16 @@ fn is_drawn(
     messages: u64,
     pieces: &[Piece],
 ) {
-    let index = Index::build(alloc, file).ok().expect(rt, "a recording");
-    let clock = Clock::of(alloc, file, index.packets())
-        .ok()
-        .expect(rt, "memory");
-    let drawing = draw(alloc, &index, selection, &clock)
-        .ok()
-        .expect(rt, "memory");
+    let read = read_clock(alloc, file, None).ok().expect(rt, "a clock");
+    let drawing = draw(
+        alloc,
+        &file,
+        selection,
+        &read.clock,
+        &ChannelNames::of(file),
+    )
+    .ok()
+    .expect(rt, "a picture");
     same_in(rt, "size", &(drawing.text.len() <= MOST_BYTES), &true);
     same_in(rt, "messages", &drawing.messages, &messages);
     has_pieces(rt, &drawing.text, pieces);
@@ -260,6 +264,16 @@ fn begins_of_frames_are_marked(rt: HostRuntime) {
     are_drawn(&rt, rt.alloc(), &retried, 21, &RETRIED_ROWS);
     let narrow = recorded(&rt, rt.alloc(), &[NARROW]);
     are_drawn(&rt, rt.alloc(), &narrow, 240, &NARROW_ROWS);
+}
+
+/// The name of a channel behind its number, without markup.
+const NAMED_ROWS: [Row; 1] = [(1, 1, &[(">channel 1 LEFT &amp; RIGHT</text>", 1)])];
+
+#[test]
+fn names_stand_in_pictures(rt: HostRuntime) {
+    let text = "R-1\\TK1-1:1;R-1\\DSI-1:LEFT & RIGHT;";
+    let file = recorded_under(&rt, rt.alloc(), text);
+    are_drawn(&rt, rt.alloc(), &file, 1, &NAMED_ROWS);
 }
 
 /// The first multiple of a step at or behind a tick.

@@ -1,8 +1,8 @@
 //! Which messages are chosen, worked out by hand, and how a bound and a selector are written.
-use crate::looks::decodings::{COLUMNS, FILE_LINES, POLL, all, shows};
+use crate::looks::decodings::{COLUMNS, FILE_LINES, POLL, all, shows_by_time};
 use crate::looks::equal::{reads, same, same_in};
 use crate::looks::made::{TRANSFER, recorded};
-use bench_decode::{Output, decode};
+use bench_decode::{Output, decode, decode_by_time};
 use bench_select::{Bound, Selection, read_bound};
 use judge_rules::{RuleFault, Selector, selector_of};
 use mil_word::Line;
@@ -139,10 +139,20 @@ const OTHERS: [(Option<u16>, Option<Line>, bool, &str, &str); 5] = [
 ];
 
 /// The numbers of the messages that are shown of a file, each as one digit.
-fn numbers_of(rt: &impl Abort, alloc: Global, file: &[u8], output: &Output) -> Vec<u8> {
+fn numbers_of(
+    rt: &impl Abort,
+    alloc: Global,
+    file: &[u8],
+    output: &Output,
+    by_time: bool,
+) -> Vec<u8> {
     let mut out = Vec::new(alloc);
-    let count = decode(alloc, file, &mut out, output).ok();
-    let count = count.expect(rt, "a recording");
+    let count = if by_time {
+        decode_by_time(alloc, file, &mut out, output)
+    } else {
+        decode(alloc, file, &mut out, output)
+    };
+    let count = count.ok().expect(rt, "a recording");
     let mut numbers = Vec::new(alloc);
     for line in out.as_slice().split(|byte| *byte == b'\n') {
         if line.len() > 8 {
@@ -158,19 +168,24 @@ fn chooses(
     rt: &impl Abort,
     alloc: Global,
     file: &[u8],
-    selection: Selection,
+    selection: Selection<'static>,
     numbers: &str,
     by_time: &str,
 ) {
     let mut output = all(false);
     output.selection = selection;
-    reads(rt, numbers_of(rt, alloc, file, &output).as_slice(), numbers);
-    output.by_time = true;
-    reads(rt, numbers_of(rt, alloc, file, &output).as_slice(), by_time);
+    let found = numbers_of(rt, alloc, file, &output, false);
+    reads(rt, found.as_slice(), numbers);
+    let found = numbers_of(rt, alloc, file, &output, true);
+    reads(rt, found.as_slice(), by_time);
 }
 
 /// Messages of a channel, on a line, or with an error; all of them where nothing is said.
-pub(crate) fn selected(channel: Option<u16>, line: Option<Line>, errors: bool) -> Selection {
+pub(crate) fn selected(
+    channel: Option<u16>,
+    line: Option<Line>,
+    errors: bool,
+) -> Selection<'static> {
     let mut selection = Selection::all();
     selection.channel = channel;
     selection.line = line;
@@ -205,14 +220,13 @@ message 2 channel 2 stamp 480 block 2000 gaps 0050 words 2FE2 2800\n";
 fn messages_are_shown_by_time(rt: HostRuntime) {
     let file = recorded(&rt, rt.alloc(), &[POLL, TRANSFER, POLL]);
     let mut output = all(true);
-    output.by_time = true;
     let [one, two, three, four, five, six] = FILE_LINES;
     let shown = [COLUMNS, one, three, five, two, six, four];
-    shows(&rt, rt.alloc(), &file, &output, &shown, 6);
-    shows(&rt, rt.alloc(), b"", &output, &[], 0);
+    shows_by_time(&rt, rt.alloc(), &file, &output, &shown, 6);
+    shows_by_time(&rt, rt.alloc(), b"", &output, &[], 0);
     let mut damaged = recorded(&rt, rt.alloc(), &[POLL]);
     damaged.extend_from_slice(b"AB").ok().expect(&rt, "memory");
     output.decoded = false;
     output.skip = true;
-    shows(&rt, rt.alloc(), &damaged, &output, &[SKIPPED], 2);
+    shows_by_time(&rt, rt.alloc(), &damaged, &output, &[SKIPPED], 2);
 }

@@ -3,8 +3,7 @@
 use crate::looks::equal::same_in;
 use crate::looks::made::recorded;
 use bench_select::Selection;
-use bench_stat::{flows_by_subaddress, stat};
-use ch11_reader::Index;
+use bench_stat::{Shown, stat, told_channels};
 use std::alloc::Global;
 use std::process::Abort;
 
@@ -42,20 +41,25 @@ const ROWS: [(&str, &str, u64, u64); 18] = [
     ("fault 1 drop 1 2\n", TO_ALL, 1, 0),
 ];
 
+/// What is told by subaddress.
+const BY_SUBADDRESS: Shown = Shown {
+    long: false,
+    by_subaddress: true,
+    load: false,
+    time: false,
+};
+
 /// The errors of the sender, those of a receiver and of all terminals, and the same by subaddress.
 fn errors_of(rt: &impl Abort, alloc: Global, faults: &str, script: &str) -> [u64; 4] {
     let text = format!(in alloc; "channel 1\nterminal 3\nterminal 7\n{faults}{script}");
     let text = text.ok().expect(rt, "memory");
     let bytes = recorded(rt, alloc, &[text.as_str()]);
-    let index = Index::build(alloc, bytes.as_slice())
-        .ok()
-        .expect(rt, "a recording");
-    let all = Selection::all();
-    let figures = stat(alloc, &index, &all).ok().expect(rt, "figures");
+    let (bytes, all) = (bytes.as_slice(), Selection::all());
+    let figures = stat(alloc, bytes, &all).ok().expect(rt, "figures");
     let terminals = figures.as_slice().first().expect(rt, "a channel").terminals;
-    let flows = flows_by_subaddress(alloc, &index, &all, 1);
-    let flows = flows.ok().expect(rt, "flows");
-    let flows = flows.as_slice();
+    let told = told_channels(alloc, bytes, &all, &figures, &BY_SUBADDRESS);
+    let told = told.ok().expect(rt, "what is told");
+    let flows = told.of(1).expect(rt, "a channel").messages.flows.as_slice();
     let of = |entry: usize| flows.get(entry).expect(rt, "a flow").errors;
     let received = terminals[3].errors.saturating_add(terminals[31].errors);
     [

@@ -1,10 +1,11 @@
 //! What `bench stat` says of recordings, worked out by hand.
+use crate::looks::equal::reads;
 use crate::looks::made::{FORMS, RETRY, TRANSFER, recorded};
 use crate::looks::pages::{
     BY_SUBADDRESS, BY_TERMINAL, NO_BITS, NO_BITS_ROWS, NO_ERRORS, PLAIN, is_told,
 };
 use crate::looks::selections::selected;
-use bench_stat::Shown;
+use bench_stat::{Shown, print_kinds, read_kinds};
 use std::alloc::Global;
 use std::process::Abort;
 use test_values::FOREIGN;
@@ -295,5 +296,22 @@ fn pages_are_told(rt: HostRuntime) {
 fn tables_are_told(rt: HostRuntime) {
     for row in &TABLES {
         is_told_as(&rt, rt.alloc(), row, true);
+    }
+}
+
+/// The packets of the foreign file: a setup record of 32 bytes, and messages in 64.
+#[test]
+fn packets_are_told_by_type(rt: HostRuntime) {
+    let lines =
+        "packets by type\n  type 01   1 packets, 32 bytes\n  type 19   1 packets, 64 bytes\n";
+    let table = "\ntype,packets,bytes\n01,1,32\n19,1,64\n";
+    for (rows, wanted) in [(false, lines), (true, table)] {
+        let kinds = read_kinds(rt.alloc(), FOREIGN.as_slice())
+            .ok()
+            .expect(&rt, "kinds");
+        let mut out = Vec::new(rt.alloc());
+        let printed = print_kinds(&mut out, &kinds, rows);
+        assert!(rt; printed.is_ok());
+        reads(&rt, &out, wanted);
     }
 }

@@ -1,8 +1,11 @@
 //! What `bench judge` says of recordings, worked out by hand.
-use crate::looks::equal::{reads, same_in};
+use crate::looks::equal::{behind, reads, same_in};
 use crate::looks::made::{FORMS, TRANSFER, recorded};
-use bench_judge::{Lost, RuleVerdict, judge, junit_text, write_colored, write_verdicts};
-use ch11_reader::Index;
+use crate::looks::names::recorded_under;
+use bench_judge::{
+    Lost, RuleVerdict, count_lost, judge, junit_text, write_colored, write_verdicts,
+};
+use bench_names::ChannelNames;
 use judge_rules::read_rules;
 use std::alloc::Global;
 use std::process::Abort;
@@ -136,10 +139,9 @@ jumps of the sequence number 0\"/>\n  </properties>\n  \
 
 /// What is printed of rules and a recording.
 fn judged(rt: &impl Abort, alloc: Global, file: &[u8], rules: &str) -> Vec<u8> {
-    let index = Index::build(alloc, file).ok().expect(rt, "a recording");
     let rules = read_rules(alloc, rules.as_bytes()).ok().expect(rt, "rules");
     let mut text = Vec::new(alloc);
-    let verdicts = write_verdicts(alloc, &index, rules.as_slice(), &mut text)
+    let verdicts = write_verdicts(alloc, &file, rules.as_slice(), &mut text)
         .ok()
         .expect(rt, "verdicts");
     assert!(rt; verdicts.len() == rules.len());
@@ -212,20 +214,21 @@ fn what_is_not_clean_is_told(rt: HostRuntime) {
 
 /// What is shown of rules and a recording: a report, or what a terminal shows.
 fn shown(rt: &impl Abort, alloc: Global, file: &[u8], text: &str, colored: bool) -> Vec<u8> {
-    let index = Index::build(alloc, file).ok().expect(rt, "a recording");
     let text = text.as_bytes();
     let rules = read_rules(alloc, text).ok().expect(rt, "rules");
     let rules = rules.as_slice();
-    let verdicts = judge(alloc, &index, rules).expect(rt, "memory");
+    let verdicts = judge(alloc, file, rules).ok().expect(rt, "verdicts");
     let verdicts = verdicts.as_slice();
     if colored {
         let mut shown = Vec::new(alloc);
-        let written = write_colored(alloc, &index, text, rules, verdicts, &mut shown);
+        let names = ChannelNames::of(file);
+        let written = write_colored(alloc, &file, names, text, rules, verdicts, &mut shown);
         written.ok().expect(rt, "verdicts");
         return shown;
     }
-    let lost = Lost::of(index.packets());
-    junit_text(alloc, &index, text, rules, verdicts, lost).expect(rt, "memory")
+    let told = count_lost(alloc, file).ok().expect(rt, "a recording");
+    let report = junit_text(alloc, &file, text, rules, verdicts, told);
+    report.ok().expect(rt, "a report")
 }
 
 #[test]
@@ -240,6 +243,18 @@ fn a_terminal_shows_the_first_misses(rt: HostRuntime) {
     let file = recorded(&rt, rt.alloc(), &[POLLS]);
     let colors = shown(&rt, rt.alloc(), &file, POLL_RULES, true);
     reads(&rt, colors.as_slice(), POLL_COLORS);
+}
+
+/// How that begins where a message misses a rule whose channel has a name.
+const NAMED_COLORS: &str =
+    "\x1b[31mmissed \x1b[0mexpect any fail  (1 selected, 1 missed)\n      channel 1 LEFT\n      ";
+
+#[test]
+fn a_terminal_shows_names_of_channels(rt: HostRuntime) {
+    let file = recorded_under(&rt, rt.alloc(), "R-1\\TK1-1:1;R-1\\DSI-1:LEFT;");
+    let colors = shown(&rt, rt.alloc(), &file, "expect any fail", true);
+    let message = behind(&rt, colors.as_slice(), NAMED_COLORS);
+    same_in(&rt, "a message", &message.is_empty(), &false);
 }
 
 /// A verdict on the rule of a line.
@@ -260,9 +275,9 @@ fn a_report_tells_of_messages_that_are_missing(rt: HostRuntime) {
     let mut file = FOREIGN;
     file[46] = 0x90;
     file[54] = 0x18;
-    let index = Index::build(alloc, &file).ok().expect(&rt, "a recording");
-    let lost = Lost::of(index.packets());
-    same_in(&rt, "the flag", &lost, &FLAGGED);
+    let file = file.as_slice();
+    let told = count_lost(alloc, file).ok().expect(&rt, "a recording");
+    same_in(&rt, "the flag", &told, &FLAGGED);
     let rules = read_rules(alloc, FOUR_RULES).ok().expect(&rt, "rules");
     let verdicts = [
         verdict_at(3, true),
@@ -272,11 +287,11 @@ fn a_report_tells_of_messages_that_are_missing(rt: HostRuntime) {
     ];
     let report = junit_text(
         alloc,
-        &index,
+        &file,
         MARKED_RULES,
         rules.as_slice(),
         &verdicts,
-        lost,
+        told,
     );
     let text = report.ok().expect(&rt, "memory");
     reads(&rt, text.as_slice(), MARKED_REPORT);

@@ -3,7 +3,6 @@ use crate::looks::equal::{reads, same_in};
 use crate::looks::made::{FORMS, RETRY, TRANSFER, recorded};
 use bench_export::export_waves;
 use bench_select::{Bound, Selection};
-use ch11_reader::Index;
 use std::alloc::Global;
 use std::io::Write;
 use std::process::Abort;
@@ -46,20 +45,39 @@ const RETRIES: &str = "\
 
 /// The dump of a file's selected messages.
 fn dump_of(rt: &impl Abort, alloc: Global, file: &[u8], selection: &Selection) -> Vec<u8> {
-    let index = Index::build(alloc, file).ok().expect(rt, "a recording");
     let mut dump = Vec::new(alloc);
-    let written = export_waves(alloc, &index, selection, &mut dump);
+    let written = export_waves(alloc, file, file, selection, &mut dump);
     written.ok().expect(rt, "a dump");
     dump
 }
 
-/// What was read of a dump up to a line: the time, and the values told since the last message number.
+/// The lines of the recordings here.
+const NAMES: [&str; 4] = ["A1", "B1", "A9", "B9"];
+
+/// The values of a line's signals that were told last; none where it is z.
 #[derive(Clone, Copy)]
-struct Reading {
-    tick: u64,
+struct Values {
     word: Option<u64>,
     kind: Option<u64>,
     terminal: Option<u64>,
+    message: Option<u64>,
+}
+
+/// No value was told yet.
+const UNTOLD: Values = Values {
+    word: None,
+    kind: None,
+    terminal: None,
+    message: None,
+};
+
+/// What was read of a dump up to a line of text: the time, the values of each line of a bus, and the one whose word was
+/// told but has no row yet.
+#[derive(Clone, Copy)]
+struct Reading<'a> {
+    tick: u64,
+    values: [Values; 4],
+    told: Option<&'a str>,
 }
 
 /// A value in binary digits; none where it is z.
@@ -67,55 +85,81 @@ fn value_of(text: &str) -> Option<u64> {
     u64::from_str_radix(text, 2).ok()
 }
 
-/// Takes a line of a dump, and puts a row where it ends the values of a line.
-fn take_line(rt: &impl Abort, reading: &mut Reading, line: &str, rows: &mut Vec<u8>) {
+/// Takes a line of a dump, and puts a row of what was told in front of it where no more of that comes.
+fn take_line<'a>(rt: &impl Abort, reading: &mut Reading<'a>, line: &'a str, rows: &mut Vec<u8>) {
     if let Some(tick) = line.strip_prefix('#') {
+        put_told(rt, reading, rows);
         reading.tick = tick.parse::<u64>().ok().expect(rt, "a time");
         return;
     }
     if let Some(wire) = line.strip_prefix("1e") {
+        put_told(rt, reading, rows);
         put_error(rt, reading, wire, "error", rows);
         return;
     }
     if let Some(wire) = line.strip_prefix("0e") {
+        put_told(rt, reading, rows);
         put_error(rt, reading, wire, "sound", rows);
         return;
     }
+    take_value(rt, reading, line, rows);
+}
+
+/// Takes a line of a dump that tells a value of four signals, if it is one.
+fn take_value<'a>(rt: &impl Abort, reading: &mut Reading<'a>, line: &'a str, rows: &mut Vec<u8>) {
     let Some((value, code)) = line.split_once(' ') else {
         return;
     };
     let Some(digits) = value.strip_prefix('b') else {
         return;
     };
-    let value = value_of(digits);
+    if let Some(wire) = code.strip_prefix('w') {
+        put_told(rt, reading, rows);
+        reading.told = Some(wire);
+    }
+    for place in 0..NAMES.len() {
+        if code.ends_with(NAMES[place]) {
+            note_value(&mut reading.values[place], code, value_of(digits));
+        }
+    }
+}
+
+/// Notes a value of a line by the code of its signal.
+fn note_value(values: &mut Values, code: &str, value: Option<u64>) {
     if code.starts_with('w') {
-        reading.word = value;
+        values.word = value;
     } else if code.starts_with('k') {
-        reading.kind = value;
+        values.kind = value;
     } else if code.starts_with('t') {
-        reading.terminal = value;
-    } else if let Some(wire) = code.strip_prefix('m') {
-        put_row(rt, reading, wire, value, rows);
+        values.terminal = value;
+    } else if code.starts_with('m') {
+        values.message = value;
     }
 }
 
 /// Puts a row: tick, line with channel, and whether a message with an error is there.
-fn put_error(rt: &impl Abort, reading: &Reading, wire: &str, error: &str, rows: &mut Vec<u8>) {
+fn put_error(rt: &impl Abort, reading: &Reading<'_>, wire: &str, error: &str, rows: &mut Vec<u8>) {
     let tick = reading.tick;
     let written = writeln!(rows, "{tick} {wire} {error}");
     written.ok().expect(rt, "memory");
 }
 
+/// Puts the row of the line whose word was told, if it has none yet.
+fn put_told(rt: &impl Abort, reading: &mut Reading<'_>, rows: &mut Vec<u8>) {
+    let Some(told) = reading.told else {
+        return;
+    };
+    for place in 0..NAMES.len() {
+        if NAMES[place] == told {
+            put_row(rt, reading.tick, told, reading.values[place], rows);
+        }
+    }
+    reading.told = None;
+}
+
 /// Puts a row: tick, line with channel, and word, kind, terminal and message, or z.
-fn put_row(
-    rt: &impl Abort,
-    reading: &Reading,
-    wire: &str,
-    message: Option<u64>,
-    rows: &mut Vec<u8>,
-) {
-    let tick = reading.tick;
-    let written = match (reading.word, reading.kind, reading.terminal, message) {
+fn put_row(rt: &impl Abort, tick: u64, wire: &str, values: Values, rows: &mut Vec<u8>) {
+    let written = match (values.word, values.kind, values.terminal, values.message) {
         (Some(word), Some(kind), Some(terminal), Some(message)) => writeln!(
             rows,
             "{tick} {wire} {word:04X} {kind} {terminal} {message}"
@@ -132,14 +176,14 @@ fn rows_of(rt: &impl Abort, alloc: Global, file: &[u8], selection: &Selection) -
     let text = str::from_utf8(dump.as_slice()).ok().expect(rt, "a text");
     let mut reading = Reading {
         tick: 0,
-        word: None,
-        kind: None,
-        terminal: None,
+        values: [UNTOLD; 4],
+        told: None,
     };
     let mut rows = Vec::new(alloc);
     for line in text.lines() {
         take_line(rt, &mut reading, line, &mut rows);
     }
+    put_told(rt, &mut reading, &mut rows);
     rows
 }
 

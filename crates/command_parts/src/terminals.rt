@@ -1,25 +1,9 @@
-//! Recordings that are opened to be watched, and where what is printed goes.
+//! Whether what is printed goes to a terminal.
 
-use bench_requests::{Fault, open_to_read};
-use bench_watch::{SystemFile, Watch, Watched};
 use std::env;
 use std::fs::{self, Metadata};
-use std::io::IsTerminal;
 use std::os::unix::fs::{FileTypeExt, MetadataExt};
-use std::rt::{Clock, Env, Files};
-
-/// The recording with this name, opened to be watched. How far it is read is shown, or not.
-pub fn open_watched<'f, 'a, R: Files + Clock, E: Eprint + IsTerminal>(
-    rt: &R,
-    name: &'a str,
-    watch: &'f Watch<'f, R, E>,
-    shown: bool,
-) -> Result<Watched<'f, SystemFile<R::File>, R, E>, Fault<'a>> {
-    match open_to_read(rt, name) {
-        Ok(file) => Ok(Watched::over(SystemFile::over(file), watch, shown)),
-        Err(fault) => Err(fault),
-    }
-}
+use std::rt::{Env, Files};
 
 /// Whether the standard output is a terminal, or another device that somebody may look at: the null device is none.
 pub fn prints_to_terminal<R: Files>(rt: &R) -> bool {

@@ -1,0 +1,83 @@
+//! The channels of a recording, for a setup record that describes them.
+
+use bench_names::{Described, Holds, setup_text};
+use bench_requests::Fault;
+use ch11_header::Header;
+use ch11_header::kinds::{BUS_MESSAGES, RECORDING_INDEX, TIME_DATA};
+use ch11_reader::{CHANNELS, Index, Packet, ReadError, SkippingIndex};
+use std::alloc::{AllocError, Global};
+
+/// The text of a setup record of the channels of a recording, or of what is sound of it, and of that of the time
+/// packets that are added, if any. It describes none where the recording is refused, which is told where it is
+/// completed.
+pub(crate) fn described<'a>(
+    alloc: Global,
+    recording: &[u8],
+    skip: bool,
+    times: Option<u16>,
+) -> Result<Vec<u8>, Fault<'a>> {
+    let mut found = vec![in alloc; None; CHANNELS]?;
+    match index_of(alloc, recording, skip) {
+        Ok(index) => note_packets(found.as_mut_slice(), index.packets()),
+        Err(ReadError::Refused(_)) => (),
+        Err(ReadError::Memory) => return Err(Fault::Memory),
+    }
+    if let Some(channel) = times {
+        note(found.as_mut_slice(), channel, Holds::Times);
+    }
+    let channels = listed(alloc, found.as_slice())?;
+    Ok(setup_text(alloc, channels.as_slice())?)
+}
+
+/// The packets of a recording, or of what is sound of it.
+fn index_of(alloc: Global, recording: &[u8], skip: bool) -> Result<Index<'_>, ReadError> {
+    if skip {
+        let SkippingIndex { index, .. } = Index::build_skipping(alloc, recording)?;
+        return Ok(index);
+    }
+    Index::build(alloc, recording)
+}
+
+/// Notes what each channel's packets hold. Indexes are left out, since they do not go over.
+fn note_packets(found: &mut [Option<Holds>], packets: &[Packet]) {
+    for packet in packets {
+        if packet.header.kind != RECORDING_INDEX {
+            note(found, packet.header.channel, held_by(&packet.header));
+        }
+    }
+}
+
+/// Notes what a packet of a channel holds: what is known of a channel by one of its packets stays.
+fn note(found: &mut [Option<Holds>], channel: u16, holds: Holds) {
+    if let Some(place) = found.get_mut(usize::from(channel)) {
+        let known = match *place {
+            Some(before) => before != Holds::Others,
+            None => false,
+        };
+        if !known {
+            *place = Some(holds);
+        }
+    }
+}
+
+/// What a packet of this header holds.
+fn held_by(header: &Header) -> Holds {
+    match header.kind {
+        BUS_MESSAGES => Holds::Messages,
+        TIME_DATA => Holds::Times,
+        _ => Holds::Others,
+    }
+}
+
+/// The channels that have packets, by their numbers; channel 0 is that of the recorder's own packets, and left out.
+fn listed(alloc: Global, found: &[Option<Holds>]) -> Result<Vec<Described>, AllocError> {
+    let mut channels = Vec::new(alloc);
+    for (place, holds) in found.iter().enumerate() {
+        if let (Ok(number), Some(holds)) = (u16::try_from(place), *holds) {
+            if number > 0 {
+                channels.push(Described { number, holds })?;
+            }
+        }
+    }
+    Ok(channels)
+}
