@@ -58,17 +58,24 @@ _bench() {
             options="--live --pace --show --version --limit --queue --hold --drop $options"
             ;;
         check) options="--summary --decode --strict $options" ;;
-        dump) options="--skip --time --decode --by-time --channel --line --only --errors --from --to $options" ;;
-        stat) options="--csv --long --by --load --time --channel --line --only --errors --from --to $options" ;;
+        dump)
+            options="--skip --time --time-channel --decode --by-time $options"
+            options="--channel --line --only --errors --from --to $options"
+            ;;
+        stat)
+            options="--csv --long --by --load --time --time-channel $options"
+            options="--channel --line --only --errors --from --to $options"
+            ;;
         export)
-            options="--out --force --frames --hex --time --vcd $options"
+            options="--out --force --frames --hex --time --time-channel --vcd $options"
             options="--channel --line --only --errors --from --to $options"
             ;;
         complete)
-            options="--out --force --setup --time --time-channel --second-time --version --skip $options"
+            options="--out --force --setup --auto-setup --time --time-channel --second-time $options"
+            options="--version --skip $options"
             ;;
         judge) options="--junit --force --skip $options" ;;
-        draw) options="--out --force --channel --line --only --errors --from --to $options" ;;
+        draw) options="--out --force --time-channel --channel --line --only --errors --from --to $options" ;;
     esac
     case $word in
         -*)
