@@ -136,6 +136,10 @@ now_of b = max (clock_of b.start b.talks) b.least_start
 abbrev pub paced : ℕ → BusState → BusState
 paced tick b = record { start = b.start; least_start = max b.least_start tick; talks = b.talks; stations = b.stations }
 
+-- no talk starts before this tick, whatever was asked for earlier
+abbrev pub held_until : ℕ → BusState → BusState
+held_until tick b = record { start = b.start; least_start = tick; talks = b.talks; stations = b.stations }
+
 -- What was played on a bus: its talks, and what its stations have met. The least start is left out: it has an effect on
 -- a talk that follows alone.
 abbrev pub played : BusState → BusState

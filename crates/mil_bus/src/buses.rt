@@ -4,6 +4,7 @@ ghost use Rattle.mil_bus.specs.Addresses.{is_fit, fresh_bus};
 ghost use Rattle.mil_bus.specs.BlockStatus.{block_of, outcome_of};
 ghost use Rattle.mil_bus.specs.Counts.{seen_of};
 ghost use Rattle.mil_bus.specs.Exchange.{exchanged, talk_of, next_start, talk_start, clock_of, now_of, paced, last_on};
+ghost use Rattle.mil_bus.specs.Exchange.{held_until};
 ghost use Rattle.mil_bus.specs.Exchange.{gap_since, least_after};
 ghost use Rattle.mil_line.specs.Ranges.{is_in_range};
 ghost use Rattle.std.specs.List.{list_all};
@@ -116,6 +117,17 @@ impl Bus {
         ensures { self.new ≡ paced tick self.old }
     {
         self.times.least_start = self.times.least_start.max(tick);
+    }
+
+    /// Puts another least start in the place of the bus's, sooner or later, and gives that back: what is exchanged
+    /// until it is put back starts no sooner than at this tick (own choice).
+    pub fn hold(&mut self, tick: u64) -> u64
+        ensures bus { self.new ≡ held_until tick self.old }
+        ensures before { result ≡ self.old.least_start }
+    {
+        let before = self.times.least_start;
+        self.times.least_start = tick;
+        before
     }
 
     /// When the next talk would start by its gap alone.

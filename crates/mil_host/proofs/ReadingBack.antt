@@ -30,11 +30,11 @@ in_words-first (text ∷ texts) rest word first is =
     ap (λ (t : Text). of_word (name_of t) texts) (sym same) ∙ ap (of_word (name_of word)) (sym is)
 
 -- four hexadecimal digits spell a data word
-record IsData (value : ℕ) (word : Text) : Type 0 where
-  reads : data_of word ≡ Ok value
-  is : IsWord word
+pub record IsData (value : ℕ) (word : Text) : Type 0 where
+  pub reads : data_of word ≡ Ok value
+  pub is : IsWord word
 
-data_word : (value : ℕ) → value < 65536 → IsData value (data_text value)
+pub data_word : (value : ℕ) → value < 65536 → IsData value (data_text value)
 data_word value lt =
     let back = four_back value lt in
     record {
@@ -54,16 +54,16 @@ digits_visible [] all = tt
 digits_visible (c ∷ word) all = (visible_digit c all.0, digits_visible word all.1)
 
 -- a printed number reads back within its range
-record IsNumber (low high n : ℕ) : Type 0 where
-  reads : number_of low high (decimal n) ≡ Ok n
-  is : IsWord (decimal n)
+pub record IsNumber (low high n : ℕ) : Type 0 where
+  pub reads : number_of low high (decimal n) ≡ Ok n
+  pub is : IsWord (decimal n)
 
 -- a word that is not empty
 pub has_bytes_of : (word : Text) → 1 ≤ length word → has_bytes word ≡ true
 has_bytes_of [] some = absurd (omega arith)
 has_bytes_of (b ∷ word) some = refl
 
-number : (low high n : ℕ) → low ≤ n → n ≤ high → high ≤ 9999999 → IsNumber low high n
+pub number : (low high n : ℕ) → low ≤ n → n ≤ high → high ≤ 9999999 → IsNumber low high n
 number low high n from to small =
     let spelt = decimal_is_IsNumeral n (omega arith) in
     let some : 1 ≤ length (decimal n) = omega (arith, spelt.0.0) in
@@ -75,13 +75,13 @@ number low high n from to small =
     }
 
 -- data words read back to the end
-all_data_back : (room : ℕ) (values : List ℕ) → length values ≤ room → All (λ w. w < 65536) values → all_data room (map data_text values) ≡ Ok values
+pub all_data_back : (room : ℕ) (values : List ℕ) → length values ≤ room → All (λ w. w < 65536) values → all_data room (map data_text values) ≡ Ok values
 all_data_back room [] few small = refl
 all_data_back zero (w ∷ values) few small = absurd (omega arith)
 all_data_back (suc room) (w ∷ values) few small =
     rw ((data_word w (small 0 0 (omega arith))).reads, all_data_back room values (omega arith) (All-tail (λ w. w < 65536) w values small)) refl
 
-data_words : (values : List ℕ) → All (λ w. w < 65536) values → AreWords (map data_text values)
+pub data_words : (values : List ℕ) → All (λ w. w < 65536) values → AreWords (map data_text values)
 data_words [] small = tt
 data_words (w ∷ values) small = ((data_word w (small 0 0 (omega arith))).is, data_words values (All-tail (λ w. w < 65536) w values small))
 
@@ -99,7 +99,7 @@ switch_word : (on : Bool) → IsWord (switch_text on)
 switch_word true = record { some = refl; visible = (refl, (refl, tt)) }
 switch_word false = record { some = refl; visible = (refl, (refl, (refl, tt))) }
 
-line_word : (line : Line) → IsWord (line_text line)
+pub line_word : (line : Line) → IsWord (line_text line)
 line_word A = record { some = refl; visible = (refl, tt) }
 line_word B = record { some = refl; visible = (refl, tt) }
 

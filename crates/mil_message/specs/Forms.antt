@@ -77,6 +77,19 @@ data_words (ToAll subaddress words) = words.items
 data_words (ModeAllTo subaddress code word) = word ∷ []
 data_words _ = []
 
+-- the first of these words, and this one where there is none
+abbrev pub first_or : ℕ → List ℕ → ℕ
+first_or own [] = own
+first_or own (word ∷ rest) = word
+
+-- the message with these data words in the place of its own, where it has some
+abbrev pub with_data_words : List ℕ → Form → Form
+with_data_words words (ToTerminal address subaddress own) = ToTerminal address subaddress (record { items = words })
+with_data_words words (ModeTo address subaddress code own) = ModeTo address subaddress code (first_or own words)
+with_data_words words (ToAll subaddress own) = ToAll subaddress (record { items = words })
+with_data_words words (ModeAllTo subaddress code own) = ModeAllTo subaddress code (first_or own words)
+with_data_words words form = form
+
 abbrev pub command_of : ℕ → Word
 command_of value = record { sync = CommandSync; value = value }
 

@@ -1,5 +1,6 @@
 //! A message in one of the ten forms.
 ghost use Rattle.mil_message.specs.Forms.{commands, first_command, second_command, data_words, controller_words};
+ghost use Rattle.mil_message.specs.Forms.{with_data_words};
 ghost use Rattle.mil_message.specs.Forms.{controller_waves, command_of, replies_due, form_number};
 ghost use Rattle.mil_message.specs.Request.{request_of};
 ghost use Rattle.mil_message.specs.Rules.{checked, request_for, IsLawful};
@@ -7,7 +8,7 @@ ghost use Rattle.mil_message.specs.declared.forms.Form.{Form as FormValue};
 ghost use Rattle.mil_word.specs.Fields.{most_words};
 ghost use Rattle.mil_word.specs.Words.{command_wave, data_wave};
 ghost use Rattle.std.specs.Option.{option_to_list};
-ghost use Rattle.std.specs.Prelude.{◌≡◌, ◌≤◌, ◌↔◌, ◌∷◌, ◌++◌, Ok, length, map, take, drop};
+ghost use Rattle.std.specs.Prelude.{◌≡◌, ◌<◌, ◌≤◌, ◌↔◌, ◌∷◌, ◌++◌, Ok, length, map, take, drop, slice_set};
 
 use crate::command::{
     mode_command, mode_command_to_all, receive_command, receive_command_to_all, transmit_command,
@@ -238,6 +239,21 @@ impl Message {
         Values {
             words,
             commands: count,
+        }
+    }
+
+    /// Puts another data word in the place of one that the controller sends, counted from 0.
+    #[tactic(auto, using(crate::proofs::Putting::first_set, crate::proofs::Putting::as_many))]
+    pub fn put_data_word(&mut self, index: usize, word: u16)
+        requires { index < length (data_words self.old) }
+        ensures { self.new ≡ with_data_words (slice_set (data_words self.old) index word) self.old }
+    {
+        match &mut self.form {
+            Form::ToTerminal { words, .. } => words[index] = word,
+            Form::ToAll { words, .. } => words[index] = word,
+            Form::ModeTo { word: own, .. } => *own = word,
+            Form::ModeAllTo { word: own, .. } => *own = word,
+            _ => {}
         }
     }
 

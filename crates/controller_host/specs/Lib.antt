@@ -1,0 +1,5 @@
+pub mod Destinations
+pub mod Values
+pub mod Sources
+pub mod Places
+pub mod Ranges
