@@ -15,7 +15,7 @@ use Rattle.mil_message.proofs.Checked.{head_met, second_met, middle_met, third_m
 use Rattle.frame_text.specs.Reading.{Tokens, same_bytes}
 use Rattle.frame_text.specs.Chains.{IsReadable}
 use Rattle.mil_word.specs.Printing.{line_text}
-use Rattle.frame_text.specs.PrintedMessages.{mode_text, mode_all_text, message_text, send_text}
+use Rattle.frame_text.specs.PrintedMessages.{mode_text, mode_all_text, message_text, line_and_message_text, send_text}
 use Rattle.frame_text.proofs.Spelling.{Spells, brackets_then, brackets_spell, number_spells, word_spells, spaced_spells}
 
 abbrev pub Small : ℕ → Type 0
@@ -146,5 +146,8 @@ line_spells_word : (line : Line) → Spells (line_text line) (λ ts. line_text l
 line_spells_word A = word_spells (codes "A") (omega arith) (refl, tt)
 line_spells_word B = word_spells (codes "B") (omega arith) (refl, tt)
 
+pub line_and_message_spells : (line : Line) (m : Form) → IsReadable m → Spells (line_and_message_text line m) (λ ts. line_text line ∷ message_then m ts)
+line_and_message_spells line m h = spaced_spells (line_spells_word line) (message_spells m h (has_small m h.0))
+
 pub send_spells : (line : Line) (m : Form) → IsReadable m → Spells (send_text line m) (send_then line m)
-send_spells line m h = spaced_spells (word_spells (codes "send") (omega arith) (refl, (refl, (refl, (refl, tt))))) (spaced_spells (line_spells_word line) (message_spells m h (has_small m h.0)))
+send_spells line m h = spaced_spells (word_spells (codes "send") (omega arith) (refl, (refl, (refl, (refl, tt))))) (line_and_message_spells line m h)

@@ -1,5 +1,6 @@
 -- The text that a message is printed as: words with one space between them (own choice).
-use Rattle.std.specs.Prelude.{ℕ, ◌/◌, ◌%◌, List, [], ◌∷◌, ◌++◌, map, Bool, true, false, codes, decimal}
+use Rattle.std.specs.Prelude.{ℕ, ◌/◌, ◌%◌, List, [], ◌∷◌, ◌++◌, map, Bool, true, false, codes, decimal, Option, Some}
+use Rattle.std.specs.Prelude.{None, if◌then◌else◌}
 use Rattle.numerals.specs.Numerals.{byte_text}
 use Rattle.mil_word.specs.declared.Line.{Line}
 use Rattle.mil_word.specs.Printing.{line_text}
@@ -18,6 +19,10 @@ spaced (w ∷ v ∷ ws) = w ++ (codes " " ++ spaced (v ∷ ws))
 -- a data word as four hexadecimal digits
 abbrev pub data_word_text : ℕ → List ℕ
 data_word_text w = byte_text (w / 256) ++ byte_text (w % 256)
+
+-- a space, and then a data word
+abbrev pub spaced_data : ℕ → List ℕ
+spaced_data w = codes " " ++ data_word_text w
 
 -- data words in their brackets
 abbrev pub bracketed_text : List ℕ → List ℕ
@@ -61,6 +66,13 @@ message_words (ModeAllTo sub code word) = mode_all_text sub ∷ decimal code ∷
 abbrev pub message_text : Form → List ℕ
 message_text message = spaced (message_words message)
 
+-- that of a mode command alone
+abbrev pub mode_command_text : Form → Option (List ℕ)
+mode_command_text message = if is_mode_command message then Some (message_text message) else None
+
 -- a line and a message
+abbrev pub line_and_message_text : Line → Form → List ℕ
+line_and_message_text line message = line_text line ++ (codes " " ++ message_text message)
+
 abbrev pub send_text : Line → Form → List ℕ
-send_text line message = codes "send " ++ (line_text line ++ (codes " " ++ message_text message))
+send_text line message = codes "send " ++ line_and_message_text line message

@@ -36,6 +36,7 @@ pub use faults::{Cause, Place, ScriptError};
 use frame_tree::Frame;
 pub use laws::scripts_read_back;
 use printed_frames::put_lines;
+pub use printed_messages::SendText;
 use std::alloc::{AllocError, Allocator, Global};
 pub use tokens::next as next_token;
 pub use whole::{parse, read_cond, read_send};

@@ -2,12 +2,13 @@
 
 ghost use Rattle.frame_text.specs.PrintedMessages as texts;
 ghost use Rattle.mil_word.specs.Printing.{line_text};
-ghost use Rattle.std.specs.Prelude.{◌≡◌, ◌++◌, ◌∷◌, [], OnOk, string_bytes, true};
+ghost use Rattle.std.specs.Prelude.{◌≡◌, ◌++◌, OnOk, string_bytes};
 
 use mil_message::{Form, Message, ModeSubaddress};
 use mil_word::Line;
 use std::alloc::AllocError;
-use std::fmt::Write;
+use std::fmt::{self, Display, Formatter, Write};
+use std::slice;
 
 fn line_word(line: Line) -> &'static str
     ensures { result.now ≡ line_text line }
@@ -38,129 +39,184 @@ fn mode_all_word(subaddress: ModeSubaddress) -> &'static str
     }
 }
 
-// A data word as four hexadecimal digits, in upper case.
-fn put_data_word(out: &mut String, word: u16) -> Result<(), AllocError>
-    ensures { OnOk result (string_bytes out.new ≡ string_bytes out.old ++ texts.data_word_text word) }
-{
-    let high = (word / 256) as u8;
-    let low = (word % 256) as u8;
-    write!(out, "{high:02X}{low:02X}")
-}
+/// A data word as four hexadecimal digits, in upper case.
+#[derive(Clone, Copy)]
+struct DataWordText(u16);
 
-// Data words in their brackets.
-fn put_bracketed(out: &mut String, words: &[u16]) -> Result<(), AllocError>
-    ensures { OnOk result (string_bytes out.new ≡ string_bytes out.old ++ texts.bracketed_text words.now) }
-{
-    let Some((first, rest)) = words.split_first() else {
-        return out.push_str("[]");
-    };
-    out.push_str("[")?;
-    put_data_word(out, *first)?;
-    for word in rest {
-        out.push_str(" ")?;
-        put_data_word(out, *word)?;
-    }
-    out.push_str("]")?;
-    Ok(())
-}
+impl Display for DataWordText {
+    ghost use Rattle.frame_text.specs.PrintedMessages.{data_word_text};
+    ghost use Rattle.std.specs.Prelude.{Some};
 
-// One data word in its brackets.
-fn put_one_word(out: &mut String, word: u16) -> Result<(), AllocError>
-    ensures { OnOk result (string_bytes out.new ≡ string_bytes out.old ++ texts.bracketed_text (word ∷ [])) }
-{
-    out.push_str("[")?;
-    put_data_word(out, word)?;
-    out.push_str("]")
-}
+    ghost output = { λ w. Some (data_word_text w.0) };
 
-// A message as its words.
-fn put_message(out: &mut String, message: &Message) -> Result<(), AllocError>
-    ensures { OnOk result (string_bytes out.new ≡ string_bytes out.old ++ texts.message_text message.now) }
-{
-    match message.form() {
-        Form::ToTerminal {
-            address,
-            subaddress,
-            words,
-        } => {
-            write!(out, "rx {address} {subaddress} ")?;
-            put_bracketed(out, words.as_slice())
-        }
-        Form::FromTerminal {
-            address,
-            subaddress,
-            count,
-        } => write!(out, "tx {address} {subaddress} {count}"),
-        Form::Between {
-            sender,
-            sender_subaddress,
-            receiver,
-            receiver_subaddress,
-            count,
-        } => write!(
-            out,
-            "rt {sender} {sender_subaddress} {receiver} {receiver_subaddress} {count}"
-        ),
-        Form::ToAll { subaddress, words } => {
-            write!(out, "brx {subaddress} ")?;
-            put_bracketed(out, words.as_slice())
-        }
-        Form::BetweenAll {
-            sender,
-            sender_subaddress,
-            receiver_subaddress,
-            count,
-        } => write!(
-            out,
-            "brt {sender} {sender_subaddress} {receiver_subaddress} {count}"
-        ),
-        mode_command => put_mode_command(out, mode_command),
+    fn fmt<W: Write>(&self, f: &mut Formatter<W>) -> fmt::Result {
+        let high = (self.0 / 256) as u8;
+        let low = (self.0 % 256) as u8;
+        write!(f, "{high:02X}{low:02X}")
     }
 }
 
-// A mode command as its words.
-fn put_mode_command(out: &mut String, form: &Form) -> Result<(), AllocError>
-    requires { texts.is_mode_command form.now ≡ true }
-    ensures { OnOk result (string_bytes out.new ≡ string_bytes out.old ++ texts.message_text form.now) }
-{
-    match form {
-        Form::Mode {
-            address,
-            subaddress,
-            code,
+/// Data words, each behind a space.
+#[derive(Clone, Copy)]
+struct MoreWordsText<'a>(&'a [u16]);
+
+impl Display for MoreWordsText<'_> {
+    ghost use Rattle.frame_text.specs.PrintedMessages.{spaced_data};
+    ghost use Rattle.std.specs.List.{flat_map};
+    ghost use Rattle.std.specs.Prelude.{Some};
+
+    ghost output = { λ ws. Some (flat_map spaced_data ws.0.now) };
+
+    fn fmt<W: Write>(&self, f: &mut Formatter<W>) -> fmt::Result {
+        for word in self.0 {
+            write!(f, " {}", DataWordText(*word))?;
         }
-        | Form::ModeFrom {
-            address,
-            subaddress,
-            code,
-        } => {
-            let word = mode_word(*subaddress);
-            write!(out, "{word} {address} {code}")
+        Ok(())
+    }
+}
+
+/// Data words in their brackets.
+#[derive(Clone, Copy)]
+struct BracketedText<'a>(&'a [u16]);
+
+impl Display for BracketedText<'_> {
+    ghost use Rattle.frame_text.specs.PrintedMessages.{bracketed_text};
+    ghost use Rattle.std.specs.Prelude.{Some};
+
+    ghost output = { λ ws. Some (bracketed_text ws.0.now) };
+
+    fn fmt<W: Write>(&self, f: &mut Formatter<W>) -> fmt::Result {
+        let Some((first, rest)) = self.0.split_first() else {
+            return f.write_str("[]");
+        };
+        let first = DataWordText(*first);
+        let rest = MoreWordsText(rest);
+        write!(f, "[{first}{rest}]")
+    }
+}
+
+/// A mode command.
+#[derive(Clone, Copy)]
+struct ModeCommandText<'a>(&'a Form);
+
+impl Display for ModeCommandText<'_> {
+    ghost use Rattle.frame_text.specs.PrintedMessages.{mode_command_text};
+
+    ghost output = { λ form. mode_command_text form.0.now };
+
+    fn fmt<W: Write>(&self, f: &mut Formatter<W>) -> fmt::Result {
+        match self.0 {
+            Form::Mode {
+                address,
+                subaddress,
+                code,
+            }
+            | Form::ModeFrom {
+                address,
+                subaddress,
+                code,
+            } => {
+                let word = mode_word(*subaddress);
+                write!(f, "{word} {address} {code}")
+            }
+            Form::ModeTo {
+                address,
+                subaddress,
+                code,
+                word,
+            } => {
+                let first = mode_word(*subaddress);
+                let words = BracketedText(slice::from_ref(word));
+                write!(f, "{first} {address} {code} {words}")
+            }
+            Form::ModeAll { subaddress, code } => {
+                let word = mode_all_word(*subaddress);
+                write!(f, "{word} {code}")
+            }
+            Form::ModeAllTo {
+                subaddress,
+                code,
+                word,
+            } => {
+                let first = mode_all_word(*subaddress);
+                let words = BracketedText(slice::from_ref(word));
+                write!(f, "{first} {code} {words}")
+            }
+            _ => f.write_str(""),
         }
-        Form::ModeTo {
-            address,
-            subaddress,
-            code,
-            word,
-        } => {
-            let first = mode_word(*subaddress);
-            write!(out, "{first} {address} {code} ")?;
-            put_one_word(out, *word)
+    }
+}
+
+/// A message as its words.
+#[derive(Clone, Copy)]
+struct MessageText<'a>(&'a Message);
+
+impl Display for MessageText<'_> {
+    ghost use Rattle.frame_text.specs.PrintedMessages.{message_text};
+    ghost use Rattle.std.specs.Prelude.{Some};
+
+    ghost output = { λ m. Some (message_text m.0.now) };
+
+    fn fmt<W: Write>(&self, f: &mut Formatter<W>) -> fmt::Result {
+        match self.0.form() {
+            Form::ToTerminal {
+                address,
+                subaddress,
+                words,
+            } => {
+                let words = BracketedText(words.as_slice());
+                write!(f, "rx {address} {subaddress} {words}")
+            }
+            Form::FromTerminal {
+                address,
+                subaddress,
+                count,
+            } => write!(f, "tx {address} {subaddress} {count}"),
+            Form::Between {
+                sender,
+                sender_subaddress,
+                receiver,
+                receiver_subaddress,
+                count,
+            } => write!(
+                f,
+                "rt {sender} {sender_subaddress} {receiver} {receiver_subaddress} {count}"
+            ),
+            Form::ToAll { subaddress, words } => {
+                let words = BracketedText(words.as_slice());
+                write!(f, "brx {subaddress} {words}")
+            }
+            Form::BetweenAll {
+                sender,
+                sender_subaddress,
+                receiver_subaddress,
+                count,
+            } => write!(
+                f,
+                "brt {sender} {sender_subaddress} {receiver_subaddress} {count}"
+            ),
+            mode_command => write!(f, "{}", ModeCommandText(mode_command)),
         }
-        Form::ModeAll { subaddress, code } => {
-            let word = mode_all_word(*subaddress);
-            write!(out, "{word} {code}")
-        }
-        Form::ModeAllTo {
-            subaddress,
-            code,
-            word,
-        } => {
-            let first = mode_all_word(*subaddress);
-            write!(out, "{first} {code} ")?;
-            put_one_word(out, *word)
-        }
-        _ => unreachable!(),
+    }
+}
+
+/// A line and a message as what stands behind `send` in a script.
+#[derive(Clone, Copy)]
+pub struct SendText<'a> {
+    pub line: Line,
+    pub message: &'a Message,
+}
+
+impl Display for SendText<'_> {
+    ghost use Rattle.frame_text.specs.PrintedMessages.{line_and_message_text};
+    ghost use Rattle.std.specs.Prelude.{Some};
+
+    ghost output = { λ s. Some (line_and_message_text s.line s.message.now) };
+
+    fn fmt<W: Write>(&self, f: &mut Formatter<W>) -> fmt::Result {
+        let line = line_word(self.line);
+        let message = MessageText(self.message);
+        write!(f, "{line} {message}")
     }
 }
 
@@ -168,7 +224,6 @@ fn put_mode_command(out: &mut String, form: &Form) -> Result<(), AllocError>
 pub fn put_send(out: &mut String, line: Line, message: &Message) -> Result<(), AllocError>
     ensures { OnOk result (string_bytes out.new ≡ string_bytes out.old ++ texts.send_text line message.now) }
 {
-    let word = line_word(line);
-    write!(out, "send {word} ")?;
-    put_message(out, message)
+    let text = SendText { line, message };
+    write!(out, "send {text}")
 }

@@ -1,0 +1,4 @@
+pub mod ControlsBack
+pub mod MessageLines
+pub mod Printed
+pub mod Tokens
