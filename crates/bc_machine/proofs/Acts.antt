@@ -7,17 +7,30 @@ use Rattle.mil_bus.specs.declared.talks.Sent.{Sent}
 use Rattle.mil_bus.specs.declared.talks.Talk.{Talk}
 use Rattle.mil_bus.specs.Times.{end_of, end_from, lasting}
 use Rattle.mil_bus.specs.Exchange.{BusState, exchanged, talk_of, clock_of, next_start, now_of}
-use Rattle.mil_bus.specs.Actions.{acted}
 use Rattle.bc_machine.specs.declared.placed.Placed.{Placed}
-use Rattle.bc_machine.specs.Controller.{all_acted, placed_at, ready}
+use Rattle.bc_machine.specs.declared.placed.HostAction.{HostAction}
+use Rattle.bc_machine.specs.declared.placed.HostAction.TheVariants.{Terminal, Controller}
+use Rattle.bc_machine.specs.Controller.{host_acted, all_acted, placed_at, ready}
+
+one_talks : (a : HostAction) (b : BusState) → (host_acted b a).talks ≡ b.talks
+one_talks (Terminal address action) b = refl
+one_talks (Controller asked) b = refl
+
+one_start : (a : HostAction) (b : BusState) → (host_acted b a).start ≡ b.start
+one_start (Terminal address action) b = refl
+one_start (Controller asked) b = refl
+
+one_least : (a : HostAction) (b : BusState) → (host_acted b a).least_start ≡ b.least_start
+one_least (Terminal address action) b = refl
+one_least (Controller asked) b = refl
 
 acted_talks : (ps : List Placed) (b : BusState) → (all_acted b ps).talks ≡ b.talks
 acted_talks [] b = refl
-acted_talks (p ∷ ps) b = acted_talks ps (acted b p.address p.action)
+acted_talks (p ∷ ps) b = acted_talks ps (host_acted b p.action) ∙ one_talks p.action b
 
 acted_start : (ps : List Placed) (b : BusState) → (all_acted b ps).start ≡ b.start
 acted_start [] b = refl
-acted_start (p ∷ ps) b = acted_start ps (acted b p.address p.action)
+acted_start (p ∷ ps) b = acted_start ps (host_acted b p.action) ∙ one_start p.action b
 
 -- no action moves the clock
 pub ready_talks : (placed : List Placed) (number : ℕ) (b : BusState) → (ready placed number b).talks ≡ b.talks
@@ -26,7 +39,7 @@ ready_talks placed number b = acted_talks (placed_at number placed) b
 
 acted_least : (ps : List Placed) (b : BusState) → (all_acted b ps).least_start ≡ b.least_start
 acted_least [] b = refl
-acted_least (p ∷ ps) b = acted_least ps (acted b p.address p.action)
+acted_least (p ∷ ps) b = acted_least ps (host_acted b p.action) ∙ one_least p.action b
 
 pub ready_least : (placed : List Placed) (number : ℕ) (b : BusState) → (ready placed number b).least_start ≡ b.least_start
 unfolding ready

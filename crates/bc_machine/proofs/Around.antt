@@ -1,10 +1,11 @@
 -- Parts of rows that have all of one number.
-use Rattle.std.proofs.Common.{◌≡◌, ◌≢◌, ◌-◌, ◌<◌, ◌==◌, ℕ, zero, suc, Bool, true, false, cond, List, [], ◌∷◌, length, take, drop, map, ltb, leb, eqb, refl, sym, ap, ◌∙◌, arith}
+use Rattle.std.proofs.Common.{◌≡◌, ◌≢◌, ◌+◌, ◌-◌, ◌<◌, get_or, ◌==◌, ℕ, zero, suc, Bool, true, false, cond, List, [], ◌∷◌, length, take, drop, ltb, leb, eqb, refl, sym, ap, ◌∙◌, arith}
 use Rattle.std.specs.List.{AllWithin, filter}
-use Rattle.std.proofs.lemmas.Bool.{ltb-true, leb-false}
-use Rattle.std.proofs.lemmas.List.{take_all, length-drop}
+use Rattle.std.proofs.lemmas.Bool.{ltb-true, ltb-false, leb-true, leb-false}
+use Rattle.std.proofs.lemmas.List.{take_all, length-drop, length-take, get_or-take, get_or-drop}
+use Rattle.std.specs.Prelude.{All}
 use Rattle.std.proofs.lemmas.Bool.Decides.{nat_tests}
-use Rattle.mil_host.specs.Values.{PutUp}
+use Rattle.bc_machine.specs.declared.placed.HostAction.{HostAction}
 use Rattle.bc_machine.specs.declared.placed.Placed.{Placed}
 use Rattle.bc_machine.specs.declared.action_rows.Row.{Row}
 use Rattle.bc_machine.specs.Controller.{placed_at}
@@ -49,17 +50,34 @@ module _ {X : Type 0} (number_of : X → ℕ) where
       ∙ ap (at n) whole
       ∙ skip xs f n (λ k d low high. ltb-true _ _ (before k d low high))
 
+  -- it has no other
+  pub alone : (xs : List X) (n f t : ℕ) → AllWithin (λ x. ltb (number_of x) n ≡ false) xs f (length xs)
+      → AllWithin (λ x. leb (number_of x) n ≡ true) (take (length xs - f) (drop f xs)) 0 t
+      → All (λ x. number_of x ≡ n) (take t (take (length xs - f) (drop f xs)))
+  alone xs n f t low high k d less =
+      let rest = take (length xs - f) (drop f xs) in
+      let whole : rest ≡ drop f xs = take_all (length xs - f) (drop f xs) (omega (arith, length-drop f xs)) in
+      let short = length-take t rest in
+      let long : length rest ≡ length xs - f = ap length whole ∙ length-drop f xs in
+      let first : get_or (take t rest) k d ≡ get_or rest k d = get_or-take t rest k d (omega (arith, less, short)) in
+      let at : get_or rest k d ≡ get_or xs (f + k) d = ap (λ ys. get_or ys k d) whole ∙ get_or-drop f xs k d in
+      let least = ltb-false _ _ (low (f + k) d (omega arith) (omega (arith, less, short, long))) in
+      let most = leb-true _ _ (high k d (omega arith) (omega (arith, less, short))) in
+      let same : number_of (get_or (take t rest) k d) ≡ number_of (get_or rest k d) = ap number_of first in
+      let here : number_of (get_or rest k d) ≡ number_of (get_or xs (f + k) d) = ap number_of at in
+      omega (arith, same, here, least, most)
+
 -- ---- what rows stand for
 
 -- the actions of a number are those of its rows
-pub placed_at_rows : (n : ℕ) (words : List PutUp) (rows : List Row) → placed_at n (all_placed words rows) ≡ all_placed words (rows_at n rows)
-placed_at_rows n words [] = refl
-placed_at_rows n words (r ∷ rs) = by_case (eqb r.number n) (placed_at_rows n words rs)
+pub placed_at_rows : (n : ℕ) (beside : List HostAction) (rows : List Row) → placed_at n (all_placed beside rows) ≡ all_placed beside (rows_at n rows)
+placed_at_rows n beside [] = refl
+placed_at_rows n beside (r ∷ rs) = by_case (eqb r.number n) (placed_at_rows n beside rs)
   where
-    by_case : (b : Bool) → placed_at n (all_placed words rs) ≡ all_placed words (rows_at n rs)
-        → cond b (placed_of words r ∷ placed_at n (all_placed words rs)) (placed_at n (all_placed words rs)) ≡ all_placed words (cond b (r ∷ rows_at n rs) (rows_at n rs))
-    by_case true h = ap (λ (ps : List Placed). placed_of words r ∷ ps) h
+    by_case : (b : Bool) → placed_at n (all_placed beside rs) ≡ all_placed beside (rows_at n rs)
+        → cond b (placed_of beside r ∷ placed_at n (all_placed beside rs)) (placed_at n (all_placed beside rs)) ≡ all_placed beside (cond b (r ∷ rows_at n rs) (rows_at n rs))
+    by_case true h = ap (λ (ps : List Placed). placed_of beside r ∷ ps) h
     by_case false h = h
 
-pub same_placed : (n : ℕ) (words : List PutUp) (rows others : List Row) → rows_at n rows ≡ rows_at n others → placed_at n (all_placed words rows) ≡ placed_at n (all_placed words others)
-same_placed n words rows others same = placed_at_rows n words rows ∙ ap (all_placed words) same ∙ sym (placed_at_rows n words others)
+pub same_placed : (n : ℕ) (beside : List HostAction) (rows others : List Row) → rows_at n rows ≡ rows_at n others → placed_at n (all_placed beside rows) ≡ placed_at n (all_placed beside others)
+same_placed n beside rows others same = placed_at_rows n beside rows ∙ ap (all_placed beside) same ∙ sym (placed_at_rows n beside others)

@@ -3,6 +3,7 @@ pub mod Numbers
 pub mod Posted
 pub mod Around
 pub mod Listed
+pub mod Marks
 pub mod Runs
 pub mod Steps
 pub mod Rows
@@ -10,3 +11,14 @@ pub mod OpenFrames
 pub mod Told
 pub mod Next
 pub mod Coming
+pub mod Queued
+pub mod Carried
+pub mod Filled
+pub mod Inserting
+pub mod Reached
+pub mod Asked
+pub mod Kept
+pub mod Sent
+pub mod Alone
+pub mod Left
+pub mod States

@@ -1,3 +1,5 @@
+pub mod MadeMessages
+pub mod Hosting
 pub mod Controller
 pub mod Outcomes
 pub mod Rising
@@ -16,3 +18,5 @@ pub mod Posting
 pub mod SavedMachine
 pub mod Alike
 pub mod Coming
+pub mod Agendas
+pub mod Asking

@@ -14,6 +14,7 @@ pub record IsAble (m : MachineState) : Type 0 where
   pub room_to_call : (k : ℕ) → slice_get m.code.operations m.at.place ≡ Some (op.Call k) → length m.at.returns < 32
   pub room_to_begin : slice_get m.code.operations m.at.place ≡ Some op.Begin → length m.at.frames < 16
   pub number : m.point.number ≤ 1000000
+  pub counted : m.point.number ≡ length m.made
   pub taken : m.taken ≤ 100000000
   pub clock : clock_in m ≤ 2 ^ 48
   pub begun : HaveBegun m

@@ -2,7 +2,9 @@
 use Rattle.std.specs.Prelude.{ℕ, ◌+◌, Bool, true, false, ◌∷◌}
 use Rattle.mil_word.specs.declared.Line.{Line}
 use Rattle.mil_message.specs.World.{other_line}
-use Rattle.frame_code.specs.Table.{Registers, at_place}
+use Rattle.mil_bus.specs.declared.outcomes.Outcome.{Outcome}
+use Rattle.frame_code.specs.Table.{Registers, Running, Turn, goes_on, halted, stuck, at_place}
+use Rattle.bc_machine.specs.Controller.{BusRun}
 use Rattle.bc_machine.specs.Running.{MachineState, clock_in}
 
 -- one more step was taken, and these are the registers after it
@@ -29,3 +31,18 @@ flagged m flag = with_registers m (record m.at { flag = flag })
 abbrev pub line_of : Bool → Line → Line → Line
 line_of false last own = own
 line_of true last own = other_line last
+
+-- a controller behind a row that sends nothing
+abbrev pub moved_quietly : Turn (Running BusRun Outcome) → MachineState → MachineState
+moved_quietly (goes_on x) m = record m {
+  taken = m.taken + 1;
+  at = x.at;
+  point = record {
+    state = x.point.state.bus;
+    number = m.point.number;
+    gap = x.point.gap;
+    last = x.point.last;
+  };
+}
+moved_quietly halted m = m
+moved_quietly stuck m = m

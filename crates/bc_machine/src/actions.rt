@@ -1,4 +1,5 @@
 //! A list of placed actions.
+ghost use Rattle.bc_machine.specs.Agendas.{inserts_among};
 ghost use Rattle.bc_machine.specs.Controller.{placed_at};
 ghost use Rattle.bc_machine.specs.Rising.{IsRising, IsParted};
 ghost use Rattle.std.specs.List.Sorted.{IsPermutation};
@@ -92,11 +93,14 @@ impl Actions {
         ensures pushed { OnOk result (self.new ≡ self.old ++ one ∷ []) }
         ensures same { OnErr result (self.new ≡ self.old) }
     {
-        self.schedule.room(1)?;
-        match self.schedule.add(one) {
-            Ok(()) => Ok(()),
-            Err(_) => Err(AllocError),
-        }
+        self.schedule.push(one)
+    }
+
+    /// How many of them have a message inserted.
+    pub fn inserts(&self) -> u64
+        ensures { result ≡ length (inserts_among self.now) }
+    {
+        self.schedule.inserts()
     }
 
     /// How many actions have numbers up to one, where numbers never fall.

@@ -1,8 +1,8 @@
 //! Frames with a period (own choice).
 ghost use Rattle.bc_machine.specs.Frames.{HaveBegun, closing_of};
 ghost use Rattle.bc_machine.specs.MayStep.{IsAble};
-ghost use Rattle.bc_machine.specs.Moves.{framed};
-ghost use Rattle.bc_machine.specs.Running.{moved_by, clock_in, world_in};
+ghost use Rattle.bc_machine.specs.Moves.{framed, moved_quietly};
+ghost use Rattle.bc_machine.specs.Running.{clock_in, world_in, frames_point};
 ghost use Rattle.frame_code.specs.Table.{keeps_pace};
 ghost use Rattle.std.specs.Prelude.{◌≡◌, ◌<◌, ◌≤◌, ◌+◌, ◌*◌, ◌^◌, length, IfSome};
 
@@ -39,8 +39,8 @@ impl Parts {
         requires open { 0 < length self.old.at.frames }
         requires begun { HaveBegun self.old }
         requires clock { clock_in self.old ≤ 2 ^ 48 }
-        ensures value { self.new ≡ moved_by
-            (keeps_pace (world_in self.old) self.old.at.frames hundreds self.old.at self.old.point) self.old }
+        ensures value { self.new ≡ moved_quietly
+            (keeps_pace (world_in self.old) self.old.at.frames hundreds self.old.at (frames_point self.old)) self.old }
         ensures answer { result ≡ Stepped.Ran }
         ensures soon { clock_in self.new ≤ clock_in self.old + 1000 * hundreds }
     {

@@ -1,10 +1,9 @@
 //! What holds of every run of a controller.
 ghost use Rattle.bc_machine.specs.Posting.{ActionsToComeAreFree, HaltsAlike};
-ghost use Rattle.bc_machine.specs.Running.{EachController, after_steps, turn_of};
+ghost use Rattle.bc_machine.specs.Running.{EachController, after_steps, turn_of, is_own, most_inserted};
 ghost use Rattle.frame_code.specs.Table.{halted, stuck};
 ghost use Rattle.frame_load.specs.Budget.{budget, worst_messages};
-ghost use Rattle.mil_bus.specs.Exchange.{BusState};
-ghost use Rattle.std.specs.Prelude.{◌≡◌, ◌≢◌, ◌≤◌, ◌-◌, ℕ};
+ghost use Rattle.std.specs.Prelude.{◌≡◌, ◌≢◌, ◌≤◌, ◌+◌, ◌-◌, ℕ, count_by};
 
 use frame_code::Setting;
 use frame_load::loadable_runs;
@@ -13,23 +12,27 @@ use frame_load::loadable_runs;
 pub struct BusSetting;
 
 impl Setting for BusSetting {
-    ghost use Rattle.mil_bus.specs.Exchange.{BusState};
+    ghost use Rattle.bc_machine.specs.Controller.{BusRun};
     ghost use Rattle.mil_bus.specs.declared.outcomes.Outcome.{Outcome};
 
-    ghost State = { BusState };
+    ghost State = { BusRun };
 
     ghost Outcome = { Outcome };
 }
 
 /// Law: a controller that runs a loadable code on any bus, under any plan and any placed actions, is never stuck: it
 /// never meets a bad place, an empty list of counters, of return places or of open frames, or a routine or a message
-/// that is not there. It sends at most as many messages as the code's sum says, and stands at a Halt after one step
-/// less than its budget, which counts the Halt too.
+/// that is not there. It sends at most as many messages of the code as the code's sum says; where that is at most
+/// 1,000,000, so are all messages, with those that its host has inserted. It stands at a Halt after one step less than
+/// its budget, which counts the Halt too, and a step for each message that may be inserted.
 pub fn controller_runs()
     ensures never_stuck { EachController (λ m. (n : ℕ) → turn_of (after_steps n m) ≢ stuck) }
     ensures messages { EachController (λ m. (n : ℕ) →
-        (after_steps n m).point.number ≤ worst_messages m.code.operations) }
-    ensures halts { EachController (λ m. turn_of (after_steps (budget m.code.operations - 1) m) ≡ halted) }
+        count_by is_own (after_steps n m).made ≤ worst_messages m.code.operations) }
+    ensures all_messages { EachController (λ m. (n : ℕ) →
+        worst_messages m.code.operations ≤ 1000000 → (after_steps n m).point.number ≤ 1000000) }
+    ensures halts { EachController (λ m.
+        turn_of (after_steps ((budget m.code.operations - 1) + most_inserted m.code) m) ≡ halted) }
 {
     loadable_runs::<BusSetting>();
 }

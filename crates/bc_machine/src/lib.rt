@@ -1,24 +1,29 @@
-//! The bus controller (own choice): a loaded program under way on a real bus, step by step; and lists of placed
-//! actions, in rows of 16 bytes.
+//! The bus controller (own choice): a loaded program under way on a real bus, step by step, with what its host asks
+//! for; and lists of placed actions, in rows of 16 bytes.
 //!
-//! It may know: words, messages, status bits, host actions, gaps and planned faults, the bus, the monitor, code,
-//! the loader. Its tests: `frame_tests`. Its wrong bodies: `edits/`.
+//! It may know: words, messages, status bits, host actions, what the host of a controller asks for, gaps and planned
+//! faults, the bus, the monitor, histories, code, the loader. Its tests: `frame_tests`. Its wrong bodies: `edits/`.
 #![tactic(auto)]
 
 mod action_rows;
 mod actions;
+mod agenda;
+mod asking;
 mod begun;
 mod frames;
 mod laws;
 mod lookup;
 mod machine;
+mod made;
 mod outcomes;
 mod parts;
 mod placed;
 mod posting;
 mod progress;
+mod queue;
 mod saved;
 mod schedule;
+mod sending;
 mod stack;
 mod upcoming;
 
@@ -28,7 +33,7 @@ pub use laws::{BusSetting, actions_to_come_are_free, controller_runs};
 pub use machine::Machine;
 use mil_monitor::Record;
 pub use outcomes::asks;
-pub use placed::Placed;
+pub use placed::{HostAction, Placed};
 pub use saved::Saved;
 pub use schedule::Schedule;
 pub use upcoming::Upcoming;
@@ -38,8 +43,11 @@ pub use upcoming::Upcoming;
 pub enum Stepped {
     /// An operation that sends nothing.
     Ran,
-    /// A message was sent; this is its record.
+    /// A message of the script was sent; this is its record.
     Sent(Record),
-    /// The program has ended; every later step is Halted too.
+    /// A message was sent that the host of the controller had inserted; this is its record.
+    Inserted(Record),
+    /// The program has ended, and no inserted message waits; every later step is Halted too, until one is placed at the
+    /// next message.
     Halted,
 }

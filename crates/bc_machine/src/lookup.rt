@@ -1,10 +1,10 @@
 //! How the placed actions of a number are found among the others.
 ghost use Rattle.bc_machine.specs.Rows.{rows_at, IsRow};
-ghost use Rattle.bc_machine.specs.Schedules.{AreRising, AreSorted, FindsRows};
-ghost use Rattle.std.specs.Prelude.{◌≡◌, ℕ, List, IsTrue, All, IfOk, length};
+ghost use Rattle.bc_machine.specs.Schedules.{AreOf, AreRising, AreSorted, FindsRows, finds_alone};
+ghost use Rattle.std.specs.Prelude.{◌≡◌, ℕ, List, IsTrue, All, IfOk, length, true};
 
 use crate::action_rows::Row;
-use mil_host::TransmitWords;
+use crate::placed::HostAction;
 use std::alloc::{AllocError, Global};
 
 /// How the rows of a number are found among the others.
@@ -23,6 +23,7 @@ fn part(rows: &[Row], number: u32) -> &[Row]
     requires { AreRising rows.now }
     ensures same { rows_at number result.now ≡ rows_at number rows.now }
     ensures rows { (n : ℕ) → All (IsRow n) rows.now → All (IsRow n) result.now }
+    ensures alone { AreOf number result.now }
 {
     let from = rows.partition_point(|row| row.number < number);
     let rest = &rows[from..];
@@ -54,12 +55,20 @@ impl Lookup {
         matches!(self, Lookup::Rising)
     }
 
+    /// Whether the rows that are found are of one number alone.
+    pub fn finds_alone(&self) -> bool
+        ensures { result ≡ finds_alone self.now }
+    {
+        !matches!(self, Lookup::Each)
+    }
+
     /// Rows that have all of a number, in their order.
-    pub fn rows_of<'a>(&'a self, rows: &'a [Row], words: &[TransmitWords], number: u32) -> &'a [Row]
-        requires found { FindsRows self.now (length words.now) rows.now }
-        requires rows { All (IsRow (length words.now)) rows.now }
+    pub fn rows_of<'a>(&'a self, rows: &'a [Row], beside: &[HostAction], number: u32) -> &'a [Row]
+        requires found { FindsRows self.now (length beside.now) rows.now }
+        requires rows { All (IsRow (length beside.now)) rows.now }
         ensures same { rows_at number result.now ≡ rows_at number rows.now }
-        ensures rows { All (IsRow (length words.now)) result.now }
+        ensures rows { All (IsRow (length beside.now)) result.now }
+        ensures alone { finds_alone self.now ≡ true → AreOf number result.now }
     {
         match self {
             Lookup::Rising => part(rows, number),

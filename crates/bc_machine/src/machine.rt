@@ -1,14 +1,17 @@
 //! A controller whose program is under way.
+ghost use Rattle.bc_machine.specs.Agendas.{StandsForSources};
 ghost use Rattle.bc_machine.specs.Alike.{AreAlike};
+ghost use Rattle.bc_machine.specs.Hosting.{queue_at};
 ghost use Rattle.bc_machine.specs.Running.{started, stepped, answered};
 ghost use Rattle.bc_machine.specs.UnderWay.{IsUnderWay, TellsStep};
 ghost use Rattle.mil_bus.specs.Exchange.{now_of};
-ghost use Rattle.std.specs.Prelude.{◌≡◌, ◌≤◌, ◌^◌, IfOk, OnOk, OnErr};
+ghost use Rattle.std.specs.Prelude.{◌≡◌, ◌≤◌, ◌^◌, length, IfOk, OnOk, OnErr};
 
 use crate::laws::BusSetting;
 use crate::parts::Parts;
 use crate::saved::Saved;
 use crate::{Actions, Stepped};
+use controller_host::Sources;
 use frame_load::{Program, loadable_runs};
 use mil_bus::{Bus, Outcome};
 use mil_line::Plan;
@@ -16,8 +19,8 @@ use std::alloc::{AllocError, Global};
 use std::marker::Model;
 
 /// A program under way on a bus. Contracts see its code, the plan, the placed actions, the bus that it began with, how
-/// many steps it took, the controller's registers, the bus as it is now, how many messages were sent, the gap, and the
-/// last outcome.
+/// many steps it took, the controller's registers, the bus as it is now, how many messages were made and which, the
+/// gap, and the last outcome, of the script and of all messages.
 #[derive(Drop)]
 pub struct Machine {
     pub(crate) parts: Parts,
@@ -47,9 +50,10 @@ impl Machine {
         }
     }
 
-    /// One step: one row of the operation table. A message step raises the number, lets the actions placed at it act in
-    /// their order, makes the exchange with the faults planned for it, keeps the outcome, and answers the record. It
-    /// takes no memory.
+    /// One step: one row of the operation table, or in front of a message and at the end of the program the message
+    /// that the host of the controller asked for and that waits longest. A message step raises the number, lets the
+    /// actions placed at it act in their order, makes the exchange with the faults planned for it, keeps the outcome,
+    /// and answers the record. It takes no memory.
     pub fn step(&mut self) -> Stepped
         ensures value { self.new ≡ stepped self.old }
         ensures answer { result ≡ answered self.old }
@@ -76,11 +80,32 @@ impl Machine {
         self.parts.number()
     }
 
-    /// What the last message came to; None before any.
+    /// What the last message of the script came to; None before any.
     pub fn last_outcome(&self) -> Option<Outcome>
         ensures { result ≡ self.now.point.last }
     {
         self.parts.last_outcome()
+    }
+
+    /// What the latest message came to, of the script or inserted; None before any.
+    pub fn latest_outcome(&self) -> Option<Outcome>
+        ensures { result ≡ self.now.latest }
+    {
+        self.parts.latest_outcome()
+    }
+
+    /// How many messages wait that the host of the controller had inserted by the messages made so far.
+    pub fn queued(&self) -> u64
+        ensures { result ≡ length (queue_at (length self.now.made) self.now.placed self.now.made) }
+    {
+        self.parts.queued()
+    }
+
+    /// The sources of words that the host of the controller has set by the messages made so far.
+    pub fn sources(&self) -> &Sources
+        ensures { StandsForSources result.now.rows self.now.placed self.now.made }
+    {
+        self.parts.sources()
     }
 
     /// An equal controller, in memory of its own, which fails for want of memory alone.

@@ -1,34 +1,34 @@
 //! A controller's parts, wherever its program stands.
+ghost use Rattle.bc_machine.specs.Agendas.{StandsForSources};
 ghost use Rattle.bc_machine.specs.Alike.{AreAlike};
 ghost use Rattle.bc_machine.specs.Frames.{most_ticks};
+ghost use Rattle.bc_machine.specs.Hosting.{queue_at};
 ghost use Rattle.bc_machine.specs.MayStep.{IsAble};
 ghost use Rattle.bc_machine.specs.Moves as moves;
-ghost use Rattle.bc_machine.specs.Moves.{line_of};
 ghost use Rattle.bc_machine.specs.Outcomes.{test_of};
-ghost use Rattle.bc_machine.specs.Running.{started, moved_by, stepped, answered, latest, clock_in, world_in};
+ghost use Rattle.bc_machine.specs.Running.{started, stepped, answered, clock_in, world_in, frames_point};
 ghost use Rattle.frame_code.specs.Loadable.{IsLoadable};
 ghost use Rattle.frame_code.specs.Routines.{routine_at};
-ghost use Rattle.frame_code.specs.Table.{sends, turns, leaves, calls, comes_back};
+ghost use Rattle.frame_code.specs.Table.{turns, leaves, calls, comes_back};
 ghost use Rattle.frame_load.specs.Judging.{IsWithin, HasShortPeriods};
-ghost use Rattle.mil_message.specs.World.{sent};
 ghost use Rattle.mil_word.specs.Timing.{least_gap};
 ghost use Rattle.mil_word.specs.declared.Line.{Line};
 ghost use Rattle.std.specs.Prelude.{OnOk, OnErr};
 ghost use Rattle.std.specs.Prelude.{◌≡◌, ◌<◌, ◌≤◌, ◌+◌, ◌^◌, ◌≢◌, Some, None, if◌then◌else◌, slice_get, length, IfOk};
 
+use crate::agenda::Agenda;
 use crate::begun::{Begun, begun_with, same};
-use crate::outcomes::{asks, other};
+use crate::outcomes::asks;
 use crate::progress::Progress;
 use crate::saved::SavedParts;
-use crate::schedule::{Schedule, act_both};
 use crate::stack::Stack;
 use crate::{Actions, Stepped};
+use controller_host::Sources;
 use frame_code::Op;
 use frame_load::Program;
-use mil_bus::{Bus, Outcome, Talk, TalkCounts};
+use mil_bus::{Bus, Outcome, Talk};
 use mil_line::{Gap, Plan};
 use mil_message::OutcomeTest;
-use mil_monitor::observe_with;
 use mil_word::Line;
 use mil_word::timing::LEAST_GAP;
 use std::alloc::AllocError;
@@ -40,13 +40,12 @@ use std::snapshot::Snapshot;
 pub struct Parts {
     pub(crate) program: Program,
     pub(crate) plan: Plan,
-    pub(crate) placed: Schedule,
-    pub(crate) posted: Schedule,
+    pub(crate) agenda: Agenda,
     begun: Snapshot<Begun>,
     pub(crate) progress: Progress,
     pub(crate) bus: Bus,
     /// Room for the talk of a message while it is sent; what is there between messages counts for nothing.
-    talk: Talk,
+    pub(crate) talk: Talk,
 }
 
 impl Model for Parts {
@@ -71,13 +70,10 @@ impl Parts {
         let _image = program.image();
         let begun = begun_with(&bus);
         let place = program.main();
-        let placed = Schedule::of(placed);
-        let posted = Schedule::none(placed.allocator());
         Parts {
             program,
             plan,
-            placed,
-            posted,
+            agenda: Agenda::begin(placed),
             begun,
             progress: Progress {
                 taken: 0,
@@ -87,9 +83,9 @@ impl Parts {
                 frames: Stack::none(),
                 flag: false,
                 line: Line::A,
-                number: 0,
                 gap: Gap::of(LEAST_GAP),
                 last: None,
+                latest: None,
             },
             bus,
             talk: Talk::none(),
@@ -154,8 +150,8 @@ impl Parts {
         requires taken { self.old.taken < 2 ^ 31 }
         requires place { self.old.at.place < 4096 }
         requires counter { 0 < length self.old.at.counters }
-        ensures value { self.new ≡ moved_by
-            (turns (world_in self.old) self.old.at.counters place self.old.at self.old.point) self.old }
+        ensures value { self.new ≡ moves.moved_quietly
+            (turns (world_in self.old) self.old.at.counters place self.old.at (frames_point self.old)) self.old }
         ensures answer { result ≡ Stepped.Ran }
     {
         match self.progress.counters.pop() {
@@ -171,8 +167,8 @@ impl Parts {
     fn leave(&mut self, place: u16) -> Stepped
         requires taken { self.old.taken < 2 ^ 31 }
         requires counter { 0 < length self.old.at.counters }
-        ensures value { self.new ≡ moved_by
-            (leaves (world_in self.old) self.old.at.counters place self.old.at self.old.point) self.old }
+        ensures value { self.new ≡ moves.moved_quietly
+            (leaves (world_in self.old) self.old.at.counters place self.old.at (frames_point self.old)) self.old }
         ensures answer { result ≡ Stepped.Ran }
     {
         // What is left of the loop's count is no longer asked for.
@@ -186,9 +182,9 @@ impl Parts {
         requires place { self.old.at.place < 4096 }
         requires room { length self.old.at.returns < 32 }
         requires there { routine_at self.old.code.operations routine ≢ None }
-        ensures value { self.new ≡ moved_by
-            (calls (world_in self.old) (routine_at self.old.code.operations routine) self.old.at self.old.point)
-            self.old }
+        ensures value { self.new ≡ moves.moved_quietly
+            (calls (world_in self.old) (routine_at self.old.code.operations routine) self.old.at
+            (frames_point self.old)) self.old }
         ensures answer { result ≡ Stepped.Ran }
     {
         let begin = self.program.routine(routine);
@@ -200,8 +196,8 @@ impl Parts {
     fn come_back(&mut self) -> Stepped
         requires taken { self.old.taken < 2 ^ 31 }
         requires noted { 0 < length self.old.at.returns }
-        ensures value { self.new ≡ moved_by
-            (comes_back (world_in self.old) self.old.at.returns self.old.at self.old.point) self.old }
+        ensures value { self.new ≡ moves.moved_quietly
+            (comes_back (world_in self.old) self.old.at.returns self.old.at (frames_point self.old)) self.old }
         ensures answer { result ≡ Stepped.Ran }
     {
         match self.progress.returns.pop() {
@@ -224,46 +220,6 @@ impl Parts {
         }
     }
 
-    /// Sends the message of an index, on its own line or on the line other than the last one's.
-    fn send(&mut self, index: u16, alternates: bool) -> Stepped
-        requires taken { self.old.taken < 2 ^ 31 }
-        requires place { self.old.at.place < 4096 }
-        requires message { index < length self.old.code.messages }
-        requires number { self.old.point.number < 2 ^ 31 }
-        requires clock { clock_in self.old ≤ 2 ^ 48 }
-        ensures value { self.new ≡ moved_by
-            (sends (world_in self.old) (slice_get self.old.code.messages index)
-            (line_of alternates self.old.at.line) self.old.at self.old.point) self.old }
-        ensures answer { result ≡ latest self.new.point.state.talks }
-        ensures soon { clock_in self.new ≤ clock_in self.old + 2 ^ 24 }
-    {
-        let (own, message) = &self.program.image().messages()[index as usize];
-        let line = if alternates {
-            other(self.progress.line)
-        } else {
-            *own
-        };
-        self.progress.number += 1;
-        let number = self.progress.number;
-        act_both(&mut self.bus, &self.placed, &self.posted, number);
-        let faults = self.plan.faults(number);
-        let gap = self.progress.gap;
-        let mut seen = TalkCounts::none();
-        let verdict = self.bus.exchange_into(
-            line,
-            message,
-            gap,
-            faults.as_slice(),
-            &mut self.talk,
-            &mut seen,
-        );
-        self.progress.last = Some(verdict.outcome);
-        self.progress.line = line;
-        self.progress.place += 1;
-        self.progress.taken += 1;
-        Stepped::Sent(observe_with(&self.talk, &seen, verdict.block))
-    }
-
     /// One step: one row of the operation table.
     pub fn step(&mut self) -> Stepped
         requires { IsAble self.old }
@@ -272,9 +228,9 @@ impl Parts {
         ensures soon { clock_in self.new ≤ clock_in self.old + most_ticks self.old }
     {
         match self.op() {
-            Op::Halt => Stepped::Halted,
-            Op::Send(index) => self.send(index, false),
-            Op::Alt(index) => self.send(index, true),
+            Op::Halt => self.halt(),
+            Op::Send(index) => self.send_next(index, false),
+            Op::Alt(index) => self.send_next(index, true),
             Op::SetGap(ticks) => {
                 self.set_gap(ticks);
                 self.go_on()
@@ -312,7 +268,7 @@ impl Parts {
     pub fn number(&self) -> u32
         ensures { result ≡ self.now.point.number }
     {
-        self.progress.number
+        self.agenda.number()
     }
 
     /// The last outcome.
@@ -322,6 +278,27 @@ impl Parts {
         self.progress.last
     }
 
+    /// What the latest message came to.
+    pub fn latest_outcome(&self) -> Option<Outcome>
+        ensures { result ≡ self.now.latest }
+    {
+        self.progress.latest
+    }
+
+    /// How many inserted messages wait.
+    pub fn queued(&self) -> u64
+        ensures { result ≡ length (queue_at (length self.now.made) self.now.placed self.now.made) }
+    {
+        self.agenda.queued()
+    }
+
+    /// The sources of words that are set.
+    pub fn sources(&self) -> &Sources
+        ensures { StandsForSources result.now.rows self.now.placed self.now.made }
+    {
+        self.agenda.sources()
+    }
+
     /// Equal parts, in memory of their own.
     pub fn copy(&self) -> Result<Parts, AllocError>
         ensures { IfOk result (λ p. p ≡ self.now) }
@@ -329,8 +306,7 @@ impl Parts {
         Ok(Parts {
             program: self.program.copy()?,
             plan: self.plan.copy()?,
-            placed: self.placed.copy()?,
-            posted: self.posted.copy()?,
+            agenda: self.agenda.copy()?,
             begun: same(&self.begun),
             progress: self.progress.copy(),
             bus: self.bus.copy()?,
@@ -342,12 +318,13 @@ impl Parts {
     pub fn save(&self) -> Result<SavedParts, AllocError>
         ensures { IfOk result (λ s. s ≡ self.now) }
     {
+        let (placed, posted) = self.agenda.schedules();
         Ok(SavedParts {
             program: Snapshot::of(&self.program),
             plan: Snapshot::of(&self.plan),
-            placed: Snapshot::of(&self.placed),
-            posted: Snapshot::of(&self.posted),
-            room: self.posted.capacity() - self.posted.len(),
+            placed: Snapshot::of(placed),
+            posted: Snapshot::of(posted),
+            agenda: self.agenda.save()?,
             begun: same(&self.begun),
             progress: self.progress.copy(),
             bus: self.bus.save()?,
@@ -360,16 +337,14 @@ impl Parts {
         ensures restored { OnOk result (self.new ≡ saved.now) }
         ensures same { OnErr result (self.new ≡ self.old) }
     {
-        let Some(most) = self.posted.len().checked_add(saved.room) else {
-            return Err(AllocError);
-        };
-        let before = self.posted.capacity();
-        self.posted.grow(most)?;
+        let before = self.agenda.room_left();
+        self.agenda.grow(saved.agenda.room)?;
         if let Err(failed) = self.bus.restore(&saved.bus) {
-            self.posted.shrink(before);
+            self.agenda.shrink(before);
             return Err(failed);
         }
-        self.posted.shrink(most);
+        self.agenda.shrink(saved.agenda.room);
+        self.agenda.restore(&saved.agenda);
         self.progress = saved.progress.copy();
         Ok(())
     }

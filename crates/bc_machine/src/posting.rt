@@ -1,12 +1,11 @@
 //! Actions that are placed while the program is under way, each at the next message.
 ghost use Rattle.bc_machine.specs.Posting.{with_placed, with_room, at_next};
 ghost use Rattle.bc_machine.specs.UnderWay.{IsUnderWay};
-ghost use Rattle.std.specs.Prelude.{◌≡◌, ◌+◌, ◌<◌, ◌≤◌, ◌^◌, ◌++◌, ◌∷◌, [], length, IfErr, OnOk, OnErr};
+ghost use Rattle.std.specs.Prelude.{◌≡◌, ◌+◌, ◌<◌, ◌≤◌, ◌++◌, ◌∷◌, [], length, IfErr, OnOk, OnErr};
 
-use crate::Placed;
 use crate::machine::Machine;
 use crate::parts::Parts;
-use mil_host::Action;
+use crate::placed::{HostAction, Placed};
 use std::alloc::AllocError;
 
 impl Parts {
@@ -15,18 +14,19 @@ impl Parts {
         ensures made { OnOk result (self.new ≡ with_room self.old count) }
         ensures same { OnErr result (self.new ≡ self.old) }
     {
-        self.posted.room(count)
+        self.agenda.room(count)
     }
 
-    /// Puts an action behind those that are placed, where room was made for it; else it comes back.
+    /// Puts an action at the next message behind those that are placed, where room was made for it; else it comes back.
     fn add(&mut self, one: Placed) -> Result<(), Placed>
+        requires { one.number ≡ length self.old.made + 1 }
         ensures placed { OnOk result (self.new ≡ with_placed self.old (self.old.placed ++ one ∷ [])) }
         ensures there { OnOk result (length self.old.placed < self.old.capacity) }
         ensures used_up { OnErr result (self.old.capacity ≤ length self.old.placed) }
         ensures back { IfErr result (λ back. back ≡ one) }
         ensures same { OnErr result (self.new ≡ self.old) }
     {
-        self.posted.add(one)
+        self.agenda.add(one)
     }
 }
 
@@ -41,11 +41,11 @@ impl Machine {
         self.parts.room(count)
     }
 
-    /// Places an action of the host of a terminal, at an address of 0 to 30, at the next message, behind the actions
-    /// that are placed there. It comes back where the room that was made is used up. It takes no memory.
-    pub fn place(&mut self, address: u8, action: Action) -> Result<(), Action>
+    /// Places an action of a host at the next message, behind the actions that are placed there. It comes back where
+    /// the room that was made is used up. It takes no memory.
+    pub fn place(&mut self, action: HostAction) -> Result<(), HostAction>
         ensures placed { OnOk result
-            (self.new ≡ with_placed self.old (self.old.placed ++ at_next self.old address action ∷ [])) }
+            (self.new ≡ with_placed self.old (self.old.placed ++ at_next self.old action ∷ [])) }
         ensures there { OnOk result (length self.old.placed < self.old.capacity) }
         ensures used_up { OnErr result (self.old.capacity ≤ length self.old.placed) }
         ensures back { IfErr result (λ back. back ≡ action) }
@@ -54,7 +54,6 @@ impl Machine {
     {
         let one = Placed {
             number: self.parts.number() + 1,
-            address,
             action,
         };
         match self.parts.add(one) {

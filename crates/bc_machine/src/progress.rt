@@ -18,10 +18,11 @@ pub struct Progress {
     pub frames: Stack<u64, 16>,
     pub flag: bool,
     pub line: Line,
-    /// How many messages were sent.
-    pub number: u32,
     pub gap: Gap,
+    /// What the last message of the script came to.
     pub last: Option<Outcome>,
+    /// What the latest message came to.
+    pub latest: Option<Outcome>,
 }
 
 impl Progress {
@@ -37,9 +38,9 @@ impl Progress {
             frames: self.frames.copy(),
             flag: self.flag,
             line: self.line,
-            number: self.number,
             gap: self.gap,
             last: self.last,
+            latest: self.latest,
         }
     }
 }

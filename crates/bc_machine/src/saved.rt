@@ -1,4 +1,5 @@
 //! What is kept of a controller, for it to be taken back there.
+use crate::agenda::SavedAgenda;
 use crate::begun::Begun;
 use crate::progress::Progress;
 use crate::schedule::Schedule;
@@ -16,8 +17,7 @@ pub struct SavedParts {
     pub plan: Snapshot<Plan>,
     pub placed: Snapshot<Schedule>,
     pub posted: Snapshot<Schedule>,
-    /// For how many actions more there was room.
-    pub room: usize,
+    pub agenda: SavedAgenda,
     pub begun: Snapshot<Begun>,
     pub progress: Progress,
     pub bus: SavedBus,
@@ -28,9 +28,11 @@ impl Model for SavedParts {
 
     ghost Value = { MachineState };
 
-    ghost use Rattle.bc_machine.specs.SavedMachine.{state_kept};
+    ghost use Rattle.bc_machine.specs.SavedMachine.{state_kept, KeepsAgenda};
 
     ghost view = { state_kept };
+
+    ghost invariant = { KeepsAgenda };
 }
 
 /// A controller as it was when it was saved: its bus, its registers and all else that steps change. Contracts see the

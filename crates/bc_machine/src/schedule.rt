@@ -1,35 +1,65 @@
 //! Placed actions in rows, and room for more.
 ghost use Rattle.bc_machine.specs.Controller.{placed_at, ready};
 ghost use Rattle.bc_machine.specs.Rising.{IsRising, IsParted, IsPutIn};
-ghost use Rattle.bc_machine.specs.Schedules.{AreRising};
+ghost use Rattle.bc_machine.specs.Schedules.{AreRising, HaveRoom, is_control, sets_sources, with_action};
 ghost use Rattle.mil_bus.specs.Exchange.{now_of};
 ghost use Rattle.std.specs.List.Sorted.{IsPermutation};
 ghost use Rattle.std.specs.Prelude.{IsTrue, IfOk, IfErr, OnOk, OnErr};
-ghost use Rattle.std.specs.Prelude.{◌≡◌, ℕ, ◌+◌, ◌<◌, ◌≤◌, ◌++◌, ◌∷◌, [], min, max, length, take, slice_index_or};
+ghost use Rattle.std.specs.Prelude.{◌≡◌, ℕ, ◌+◌, ◌^◌, ◌<◌, ◌≤◌, ◌++◌, ◌∷◌, ◌||◌, [], true, min, max, length};
+ghost use Rattle.std.specs.Prelude.{take, slice_index_or};
 
-use crate::Placed;
 use crate::action_rows::{Row, act_at, copies_of, insert_row};
 use crate::actions::Actions;
 use crate::lookup::Lookup;
+use crate::placed::{HostAction, Placed};
+use controller_host::{Control, Sources};
 use mil_bus::Bus;
-use mil_host::TransmitWords;
 use std::alloc::{AllocError, Global};
 use std::marker::Model;
 
-/// At most so many actions have more data words than one.
-const MOST_WORDS: usize = 4_294_967_295;
+/// At most so many actions stand whole beside the rows.
+const MOST_BESIDE: usize = 4_294_967_295;
 
 /// Placed actions, in their order, and room for more; contracts see the list and for how many there is room. Where
 /// their numbers never fall, and in a copy, those of one number are found without a look at all others.
 #[derive(Drop)]
 pub struct Schedule {
-    rows: Vec<Row>,
-    /// The data words that do not stand in a row.
-    words: Vec<TransmitWords>,
+    pub(crate) rows: Vec<Row>,
+    /// The actions that do not stand in a row.
+    pub(crate) beside: Vec<HostAction>,
     /// How those of a number are found.
-    lookup: Lookup,
+    pub(crate) lookup: Lookup,
     /// For how many actions there is room, at most as many as the lists hold without memory.
     most: usize,
+    /// Whether one of them may be of the controller's host.
+    pub(crate) controls: bool,
+    /// The sources that they set in a controller, with room for all where one of them sets some, or where there is room
+    /// for one more.
+    pub(crate) sources: Sources,
+}
+
+/// Whether the host of a controller sets sources.
+fn sets_sources(action: &HostAction) -> bool
+    ensures { result ≡ sets_sources action.now }
+{
+    matches!(
+        action,
+        HostAction::Controller(Control::Data(_) | Control::Ramp(_))
+    )
+}
+
+/// Whether it is an action of the host of the controller.
+fn is_control(action: &HostAction) -> bool
+    ensures { result ≡ is_control action.now }
+{
+    matches!(action, HostAction::Controller(_))
+}
+
+/// Whether one of the two is so.
+pub fn one_of(first: bool, second: bool) -> bool
+    ensures { result ≡ (first || second) }
+{
+    first || second
 }
 
 impl Model for Schedule {
@@ -61,10 +91,14 @@ impl Schedule {
     pub fn of(actions: Actions) -> Schedule
         ensures actions { result.actions ≡ actions }
         ensures capacity { result.capacity ≡ length actions }
+        ensures sources { result.sources.rows ≡ [] }
+        ensures sets { HaveRoom result.sources.ready result.actions }
     {
         let mut schedule = actions.into_schedule();
         let len = schedule.len();
         schedule.shrink(len);
+        schedule.restore_sources(&[]);
+        let _ready = schedule.is_ready();
         schedule
     }
 
@@ -75,9 +109,11 @@ impl Schedule {
     {
         Schedule {
             rows: Vec::new(alloc),
-            words: Vec::new(alloc),
+            beside: Vec::new(alloc),
             lookup: Lookup::Rising,
             most: 0,
+            controls: false,
+            sources: Sources::none(alloc),
         }
     }
 
@@ -88,9 +124,20 @@ impl Schedule {
 
     /// How many actions there are.
     pub fn len(&self) -> usize
-        ensures { result ≡ length self.now.actions }
+        ensures value { result ≡ length self.now.actions }
+        ensures few { result < 2 ^ 63 }
     {
         self.rows.len()
+    }
+
+    /// Whether there is room for sources at all places. There is where an action sets some, and where there is room for
+    /// one more action.
+    pub fn is_ready(&self) -> bool
+        ensures value { result ≡ self.now.sources.ready }
+        ensures sets { HaveRoom result self.now.actions }
+        ensures room { length self.now.actions < self.now.capacity → result ≡ true }
+    {
+        self.sources.is_ready()
     }
 
     /// For how many actions there is room, those that are there among them.
@@ -106,7 +153,7 @@ impl Schedule {
         requires { place < length self.now.actions }
         ensures { result ≡ slice_index_or self.now.actions place result }
     {
-        self.rows[place].placed(self.words.as_slice())
+        self.rows[place].placed(self.beside.as_slice())
     }
 
     /// The number of the action at a place, counted from 0.
@@ -125,11 +172,12 @@ impl Schedule {
     {
         if most > self.most {
             let more = most - self.rows.len();
-            if more > MOST_WORDS - self.words.len() {
+            if more > MOST_BESIDE - self.beside.len() {
                 return Err(AllocError);
             }
             self.rows.reserve(more)?;
-            self.words.reserve(more)?;
+            self.beside.reserve(more)?;
+            self.sources.room()?;
             self.most = most;
         }
         Ok(())
@@ -175,10 +223,63 @@ impl Schedule {
         if self.rows.len() >= self.most {
             return Err(one);
         }
+        self.put_behind(one);
+        Ok(())
+    }
+
+    /// Puts an action behind the others, which have room for it.
+    fn put_behind(&mut self, one: Placed)
+        requires room { length self.old.actions < self.old.capacity }
+        requires ready { sets_sources one.action ≡ true → self.old.sources.ready ≡ true }
+        ensures { self.new ≡ with_action self.old one }
+    {
         let rising = follows(self.rows.as_slice(), self.lookup.is_rising(), one.number);
         self.lookup.reset(rising);
-        self.rows.push_reserved(Row::of(one, &mut self.words));
+        self.controls = one_of(self.controls, is_control(&one.action));
+        self.rows.push_reserved(Row::of(one, &mut self.beside));
+    }
+
+    /// Has room for the sources that an action sets. It fails for want of memory alone.
+    fn ready_for(&mut self, action: &HostAction) -> Result<(), AllocError>
+        ensures actions { self.new.actions ≡ self.old.actions }
+        ensures ready { OnOk result (sets_sources action.now ≡ true → self.new.sources.ready ≡ true) }
+    {
+        if sets_sources(action) {
+            return self.make_ready();
+        }
         Ok(())
+    }
+
+    /// Puts an action behind the others, with the memory that it takes, where there is no room for it.
+    fn push_new(&mut self, one: Placed) -> Result<(), AllocError>
+        requires { sets_sources one.action ≡ true → self.old.sources.ready ≡ true }
+        ensures pushed { OnOk result (self.new.actions ≡ self.old.actions ++ one ∷ []) }
+        ensures same { OnErr result (self.new ≡ self.old) }
+    {
+        if self.beside.len() >= MOST_BESIDE {
+            return Err(AllocError);
+        }
+        self.rows.reserve(1)?;
+        self.beside.reserve(1)?;
+        let rising = follows(self.rows.as_slice(), self.lookup.is_rising(), one.number);
+        self.lookup.reset(rising);
+        self.controls = one_of(self.controls, is_control(&one.action));
+        self.rows.push_reserved(Row::of(one, &mut self.beside));
+        self.most = self.rows.len();
+        Ok(())
+    }
+
+    /// Puts an action behind the others, with the memory that it takes. It fails for want of memory alone.
+    pub fn push(&mut self, one: Placed) -> Result<(), AllocError>
+        ensures pushed { OnOk result (self.new.actions ≡ self.old.actions ++ one ∷ []) }
+        ensures same { OnErr result (self.new.actions ≡ self.old.actions) }
+    {
+        self.ready_for(&one.action)?;
+        if self.len() < self.capacity() {
+            self.put_behind(one);
+            return Ok(());
+        }
+        self.push_new(one)
     }
 
     /// Puts an action behind those of numbers up to its own, where numbers never fall and there is room for it. It
@@ -191,7 +292,8 @@ impl Schedule {
     {
         let place = self.behind(one.number);
         self.lookup.reset(false);
-        let row = Row::of(one, &mut self.words);
+        self.controls = one_of(self.controls, is_control(&one.action));
+        let row = Row::of(one, &mut self.beside);
         insert_row(&mut self.rows, place, row);
     }
 
@@ -234,8 +336,13 @@ impl Schedule {
         ensures clock { now_of bus.new ≡ now_of bus.old }
     {
         let rows = self.rows.as_slice();
-        let words = self.words.as_slice();
-        act_at(bus, self.lookup.rows_of(rows, words, number), words, number);
+        let beside = self.beside.as_slice();
+        act_at(
+            bus,
+            self.lookup.rows_of(rows, beside, number),
+            beside,
+            number,
+        );
     }
 
     /// The same actions and as much room, in memory of their own, where numbers fall with the rows by rising number
@@ -250,9 +357,11 @@ impl Schedule {
         rows.reserve(more)?;
         Ok(Schedule {
             rows,
-            words: copies_of(alloc, self.words.as_slice(), more)?,
+            beside: copies_of(alloc, self.beside.as_slice(), more)?,
             lookup,
             most: self.most,
+            controls: self.controls,
+            sources: self.sources.copy(alloc)?,
         })
     }
 }

@@ -1,0 +1,5 @@
+use Rattle.bc_machine.proofs.Marks.{room_right}
+use Rattle.bc_machine.proofs.agenda.meet.Goals as goal
+
+pub set_sources-requires : goal.set_sources-requires
+set_sources-requires c = room_right c.args.placed.now.sources.ready c.args.placed.now.actions c.args.posted.now.actions c.requires
