@@ -5,7 +5,7 @@ use Rattle.std.specs.List.{position_or_len, before_first, after_first}
 use Rattle.std.proofs.lemmas.List.{append-nil, length-append, length-drop}
 use Rattle.text_lines.specs.Words.{Text, words, has_bytes}
 use Rattle.job_file.specs.Options.{◌>>=◌}
-use Rattle.job_file.specs.Lines.{Said, blank, script, channel, start, terminal, action, fault, faults, series, said, said_in}
+use Rattle.job_file.specs.Lines.{Said, blank, script, channel, start, terminal, action, control, fault, faults, series, said, said_in}
 use Rattle.job_file.specs.HeadLines.{Head, head_of, may_stand, are_lawful, is_none_yet}
 use Rattle.job_file.specs.Drafts.{with_line}
 use Rattle.job_file.specs.Spelled.{joined_lines, is_script, all_said}
@@ -126,6 +126,7 @@ is_script_line (Some (channel n)) is = cc
 is_script_line (Some (start n)) is = cc
 is_script_line (Some (terminal n)) is = cc
 is_script_line (Some (action number address text)) is = cc
+is_script_line (Some (control number text)) is = cc
 is_script_line (Some (fault number f)) is = cc
 is_script_line (Some (faults span f)) is = cc
 is_script_line (Some (series s)) is = cc
@@ -179,11 +180,13 @@ module _ (text rest line behind : Text) (old new : Head) (n : ℕ) (i : IsReadTo
   read_refused (refusal.Line f) (error.Script cause place) is of = absurd of
   read_refused (refusal.Line f) (error.Assembly m g) is of = absurd of
   read_refused (refusal.Line f) (error.Loading m g) is of = absurd of
+  read_refused (refusal.Line f) (error.Inserts m) is of = absurd of
   read_refused (refusal.Line f) error.Memory is of = absurd of
   read_refused refusal.Memory (error.Line m g) is of = absurd of
   read_refused refusal.Memory (error.Script cause place) is of = absurd of
   read_refused refusal.Memory (error.Assembly m g) is of = absurd of
   read_refused refusal.Memory (error.Loading m g) is of = absurd of
+  read_refused refusal.Memory (error.Inserts m) is of = absurd of
   read_refused refusal.Memory error.Memory is of =
       let l = at_line in
       let here : line_fault line (head_of i.at.above) ≡ None = rw i.says at is.0 in
@@ -228,6 +231,7 @@ script_refused text head n behind (error.Assembly m why) h is =
 script_refused text head n behind (error.Loading m why) h is =
     let i = is.2 in
     record { below = behind; reached = rw is.1 (record { head = head; is = h; named = is.0 }); tree = i.tree; spells = i.spells; fault = i.fault }
+script_refused text head n behind (error.Inserts m) h is = rw is.1 (record { head = head; below = behind; is = h; named = is.0; fault = is.2 })
 script_refused text head n behind error.Memory h is =
     let named : is_none_yet (head_of h.at.above).channels ≡ false = rw h.says at is in
     record {

@@ -1,5 +1,5 @@
 -- Lines in their ranges make a head that keeps the ranges of a job.
-use Rattle.std.proofs.Common.{◌≡◌, ℕ, ◌+◌, ◌*◌, ◌<◌, ◌≤◌, List, [], ◌∷◌, ◌++◌, refl, ◌∙◌, arith}
+use Rattle.std.proofs.Common.{◌≡◌, ℕ, ◌+◌, ◌<◌, ◌≤◌, List, [], ◌∷◌, ◌++◌, refl, ◌∙◌, arith}
 use Rattle.std.specs.Prelude.{Bool, true, false, not, ◌&&◌, ◌||◌, ◌==◌, nat_le, Result, Ok, Err}
 use Rattle.std.specs.Option.{option_to_list}
 use Rattle.std.specs.Result.{is_ok}
@@ -12,13 +12,17 @@ use Rattle.mil_host.specs.declared.actions.Action.{Action}
 use Rattle.mil_host.specs.declared.reading.BadAction.{BadAction}
 use Rattle.mil_bus.specs.Addresses.{is_fit}
 use Rattle.bc_machine.specs.declared.placed.Placed.{Placed}
-use Rattle.job_file.specs.Lines.{Said, blank, script, channel, start, terminal, action, fault, faults, series}
+use Rattle.bc_machine.specs.declared.placed.HostAction.{HostAction}
+use Rattle.bc_machine.specs.declared.placed.HostAction.TheVariants.{Terminal, Controller}
+use Rattle.controller_host.specs.declared.controls.Control.{Control}
+use Rattle.controller_text.specs.Reading.{control_in}
+use Rattle.job_file.specs.Lines.{Said, blank, script, channel, start, terminal, action, control, fault, faults, series}
 use Rattle.job_file.specs.declared.spans.Series.{Series}
 use Rattle.job_file.specs.Spans.{IsSpan, span_count, span_number, placed_at, placed_by}
 use Rattle.job_file.proofs.SpanLemmas.{number_high, all_counted}
 use Rattle.job_file.specs.Entries.{IsInRange}
-use Rattle.job_file.specs.HeadLines.{Head, has, has_room, placing, may_stand, is_none_yet}
-use Rattle.job_file.specs.JobRanges.{may_act, IsFit}
+use Rattle.job_file.specs.HeadLines.{Head, has, has_room, placing, asking, may_stand, is_none_yet}
+use Rattle.job_file.specs.JobRanges.{is_for, may_act, IsFit}
 use Rattle.job_file.specs.Drafts.{with_line}
 
 and_left : (a b : Bool) → (a && b) ≡ true → a ≡ true
@@ -61,18 +65,28 @@ fit_push (x ∷ xs) a fit new le =
 has_more : (b a : ℕ) (xs : List ℕ) → has b xs ≡ true → has b (xs ++ a ∷ []) ≡ true
 has_more b a xs h = rw (list_any-append (λ c. c == b) xs (a ∷ []), h) refl
 
+for_more : (a : ℕ) (xs : List ℕ) (x : HostAction) → is_for xs x ≡ true → is_for (xs ++ a ∷ []) x ≡ true
+for_more a xs (Terminal address does) h = has_more address a xs h
+for_more a xs (Controller asked) h = refl
+
 acts_more : (a : ℕ) (xs : List ℕ) (ps : List Placed) → list_all (may_act xs) ps ≡ true → list_all (may_act (xs ++ a ∷ [])) ps ≡ true
 acts_more a xs [] h = refl
 acts_more a xs (p ∷ ps) h =
     let here = and_left (may_act xs p) (list_all (may_act xs) ps) h in
-    let range = and_left (nat_le 1 p.number && nat_le p.number 1000000) (has p.address xs) here in
-    rw (range, has_more p.address a xs (and_right (nat_le 1 p.number && nat_le p.number 1000000) (has p.address xs) here), acts_more a xs ps (and_right (may_act xs p) (list_all (may_act xs) ps) h)) refl
+    let range = and_left (nat_le 1 p.number && nat_le p.number 1000000) (is_for xs p.action) here in
+    rw (range, for_more a xs p.action (and_right (nat_le 1 p.number && nat_le p.number 1000000) (is_for xs p.action) here), acts_more a xs ps (and_right (may_act xs p) (list_all (may_act xs) ps) h)) refl
 
 act_push : (xs : List ℕ) (ps : List Placed) (number address : ℕ) (r : Result Action BadAction) → list_all (may_act xs) ps ≡ true
     → 1 ≤ number → number ≤ 1000000 → (has address xs && is_ok r) ≡ true → list_all (may_act xs) (ps ++ option_to_list (placing number address r)) ≡ true
 act_push xs ps number address (Ok a) all low high h =
     rw (list_all-append (may_act xs) ps, all, le-leb 1 number low, le-leb number 1000000 high, and_left (has address xs) true h) refl
 act_push xs ps number address (Err bad) all low high h = let no = and_right (has address xs) false h in cc
+
+-- what the controller's host asks for needs no terminal
+control_push : (xs : List ℕ) (ps : List Placed) (number : ℕ) (r : Result Control BadAction) → list_all (may_act xs) ps ≡ true
+    → 1 ≤ number → number ≤ 1000000 → is_ok r ≡ true → list_all (may_act xs) (ps ++ option_to_list (asking number r)) ≡ true
+control_push xs ps number (Ok asked) all low high h = rw (list_all-append (may_act xs) ps, all, le-leb 1 number low, le-leb number 1000000 high) refl
+control_push xs ps number (Err bad) all low high h = cc
 
 first_channel : (h : Head) (ns : List ℕ) (n : ℕ) → h.channels ≡ ns → IsFit h → 1 ≤ n → n ≤ 65535 → is_none_yet ns ≡ true → IsFit (record h { channels = ns ++ n ∷ [] })
 first_channel h [] n is fit low high none = record { channels = ((low, high), tt); starts = fit.starts; addresses = fit.addresses; actions = fit.actions }
@@ -110,6 +124,12 @@ fit_with (action number address text) h range stands fit = record {
   starts = fit.starts;
   addresses = fit.addresses;
   actions = act_push h.addresses h.actions number address (in_words text) fit.actions range.0 range.1 stands;
+}
+fit_with (control number text) h range stands fit = record {
+  channels = fit.channels;
+  starts = fit.starts;
+  addresses = fit.addresses;
+  actions = control_push h.addresses h.actions number (control_in text) fit.actions range.0 range.1 stands;
 }
 fit_with (series s) h range stands fit = record {
   channels = fit.channels;

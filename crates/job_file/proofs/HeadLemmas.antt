@@ -1,7 +1,7 @@
 -- Line by line to the job of a text.
 use Rattle.std.proofs.Common.{◌≡◌, ℕ, ◌+◌, List, [], ◌∷◌, ◌++◌, length, refl, sym, ap, ◌∙◌, append_assoc, arith, inl, inr}
 use Rattle.std.specs.Prelude.{Bool, true, false, cond, Option, Some, None, Result, Ok, Err}
-use Rattle.std.specs.List.{filter_map, flat_map, sum_by, before_first, after_first}
+use Rattle.std.specs.List.{before_first, after_first}
 use Rattle.std.proofs.lemmas.List.{append-nil}
 use Rattle.std.proofs.lemmas.List.Elements.{filter_map-append}
 use Rattle.std.proofs.lemmas.Grind.{flat_map-append}
@@ -9,7 +9,7 @@ use Rattle.std.proofs.lemmas.List.Sums.{sum_by-append}
 use Rattle.std.proofs.Math.Nat.{add-zero, zero-add}
 use Rattle.text_lines.specs.Words.{Text}
 use Rattle.job_file.specs.Options.{◌>>=◌}
-use Rattle.job_file.specs.Lines.{Said, blank, script, channel, start, terminal, action, fault, faults, series, said, said_in}
+use Rattle.job_file.specs.Lines.{Said, blank, script, channel, start, terminal, action, control, fault, faults, series, said, said_in}
 use Rattle.job_file.specs.HeadLines.{Head, head_of, may_stand, are_lawful}
 use Rattle.job_file.specs.Drafts.{with_line}
 use Rattle.job_file.specs.Spans.{span_count}
@@ -87,6 +87,7 @@ head_with above (channel n) = simp (filter_map-append, flat_map-append, sum_by-a
 head_with above (start n) = simp (filter_map-append, flat_map-append, sum_by-append, add-zero, append-nil)
 head_with above (terminal n) = simp (filter_map-append, flat_map-append, sum_by-append, add-zero, append-nil)
 head_with above (action number address text) = simp (filter_map-append, flat_map-append, sum_by-append, add-zero, append-nil)
+head_with above (control number text) = simp (filter_map-append, flat_map-append, sum_by-append, add-zero, append-nil)
 head_with above (fault number f) = simp (filter_map-append, flat_map-append, sum_by-append, add-zero, append-nil)
 head_with above (faults span f) = simp (filter_map-append, flat_map-append, sum_by-append, add-zero, append-nil)
 head_with above (series s) =
@@ -166,11 +167,13 @@ module _ (text rest line behind : Text) (above : List Said) (old new : Head) (sh
   line_refused n r (refusal.Line f) (error.Script cause place) is takes of = absurd of
   line_refused n r (refusal.Line f) (error.Assembly m g) is takes of = absurd of
   line_refused n r (refusal.Line f) (error.Loading m g) is takes of = absurd of
+  line_refused n r (refusal.Line f) (error.Inserts m) is takes of = absurd of
   line_refused n r (refusal.Line f) error.Memory is takes of = absurd of
   line_refused n r refusal.Memory (error.Line m g) is takes of = absurd of
   line_refused n r refusal.Memory (error.Script cause place) is takes of = absurd of
   line_refused n r refusal.Memory (error.Assembly m g) is takes of = absurd of
   line_refused n r refusal.Memory (error.Loading m g) is takes of = absurd of
+  line_refused n r refusal.Memory (error.Inserts m) is takes of = absurd of
   line_refused n r refusal.Memory error.Memory is takes of = tt
 
 pub fit_at_first : (h : Head) → h ≡ record { channels = []; starts = []; addresses = []; actions = []; plan = []; from_series = 0 } → IsFit h

@@ -4,6 +4,7 @@ pub mod FitLemmas
 pub mod HeadLemmas
 pub mod Finishing
 pub mod Moves
+pub mod Drains
 pub mod Limits
 pub mod Growth
 pub mod JobRuns

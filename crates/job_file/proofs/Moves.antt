@@ -46,7 +46,7 @@ module _ {State Outcome : Type 0} (w : World State Outcome) (code : Code) (R : P
   pace_keeps [] h r p x e = absurd (cc)
   pace_keeps (b ∷ bs) h r p x e = comes p _ x e (paced (b + 1000 * h) p)
 
-  act_keeps : (o : Option Op) (code : Code) (r : Registers) (p : Point State Outcome) (x : Running State Outcome) → act w o code r p ≡ goes_on x → R p x.point
+  pub act_keeps : (o : Option Op) (code : Code) (r : Registers) (p : Point State Outcome) (x : Running State Outcome) → act w o code r p ≡ goes_on x → R p x.point
   act_keeps None code r p x e = absurd (cc)
   act_keeps (Some op.Halt) code r p x e = absurd (cc)
   act_keeps (Some (op.Send m)) code r p x e = sends_keep (slice_get code.messages m) (λ l. l) r p x e
@@ -76,22 +76,23 @@ module _ {State Outcome : Type 0} (w : World State Outcome) (code : Code) (R : P
       go halted s more h = comes p _ x h (same p)
       go stuck s more h = absurd (cc)
 
-  -- from where a run is to where it halts
-  pub run_ends : (n m : ℕ) (r : Registers) (p : Point State Outcome) (x y : Running State Outcome) → run w n code r p ≡ goes_on x → run w m code r p ≡ goes_on y
-      → step w code y.at y.point ≡ halted → R x.point y.point
-  run_ends zero m r p x y e h ends =
+-- from where a run is to where it halts
+module _ {State Outcome : Type 0} (w : World State Outcome) (code : Code) where
+  pub comes_to : (n m : ℕ) (r : Registers) (p : Point State Outcome) (x y : Running State Outcome) → run w n code r p ≡ goes_on x → run w m code r p ≡ goes_on y
+      → step w code y.at y.point ≡ halted → (left : ℕ) × (run w left code x.at x.point ≡ goes_on y)
+  comes_to zero m r p x y e h ends =
       let is : record { at = r; point = p } ≡ x = cc in
-      subst (λ (v : Running State Outcome). R v.point y.point) is (run_keeps m r p y h)
-  run_ends (suc n) zero r p x y e h ends =
+      (m, subst (λ (v : Running State Outcome). run w m code v.at v.point ≡ goes_on y) is h)
+  comes_to (suc n) zero r p x y e h ends =
       let is : record { at = r; point = p } ≡ y = cc in
       let here : step w code r p ≡ halted = ap (λ (v : Running State Outcome). step w code v.at v.point) is ∙ ends in
-      let also : goes_on (record { at = r; point = p }) ≡ goes_on x = sym (run_halted w code (suc n) r p here) ∙ e in
-      let too : y ≡ x = cc in
-      subst (λ (v : Running State Outcome). R v.point y.point) too (same y.point)
-  run_ends (suc n) (suc m) r p x y e h ends = go (step w code r p) (λ z f g. run_ends n m z.at z.point x y f g ends) e h
+      (0, sym e ∙ run_halted w code (suc n) r p here ∙ ap goes_on is)
+  comes_to (suc n) (suc m) r p x y e h ends = go (step w code r p) (λ z f g. comes_to n m z.at z.point x y f g ends) e h
     where
-      go : (t : Turn (Running State Outcome)) → ((z : Running State Outcome) → run w n code z.at z.point ≡ goes_on x → run w m code z.at z.point ≡ goes_on y → R x.point y.point)
-          → then_run w t (record { at = r; point = p }) (run w n code) ≡ goes_on x → then_run w t (record { at = r; point = p }) (run w m code) ≡ goes_on y → R x.point y.point
+      go : (t : Turn (Running State Outcome))
+          → ((z : Running State Outcome) → run w n code z.at z.point ≡ goes_on x → run w m code z.at z.point ≡ goes_on y → (left : ℕ) × (run w left code x.at x.point ≡ goes_on y))
+          → then_run w t (record { at = r; point = p }) (run w n code) ≡ goes_on x → then_run w t (record { at = r; point = p }) (run w m code) ≡ goes_on y
+          → (left : ℕ) × (run w left code x.at x.point ≡ goes_on y)
       go (goes_on z) more f g = more z f g
-      go halted more f g = let too : y ≡ x = cc in subst (λ (v : Running State Outcome). R v.point y.point) too (same y.point)
+      go halted more f g = (0, sym f ∙ g)
       go stuck more f g = absurd (cc)

@@ -2,7 +2,7 @@
 use Rattle.std.proofs.Common.{◌≡◌, ℕ, ◌+◌, ◌<◌, ◌≤◌, List, [], ◌∷◌, ◌++◌, length, take, map, sym, ap, ◌∙◌, subst, slice_index_or, Bor, ⊎_elim, arith}
 use Rattle.std.specs.Prelude.{false, if◌then◌else◌, Some, Result, Ok, Err, is_ok, is_err, slice_get, option_map}
 use Rattle.std.proofs.lemmas.Bool.{cases_lt}
-use Rattle.std.proofs.lemmas.List.{take-map, take_all, map_more, map-append}
+use Rattle.std.proofs.lemmas.List.{take_all, map_more, map-append}
 use Rattle.std.proofs.lemmas.Option.{slice_get-map, slice_get-get_or}
 use Rattle.std.proofs.lemmas.Simd.{map-map}
 use Rattle.text_lines.specs.Words.{Text}

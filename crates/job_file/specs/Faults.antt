@@ -6,7 +6,7 @@ use Rattle.std.specs.Prelude.{map, Option, Some, None, Result, Ok, Err}
 use Rattle.std.specs.Option.{is_some}
 use Rattle.text_lines.specs.Words.{Text, words, has_bytes, is_comment}
 use Rattle.mil_host.specs.Reading.{in_words}
-use Rattle.mil_host.specs.declared.actions.Action.{Action}
+use Rattle.controller_text.specs.Reading.{control_in}
 use Rattle.mil_host.specs.declared.reading.BadAction.{BadAction}
 use Rattle.mil_line.specs.Plans.{Planned, faults_of}
 use Rattle.mil_line.specs.Ranges.{is_number, is_in_range}
@@ -19,14 +19,15 @@ use Rattle.frame_text.specs.declared.faults.Cause.{Cause}
 use Rattle.frame_text.specs.declared.faults.Place.{Place}
 use Rattle.frame_code.specs.Table.{Code}
 use Rattle.frame_asm.specs.Shapes.{code_of_tree}
-use Rattle.job_file.specs.Lines.{Said, blank, script, channel, start, terminal, action, fault, faults, series}
+use Rattle.job_file.specs.Lines.{Said, blank, script, channel, start, terminal, action, control, fault, faults}
+use Rattle.job_file.specs.Lines.{series}
 use Rattle.job_file.specs.Lines.{keyword_of, fault_word_of, sync_of, first, ended, one, two, three, four, front}
 use Rattle.job_file.specs.Lines.{said}
 use Rattle.job_file.specs.Spans.{span_count, numbers_of}
 use Rattle.job_file.specs.HeadLines.{Head, head_of, has, has_room, is_none_yet, are_lawful}
 use Rattle.job_file.specs.Spelled.{joined_lines, is_script, all_said}
 use Rattle.text_lines.specs.Lines.{lines_of}
-use Rattle.job_file.specs.Reading.{IsTooLong, IsTooMuch}
+use Rattle.job_file.specs.Reading.{IsTooLong, IsTooMuch, AreTooMany, HasProgram}
 use Rattle.job_file.specs.declared.keywords.Keyword.{Keyword}
 use Rattle.job_file.specs.declared.keywords.Keyword.TheVariants as keyword
 use Rattle.job_file.specs.declared.keywords.FaultWord.{FaultWord}
@@ -73,7 +74,7 @@ abbrev pub are_line_words : List Text → Bool
 are_line_words [] = true
 are_line_words (w ∷ ws) = if is_comment w then true else there (keyword_of w) (λ k. are_words_behind k ws)
 
-abbrev pub bad_action : Result Action BadAction → Option LineFault
+abbrev pub bad_action : {X : Type 0} → Result X BadAction → Option LineFault
 bad_action (Ok a) = None
 bad_action (Err bad) = Some (BadActionOf bad)
 
@@ -101,6 +102,7 @@ place_fault (start n) above = if is_none_yet above.starts then None else Some Or
 place_fault (terminal n) above = if has n above.addresses then Some Terminal else None
 place_fault (action number address text) above = if has address above.addresses then bad_action (in_words text)
     else Some Terminal
+place_fault (control number text) above = bad_action (control_in text)
 place_fault (fault number f) above = plan_fault above.plan f number
 place_fault (faults span f) above = first_fault (map (plan_fault above.plan f) (numbers_of span))
 place_fault (series s) above =
@@ -140,6 +142,7 @@ takes_room (Some (channel n)) = false
 takes_room (Some (start n)) = false
 takes_room (Some (terminal n)) = true
 takes_room (Some (action number address text)) = true
+takes_room (Some (control number text)) = true
 takes_room (Some (fault number f)) = true
 takes_room (Some (faults span f)) = true
 takes_room (Some (series s)) = true
@@ -201,6 +204,21 @@ pub record IsImageFault (text : Text) (line : ℕ) (IsRefused : Code → Type 0)
   pub spells : tree_of_text below ≡ Ok tree
   pub fault : IsRefused (code_of_tree tree)
 
+-- a tree of the script, whose image is refused for nothing, that sends too many messages with those that the lines
+-- above have inserted
+pub record HasInsertsFault (head : Head) (below : Text) : Type 0 where
+  pub tree : Tree
+  pub spells : tree_of_text below ≡ Ok tree
+  pub well : HasProgram (code_of_tree tree)
+  pub many : AreTooMany head.actions (code_of_tree tree)
+
+pub record IsInsertsFault (text : Text) (line : ℕ) : Type 0 where
+  pub head : Head
+  pub below : Text
+  pub is : IsJobHead text head line below
+  pub named : is_none_yet head.channels ≡ false
+  pub fault : HasInsertsFault head below
+
 -- The first fault of a text. Memory may be refused only where all lines so far are well: J8 hides no fault of a line
 -- above the one at which memory was wanted, and none of that line.
 abbrev pub IsFirstFault : Text → JobError → Type 0
@@ -208,6 +226,7 @@ IsFirstFault text (error.Line line why) = IsLineFault text line why
 IsFirstFault text (error.Script cause place) = IsScriptFault text cause place
 IsFirstFault text (error.Assembly line why) = IsImageFault text line (λ code. IsTooLong code why)
 IsFirstFault text (error.Loading line why) = IsImageFault text line (λ code. IsTooMuch code why)
+IsFirstFault text (error.Inserts line) = IsInsertsFault text line
 IsFirstFault text error.Memory = IsRoomRefused text
 
 -- inside the crate: what a part of a line answers where its words are these, what a line answers, and what the script
@@ -241,6 +260,8 @@ IsScriptRefused head line below (error.Assembly n why) = (is_none_yet head.chann
     × HasImageFault below (λ code. IsTooLong code why)
 IsScriptRefused head line below (error.Loading n why) = (is_none_yet head.channels ≡ false) × (n ≡ line)
     × HasImageFault below (λ code. IsTooMuch code why)
+IsScriptRefused head line below (error.Inserts n) = (is_none_yet head.channels ≡ false) × (n ≡ line)
+    × HasInsertsFault head below
 IsScriptRefused head line below error.Memory = is_none_yet head.channels ≡ false
 
 -- a fault of the script stands at its place in it, whose line in front is this
@@ -249,6 +270,7 @@ IsPlacedBelow line below (error.Line n why) = ⊥
 IsPlacedBelow line below (error.Script cause place) = IsPlaceBelow line below cause place
 IsPlacedBelow line below (error.Assembly n why) = ⊥
 IsPlacedBelow line below (error.Loading n why) = ⊥
+IsPlacedBelow line below (error.Inserts n) = ⊥
 IsPlacedBelow line below error.Memory = Unit {0}
 
 -- a fault of the image stands at this line
@@ -257,4 +279,5 @@ IsLineOf line (error.Line n why) = ⊥
 IsLineOf line (error.Script cause place) = ⊥
 IsLineOf line (error.Assembly n why) = n ≡ line
 IsLineOf line (error.Loading n why) = n ≡ line
+IsLineOf line (error.Inserts n) = ⊥
 IsLineOf line error.Memory = Unit {0}

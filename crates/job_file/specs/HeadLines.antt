@@ -10,9 +10,13 @@ use Rattle.mil_host.specs.declared.reading.BadAction.{BadAction}
 use Rattle.mil_line.specs.declared.faults.Fault.{Fault}
 use Rattle.mil_line.specs.Plans.{Planned, faults_of}
 use Rattle.mil_line.specs.Ranges.{is_number, is_in_range}
-use Rattle.job_file.specs.Lines.{Said, blank, script, channel, start, terminal, action, fault, faults, series}
+use Rattle.job_file.specs.Lines.{Said, blank, script, channel, start, terminal, action, control, fault, faults}
+use Rattle.job_file.specs.Lines.{series}
 use Rattle.job_file.specs.Spans.{span_count, numbers_of, placed_by}
 use Rattle.bc_machine.specs.declared.placed.Placed.{Placed}
+use Rattle.bc_machine.specs.declared.placed.HostAction.TheVariants.{Terminal, Controller}
+use Rattle.controller_host.specs.declared.controls.Control.{Control}
+use Rattle.controller_text.specs.Reading.{control_in}
 
 -- the channels that are named, the start ticks, the addresses of the terminals, the hosts' actions and the planned
 -- faults, each in the order of the lines; and how many of the actions are those of series
@@ -37,11 +41,17 @@ address_of (terminal n) = Some n
 address_of _ = None
 
 abbrev pub placing : ℕ → ℕ → Result Action BadAction → Option Placed
-placing number address (Ok a) = Some (record { number = number; address = address; action = a })
+placing number address (Ok a) = Some (record { number = number; action = Terminal address a })
 placing number address (Err bad) = None
+
+-- what the host of the controller asks for at the message of a number
+abbrev pub asking : ℕ → Result Control BadAction → Option Placed
+asking number (Ok asked) = Some (record { number = number; action = Controller asked })
+asking number (Err bad) = None
 
 abbrev pub placed_of : Said → List Placed
 placed_of (action number address text) = option_to_list (placing number address (in_words text))
+placed_of (control number text) = option_to_list (asking number (control_in text))
 placed_of (series s) = placed_by s
 placed_of _ = []
 
@@ -89,6 +99,7 @@ may_stand (channel n) above = is_none_yet above.channels
 may_stand (start n) above = is_none_yet above.starts
 may_stand (terminal n) above = not (has n above.addresses)
 may_stand (action number address text) above = has address above.addresses && is_ok (in_words text)
+may_stand (control number text) above = is_ok (control_in text)
 may_stand (fault number f) above = may_plan number f above.plan
 may_stand (faults span f) above = list_all (λ number. may_plan number f above.plan) (numbers_of span)
 may_stand (series s) above = has_room (span_count s.span) above && has s.address above.addresses

@@ -4,10 +4,17 @@ use Rattle.std.specs.List.{list_all, AllByRecursion}
 use Rattle.mil_bus.specs.Addresses.{is_fit}
 use Rattle.job_file.specs.HeadLines.{Head, has}
 use Rattle.bc_machine.specs.declared.placed.Placed.{Placed}
+use Rattle.bc_machine.specs.declared.placed.HostAction.{HostAction}
+use Rattle.bc_machine.specs.declared.placed.HostAction.TheVariants.{Terminal, Controller}
 
--- an action of one of these terminals, at a message that a channel may have
+-- an action is of one of these terminals, or of the controller
+abbrev pub is_for : List ℕ → HostAction → Bool
+is_for addresses (Terminal address action) = has address addresses
+is_for addresses (Controller asked) = true
+
+-- an action of one of these terminals or of the controller, at a message that a channel may have
 abbrev pub may_act : List ℕ → Placed → Bool
-may_act addresses placed = nat_le 1 placed.number && nat_le placed.number 1000000 && has placed.address addresses
+may_act addresses placed = nat_le 1 placed.number && nat_le placed.number 1000000 && is_for addresses placed.action
 
 pub record IsFit (h : Head) : Type 0 where
   pub channels : AllByRecursion (λ n. (1 ≤ n) × (n ≤ 65535)) h.channels

@@ -1,5 +1,5 @@
 -- What a line of a job says (own choice): its words, separated by spaces alone.
-use Rattle.std.specs.Prelude.{ℕ, if◌then◌else◌, List, [], ◌∷◌, Option, Some, None, codes}
+use Rattle.std.specs.Prelude.{ℕ, Bool, if◌then◌else◌, List, [], ◌∷◌, Option, Some, None, codes}
 use Rattle.std.specs.Str.{bytes_eq}
 use Rattle.text_lines.specs.Words.{Text, words, is_comment}
 use Rattle.mil_word.specs.Fields.{highest_address, highest_put_up}
@@ -28,6 +28,8 @@ pub data Said : Type 0 where
   terminal : ℕ → Said
   -- the number of a message, the address of a terminal, and the words of its host's action
   action : ℕ → ℕ → List Text → Said
+  -- the number of a message, and the words of what the host of the controller asks for
+  control : ℕ → List Text → Said
   -- the number of a message, and a fault of it
   fault : ℕ → Fault → Said
   -- messages, and a fault of each of them
@@ -58,6 +60,10 @@ fault_word_of w =
     else if bytes_eq w (codes "pause") then Some word.Pause
     else if bytes_eq w (codes "babble") then Some word.Babble
     else None
+
+-- the word that names the bus controller where the address of a terminal may stand
+abbrev pub is_controller : Text → Bool
+is_controller w = bytes_eq w (codes "bc")
 
 -- command or data sync
 abbrev pub sync_of : Text → Option Sync
@@ -137,11 +143,17 @@ start_in ws = one ws >>= (λ w. start_of w >>= (λ n. Some (start n)))
 unfoldable pub terminal_in : List Text → Option Said
 terminal_in ws = one ws >>= (λ w. number_within 0 highest_address w >>= (λ n. Some (terminal n)))
 
+-- behind the number of a message the address of a terminal and the words of an action, or `bc` and those of what the
+-- host of the controller asks for
+abbrev pub action_at : ℕ → Text → List Text → Option Said
+action_at number host ws =
+    if is_controller host then Some (control number ws)
+    else (number_within 0 highest_address host >>= (λ address. Some (action number address ws)))
+
 unfoldable pub action_in : List Text → Option Said
 action_in ws =
     first ws >>= (λ n. first n.1 >>= (λ a. first a.1 >>= (λ more.
-    number_within 1 1000000 n.0 >>=
-    (λ number. number_within 0 highest_address a.0 >>= (λ address. Some (action number address a.1))))))
+    number_within 1 1000000 n.0 >>= (λ number. action_at number a.0 a.1))))
 
 unfoldable pub fault_in : List Text → Option Said
 fault_in ws =

@@ -4,14 +4,13 @@ use Rattle.mil_bus.specs.declared.talks.Talk.{Talk}
 use Rattle.mil_bus.specs.declared.outcomes.Outcome.{Outcome}
 use Rattle.mil_bus.specs.Exchange.{played}
 use Rattle.frame_tree.specs.Bounds.{IsSound}
-use Rattle.frame_code.specs.Table.{halted}
 use Rattle.frame_asm.specs.Shapes.{code_of_tree}
 use Rattle.bc_machine.specs.declared.placed.Placed.{Placed}
 use Rattle.bc_machine.specs.Controller.{outcome_in}
-use Rattle.bc_machine.specs.Running.{MachineState, started, stepped, turn_of}
+use Rattle.bc_machine.specs.Running.{MachineState, HasEnded, started, stepped}
 use Rattle.bc_machine.specs.UnderWay.{IsUnderWay}
 use Rattle.job_file.specs.Spelled.{ChannelJob}
-use Rattle.job_file.specs.Meaning.{bus_of, records_in, records, bus_after}
+use Rattle.job_file.specs.Meaning.{bus_of, records_in, records, bus_after, made_after}
 
 -- a controller under way that runs the job's script, from new terminals, under the job's planned faults and these
 -- placed actions
@@ -27,9 +26,9 @@ abbrev pub latest_outcome : List Talk → Option Outcome
 latest_outcome [] = None
 latest_outcome (talk ∷ earlier) = Some (outcome_in talk)
 
--- the last outcome is that of the latest talk
+-- the latest outcome is that of the latest talk
 abbrev pub IsLatestOutcome : MachineState → Type 0
-IsLatestOutcome m = m.point.last ≡ latest_outcome m.point.state.talks
+IsLatestOutcome m = m.latest ≡ latest_outcome m.point.state.talks
 
 -- its controller at the beginning is the job's
 abbrev pub Starts : Type 0
@@ -62,9 +61,15 @@ BusSoFar =
     (job : ChannelJob) (placed : List Placed) (m : MachineState) → IsSound job.tree → IsOf job placed m
     → played m.point.state ≡ bus_after job placed m.point.number
 
--- where it halts, the records are all of the job's
+-- and the messages made are the job's first so many
+abbrev pub MadeSoFar : Type 0
+MadeSoFar =
+    (job : ChannelJob) (placed : List Placed) (m : MachineState) → IsSound job.tree → IsOf job placed m
+    → m.made ≡ made_after job placed m.point.number
+
+-- where it has ended, the records are all of the job's
 abbrev pub AllRecords : Type 0
 AllRecords =
     (job : ChannelJob) (placed : List Placed) (m : MachineState) → IsSound job.tree → IsOf job placed m
-    → turn_of m ≡ halted
+    → HasEnded m
     → records_in m.point.state ≡ records job placed

@@ -1,5 +1,5 @@
 -- What a job means (own choice): its script's frames on the real bus, under the planned faults and placed actions.
-use Rattle.std.specs.Prelude.{ℕ, nat_le, if◌then◌else◌, List, map, reverse}
+use Rattle.std.specs.Prelude.{ℕ, nat_le, Bool, List, map, reverse}
 use Rattle.mil_message.specs.World.{World, Point}
 use Rattle.mil_bus.specs.declared.outcomes.Outcome.{Outcome}
 use Rattle.mil_bus.specs.Exchange.{BusState, played}
@@ -8,20 +8,39 @@ use Rattle.mil_monitor.specs.declared.Record.{Record}
 use Rattle.mil_monitor.specs.Observed.{observed}
 use Rattle.frame_tree.specs.Meaning.{meaning}
 use Rattle.bc_machine.specs.declared.placed.Placed.{Placed}
-use Rattle.bc_machine.specs.Controller.{world_of}
-use Rattle.bc_machine.specs.Running.{beginning}
+use Rattle.frame_asm.specs.Shapes.{code_of_tree}
+use Rattle.bc_machine.specs.Controller.{Setting, BusRun, world_in, drained, all_count}
+use Rattle.bc_machine.specs.MadeMessages.{MadeMessage}
+use Rattle.bc_machine.specs.Running.{beginning, most_inserted}
 use Rattle.job_file.specs.Spelled.{ChannelJob}
 
 -- its bus before any message
 abbrev pub bus_of : ChannelJob → BusState
 bus_of job = fresh_bus job.start job.addresses
 
-abbrev pub world_at : ChannelJob → List Placed → World BusState Outcome
-world_at job placed = world_of job.plan placed
+-- what its messages meet under a list of placed actions, where these numbers count
+abbrev pub setting_at : (ℕ → Bool) → ChannelJob → List Placed → Setting
+setting_at counts job placed = record {
+  plan = job.plan;
+  placed = placed;
+  most = most_inserted (code_of_tree job.tree);
+  counts = counts;
+}
+
+abbrev pub world_at : ChannelJob → List Placed → World BusRun Outcome
+world_at job placed = world_in (setting_at all_count job placed)
+
+-- a point behind the messages that still wait
+abbrev pub drained_at : Setting → Point BusRun Outcome → Point BusRun Outcome
+drained_at s p = record p { state = drained s p.gap p.state }
+
+-- where the script leads in a setting, and then what still waits
+abbrev pub end_in : Setting → ChannelJob → Point BusRun Outcome
+end_in s job = drained_at s (meaning (world_in s) job.tree (beginning (bus_of job)))
 
 -- where the script leads, under a list of placed actions
-abbrev pub end_of : ChannelJob → List Placed → Point BusState Outcome
-end_of job placed = meaning (world_at job placed) job.tree (beginning (bus_of job))
+abbrev pub end_of : ChannelJob → List Placed → Point BusRun Outcome
+end_of job placed = end_in (setting_at all_count job placed) job
 
 -- the records of a bus, in the order of its messages
 abbrev pub records_in : BusState → List Record
@@ -29,21 +48,16 @@ records_in b = map observed (reverse b.talks)
 
 -- the records of all messages
 abbrev pub records : ChannelJob → List Placed → List Record
-records job placed = records_in (end_of job placed).state
+records job placed = records_in (end_of job placed).state.bus
 
--- the world in which no message behind the first k leaves a trace
-abbrev pub up_to : {State Outcome : Type 0} → ℕ → World State Outcome → World State Outcome
-up_to k w = record {
-  exchange = λ number line message gap b. (
-    if nat_le number k then (w.exchange number line message gap b).0
-        else b,
-    (w.exchange number line message gap b).1,
-  );
-  holds = w.holds;
-  now = w.now;
-  paced = w.paced;
-}
+-- of the first k messages each leaves a trace, and none behind them
+abbrev pub up_to : ℕ → ℕ → Bool
+up_to k number = nat_le number k
 
 -- what was played on the bus after the first k messages: its talks, and what its terminals have met
 abbrev pub bus_after : ChannelJob → List Placed → ℕ → BusState
-bus_after job placed k = played (meaning (up_to k (world_at job placed)) job.tree (beginning (bus_of job))).state
+bus_after job placed k = played (end_in (setting_at (up_to k) job placed) job).state.bus
+
+-- the first k messages, as the host of the controller looks back at them
+abbrev pub made_after : ChannelJob → List Placed → ℕ → List MadeMessage
+made_after job placed k = (end_in (setting_at (up_to k) job placed) job).state.made

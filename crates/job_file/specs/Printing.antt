@@ -24,4 +24,5 @@ fault_text (error.Line line why) = Some (line_fault_text line why)
 fault_text (error.Script cause place) = None
 fault_text (error.Assembly line why) = Some (codes "J7 line " ++ decimal line ++ codes " " ++ assembler.fault_code why)
 fault_text (error.Loading line why) = Some (codes "J7 line " ++ decimal line ++ codes " " ++ loader.fault_code why)
+fault_text (error.Inserts line) = Some (codes "J9 line " ++ decimal line)
 fault_text error.Memory = Some (codes "J8")

@@ -1,12 +1,15 @@
 -- What the reading of a job answers.
-use Rattle.std.specs.Prelude.{◌≡◌, ◌<◌, ◌≤◌, true, false, Bool, length, Option, Some, None, Result, Ok, Err}
+use Rattle.std.specs.Prelude.{◌≡◌, ◌+◌, ◌<◌, ◌≤◌, true, false, Bool, List, length, Option, Some, None, Result, Ok, Err}
 use Rattle.frame_tree.specs.Tree.{Tree}
 use Rattle.frame_text.specs.declared.faults.Cause.{Cause}
 use Rattle.frame_code.specs.Table.{Code}
 use Rattle.frame_asm.specs.Shapes.{code_of_tree}
 use Rattle.frame_asm.specs.declared.error.AsmError.{AsmError}
 use Rattle.frame_asm.specs.declared.error.AsmError.TheVariants as assembler
+use Rattle.frame_load.specs.Budget.{worst_messages}
 use Rattle.frame_load.specs.Judging.{IsWithin, HasShortPeriods}
+use Rattle.bc_machine.specs.declared.placed.Placed.{Placed}
+use Rattle.job_file.specs.Jobs.{own_inserts}
 use Rattle.frame_load.specs.declared.error.LoadError.{LoadError}
 use Rattle.frame_load.specs.declared.error.LoadError.TheVariants as loader
 use Rattle.job_file.specs.Lines.{Said}
@@ -68,6 +71,10 @@ pub record HasProgram (code : Code) : Type 0 where
   pub within : IsWithin code
   pub short : HasShortPeriods code
 
+-- the messages that a job has inserted and those that its code sends at worst are more than 1,000,000
+abbrev pub AreTooMany : List Placed → Code → Type 0
+AreTooMany actions code = 1000000 < own_inserts actions + worst_messages code.operations
+
 abbrev pub IsCodeRefusal : Code → JobError → Type 0
 IsCodeRefusal code (error.Assembly line why) = IsTooLong code why
 IsCodeRefusal code (error.Loading line why) = IsTooMuch code why
@@ -83,4 +90,6 @@ IsJobRefusal spelled (error.Assembly line why) = (job : ChannelJob) × (spelled 
     × IsTooLong (code_of_tree job.tree) why
 IsJobRefusal spelled (error.Loading line why) = (job : ChannelJob) × (spelled ≡ Some job)
     × IsTooMuch (code_of_tree job.tree) why
+IsJobRefusal spelled (error.Inserts line) = (job : ChannelJob) × (spelled ≡ Some job)
+    × AreTooMany job.actions (code_of_tree job.tree)
 IsJobRefusal spelled error.Memory = Unit {0}

@@ -2,8 +2,9 @@
 use Rattle.std.specs.Prelude.{ℕ, ◌+◌}
 use Rattle.frame_asm.specs.Shapes.{code_of_tree}
 use Rattle.frame_load.specs.Budget.{worst_messages}
-use Rattle.job_file.specs.Jobs.{JobState, tree_in}
+use Rattle.job_file.specs.Jobs.{JobState, tree_in, own_inserts}
 
--- how many items a channel offers at most: one for each message that it may send, and its end mark
-abbrev pub most_items : JobState → ℕ
-most_items job = worst_messages (code_of_tree (tree_in job)).operations + 1
+-- how many items a channel offers at most where up to so many actions are posted to it: one for each message that its
+-- script may send, one for each that the job or a post may have inserted, and its end mark
+abbrev pub most_items : ℕ → JobState → ℕ
+most_items posts job = worst_messages (code_of_tree (tree_in job)).operations + own_inserts job.actions + posts + 1

@@ -3,6 +3,7 @@ use Rattle.std.specs.Prelude.{ℕ, ◌+◌, ◌-◌, ◌*◌, ◌/◌, ◌%◌, 
 use Rattle.std.specs.List.{range_with_len}
 use Rattle.mil_host.specs.declared.actions.Action.TheVariants.{Transmit}
 use Rattle.bc_machine.specs.declared.placed.Placed.{Placed}
+use Rattle.bc_machine.specs.declared.placed.HostAction.TheVariants.{Terminal}
 use Rattle.job_file.specs.declared.spans.Span.{Span}
 use Rattle.job_file.specs.declared.spans.Series.{Series}
 
@@ -33,8 +34,7 @@ word_at s k = (s.start + k * s.add) % 65536
 abbrev pub placed_at : Series → ℕ → Placed
 placed_at s k = record {
   number = span_number s.span k;
-  address = s.address;
-  action = Transmit (record { sub = s.sub; words = word_at s k ∷ [] });
+  action = Terminal s.address (Transmit (record { sub = s.sub; words = word_at s k ∷ [] }));
 }
 
 abbrev pub placed_by : Series → List Placed

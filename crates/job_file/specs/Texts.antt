@@ -1,8 +1,10 @@
 -- The jobs of several texts, in their order (own choice).
-use Rattle.std.specs.Prelude.{◌≡◌, ℕ, ◌<◌, ◌≤◌, List, length, map, slice_get, Some}
+use Rattle.std.specs.Prelude.{◌≡◌, ℕ, ◌+◌, ◌<◌, ◌≤◌, List, length, map, slice_get, Some}
 use Rattle.text_lines.specs.Words.{Text}
 use Rattle.frame_asm.specs.Shapes.{code_of_tree}
+use Rattle.frame_load.specs.Budget.{worst_messages}
 use Rattle.frame_load.specs.Judging.{IsWithin, HasShortPeriods}
+use Rattle.job_file.specs.Jobs.{own_inserts}
 use Rattle.job_file.specs.Spelled.{ChannelJob, spelled}
 use Rattle.job_file.specs.Reading.{IsJobRefusal}
 use Rattle.job_file.specs.Faults.{IsFirstFault}
@@ -20,6 +22,7 @@ pub record IsAccepted (text : Text) : Type 0 where
   pub messages : length (code_of_tree job.tree).messages ≤ 1024
   pub within : IsWithin (code_of_tree job.tree)
   pub short : HasShortPeriods (code_of_tree job.tree)
+  pub few : own_inserts job.actions + worst_messages (code_of_tree job.tree).operations ≤ 1000000
 
 -- the first text that is refused, and why: those before it give a job each
 pub record IsFirstRefused (texts : List Text) (index : ℕ) (fault : JobError) : Type 0 where

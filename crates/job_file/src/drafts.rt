@@ -1,10 +1,10 @@
 //! A job as far as its lines were read.
-ghost use Rattle.job_file.specs.Drafts.{shown, Takes};
+ghost use Rattle.job_file.specs.Drafts.{shown, with_action, Takes};
 ghost use Rattle.job_file.specs.Entries.{said_by, IsInRange};
 ghost use Rattle.job_file.specs.Faults.{IsEntryRefused, IsLineRefused, are_line_words, plan_fault, first_fault};
 ghost use Rattle.job_file.specs.HeadLines.{has};
 ghost use Rattle.job_file.specs.Lines as says;
-ghost use Rattle.job_file.specs.Lines.{terminal, action, said};
+ghost use Rattle.job_file.specs.Lines.{terminal, action, control, said};
 ghost use Rattle.job_file.specs.Reading.{TakesLine, IsLineInRange};
 ghost use Rattle.job_file.specs.Spans.{IsSpan, numbers_of};
 ghost use Rattle.job_file.specs.declared.error.LineFault.TheVariants.{Order};
@@ -15,7 +15,8 @@ ghost use Rattle.text_lines.specs.Words.{words};
 use crate::error::{LineFault, Refusal};
 use crate::lines::{Entry, read_line};
 use crate::spans::{Series, Span};
-use bc_machine::{Actions, Placed};
+use bc_machine::{Actions, HostAction, Placed};
+use controller_text::read_control;
 use mil_host::read_action;
 use mil_line::{Fault, LineError, Plan};
 use std::alloc::Global;
@@ -102,14 +103,29 @@ impl Draft {
             Ok(action) => action,
             Err(bad) => return Err(Refusal::Line(LineFault::Action(bad))),
         };
-        let placed = Placed {
-            number,
-            address,
-            action,
-        };
-        match self.actions.push(placed) {
+        self.add(number, HostAction::Terminal { address, action })
+    }
+
+    /// Puts an action behind the others.
+    fn add(&mut self, number: u32, action: HostAction) -> Result<(), Refusal>
+        ensures added { OnOk result (shown self.new ≡ with_action (record { number = number; action = action })
+            (shown self.old)) }
+        ensures memory { IfErr result (λ f. f ≡ refusal.Memory) }
+    {
+        match self.actions.push(Placed { number, action }) {
             Ok(()) => Ok(()),
             Err(_) => Err(Refusal::Memory),
+        }
+    }
+
+    #[tactic(auto, unfolding(controller_text::specs::Reading::control_in))]
+    fn place_control(&mut self, number: u32, text: &[u8]) -> Result<(), Refusal>
+        ensures takes { Takes (control number (words text.now)) (shown self.old) (shown self.new) result }
+        ensures refused { IfErr result (IsEntryRefused (control number (words text.now)) (shown self.old)) }
+    {
+        match read_control(text) {
+            Ok(control) => self.add(number, HostAction::Controller(control)),
+            Err(bad) => Err(Refusal::Line(LineFault::Action(bad))),
         }
     }
 
@@ -217,6 +233,7 @@ impl Draft {
                 address,
                 text,
             } => self.place(*number, *address, text)?,
+            Entry::Control { number, text } => self.place_control(*number, text)?,
             Entry::Fault { number, fault } => self.plan_fault(*number, *fault)?,
             Entry::Faults { span, fault } => self.plan_faults(*span, *fault)?,
             Entry::Series(series) => self.place_series(series)?,

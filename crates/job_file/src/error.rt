@@ -56,6 +56,9 @@ pub enum JobError {
     Assembly { line: u64, fault: AsmError },
     /// J7 with P5 or P8, at the line `script`: the loader refuses the image.
     Loading { line: u64, fault: LoadError },
+    /// J9, at the line `script`: the messages that the job has inserted and those that its script sends at worst are
+    /// more than 1,000,000.
+    Inserts { line: u64 },
     /// J8: memory was refused.
     Memory,
 }
@@ -73,7 +76,7 @@ impl JobError {
 }
 
 /// `J4 line 3`, `J5 line 4 H3`, `J6 line 3 L2`, `J7 line 9 column 3 S2`, `J7 line 9 column 3 S4 M3`, `J7 line 9 P5`,
-/// `J7 line 9 P8`, `J8`.
+/// `J7 line 9 P8`, `J8`, `J9 line 9`.
 impl Display for JobError {
     ghost output = { fault_text };
 
@@ -90,6 +93,7 @@ impl Display for JobError {
             JobError::Script { cause, place } => write!(f, "J7 {place} {cause}"),
             JobError::Assembly { line, fault } => write!(f, "J7 line {line} {fault}"),
             JobError::Loading { line, fault } => write!(f, "J7 line {line} {fault}"),
+            JobError::Inserts { line } => write!(f, "J9 line {line}"),
             JobError::Memory => f.write_str("J8"),
         }
     }

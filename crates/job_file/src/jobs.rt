@@ -1,10 +1,11 @@
 //! A job: all that is to be known of a channel's bus.
 ghost use Rattle.bc_machine.specs.Running.{started};
 ghost use Rattle.frame_asm.specs.Shapes.{code_of_tree};
+ghost use Rattle.frame_load.specs.Budget.{worst_messages};
 ghost use Rattle.frame_tree.specs.Bounds.{IsSound};
 ghost use Rattle.job_file.specs.Drafts.{shown};
 ghost use Rattle.job_file.specs.JobRanges.{may_act, IsFit};
-ghost use Rattle.job_file.specs.Jobs.{tree_in, job_in};
+ghost use Rattle.job_file.specs.Jobs.{own_inserts, tree_in, job_in};
 ghost use Rattle.job_file.specs.Machines.{IsOf, IsLatestOutcome};
 ghost use Rattle.job_file.specs.Meaning.{bus_of};
 ghost use Rattle.job_file.specs.Rooms.{most_items};
@@ -12,7 +13,7 @@ ghost use Rattle.job_file.specs.Scripts.{tree_spelled, IsProgramOf};
 ghost use Rattle.job_file.specs.Spelled.{job_with};
 ghost use Rattle.mil_bus.specs.Addresses.{is_fit};
 ghost use Rattle.std.specs.List.{list_all};
-ghost use Rattle.std.specs.Prelude.{◌≡◌, ◌≤◌, true, Some, IfOk};
+ghost use Rattle.std.specs.Prelude.{◌≡◌, ◌+◌, ◌≤◌, true, Some, IfOk};
 
 use crate::drafts::Draft;
 use crate::scripts::Script;
@@ -58,6 +59,7 @@ impl Job {
         requires channel { draft.channel ≡ Some channel }
         requires fit { IsFit (shown draft) }
         requires program { IsProgramOf script.text program }
+        requires few { own_inserts draft.actions + worst_messages program.operations ≤ 1000000 }
         ensures { job_in result ≡ job_with channel (shown draft) (tree_spelled script.text) }
     {
         Job {
@@ -119,13 +121,14 @@ impl Job {
         &self.program
     }
 
-    /// How much room of a run's queue the channel takes at most, 1 to 1,000,001 items: one for each message that it may
-    /// send, and its end mark.
-    pub fn most_items(&self) -> u64
-        ensures value { result ≡ most_items self.now }
-        ensures high { result ≤ 1000001 }
+    /// How much room of a run's queue the channel takes at most where up to so many actions are posted to it, at most
+    /// 1,000,001 items more than these: one for each message that its script may send, one for each that the job or a
+    /// post may have inserted, and its end mark.
+    pub fn most_items(&self, posts: u32) -> u64
+        ensures value { result ≡ most_items posts self.now }
+        ensures high { result ≤ 1000001 + posts }
     {
-        self.program().worst_messages() + 1
+        self.program().worst_messages() + self.actions.inserts() + u64::from(posts) + 1
     }
 
     /// A controller at the beginning of the job's program, on a bus with new terminals, under the job's planned faults

@@ -1,5 +1,5 @@
 //! The words that stand in the lines of a job.
-ghost use Rattle.job_file.specs.Lines.{keyword_of, fault_word_of, sync_of};
+ghost use Rattle.job_file.specs.Lines.{keyword_of, fault_word_of, is_controller, sync_of};
 ghost use Rattle.job_file.specs.declared.error.LineFault.TheVariants.{Word};
 ghost use Rattle.std.specs.Prelude.{◌≡◌, IfErr};
 ghost use Rattle.text_lines.specs.Readings.{IsOkOption};
@@ -69,6 +69,13 @@ pub fn keyword_in(word: &[u8]) -> Result<Keyword, LineFault>
     ensures fault { IfErr result (λ f. f ≡ Word) }
 {
     meaning(&KEYWORDS, word).ok_or(LineFault::Word)
+}
+
+/// Whether a word names the bus controller.
+pub fn is_controller(word: &[u8]) -> bool
+    ensures { result ≡ is_controller word.now }
+{
+    word == b"bc".as_slice()
 }
 
 /// The kind of fault that a word names.

@@ -1,9 +1,9 @@
 //! Jobs: all that is to be known of a channel's bus, as one text (own choice); the records of a job, and its state
 //! after so many messages.
 //!
-//! It may know: words, messages, host actions, gaps and planned faults, the bus, the monitor, scripts from their
-//! text to the loader, the controller, histories, numbers and words of a text. Its tests: `frame_tests`. Its wrong
-//! bodies: `edits/`.
+//! It may know: words, messages, host actions, what the host of a controller asks for, as values and as text, gaps and
+//! planned faults, the bus, the monitor, scripts from their text to the loader, the controller, histories, numbers and
+//! words of a text. Its tests: `frame_tests`. Its wrong bodies: `edits/`.
 #![tactic(auto)]
 
 mod drafts;

@@ -13,7 +13,7 @@ ghost use Rattle.text_lines.specs.Readings.{IsOkOption};
 ghost use Rattle.text_lines.specs.Words.{words};
 
 use crate::error::LineFault;
-use crate::keywords::{FaultWord, Keyword, fault_word_in, keyword_in, sync_in};
+use crate::keywords::{FaultWord, Keyword, fault_word_in, is_controller, keyword_in, sync_in};
 use crate::numbers::{data_word, half_bits, number, number_within, start_tick};
 use crate::spans::{Series, Span};
 use mil_line::Fault;
@@ -38,6 +38,11 @@ pub enum Entry<'a> {
     Action {
         number: u32,
         address: u8,
+        text: &'a [u8],
+    },
+    /// The text of what the host of the controller asks for before the message of this number, 1 to 1,000,000.
+    Control {
+        number: u32,
         text: &'a [u8],
     },
     /// A fault of the message of this number; their ranges are not judged yet.
@@ -252,7 +257,8 @@ fn terminal(text: &[u8]) -> Result<u8, LineFault>
     Ok(address as u8)
 }
 
-/// An action of a terminal's host.
+/// An action of a terminal's host, or, where `bc` stands in the place of an address, what the host of the controller
+/// asks for.
 #[tactic(auto, unfolding(crate::specs::Lines::action_in))]
 fn action(text: &[u8]) -> Result<Entry<'_>, LineFault>
     ensures said { IsOkOption said_by result (lines.action_in (words text.now)) }
@@ -263,6 +269,9 @@ fn action(text: &[u8]) -> Result<Entry<'_>, LineFault>
     let (address, text) = first_word(rest)?;
     first_word(text)?;
     let number = number_within(number, 1, 1_000_000)?;
+    if is_controller(address) {
+        return Ok(Entry::Control { number, text });
+    }
     let address = number_within(address, 0, u32::from(HIGHEST_ADDRESS))?;
     Ok(Entry::Action {
         number,
@@ -357,9 +366,9 @@ fn after_keyword(keyword: Keyword, text: &[u8]) -> Result<Entry<'_>, LineFault>
     }
 }
 
-/// What a line says: `channel N`, `start TICK`, `terminal ADDRESS`, `at NUMBER ADDRESS ACTION`, `fault NUMBER FAULT`,
-/// `faults FIRST LAST STEP FAULT`, `series FIRST LAST STEP ADDRESS SUB START ADD`, `script`, a comment or nothing. J1,
-/// then J2.
+/// What a line says: `channel N`, `start TICK`, `terminal ADDRESS`, `at NUMBER ADDRESS ACTION`, `at NUMBER bc CONTROL`,
+/// `fault NUMBER FAULT`, `faults FIRST LAST STEP FAULT`, `series FIRST LAST STEP ADDRESS SUB START ADD`, `script`, a
+/// comment or nothing. J1, then J2.
 #[tactic(auto, unfolding(crate::specs::Lines::said_in))]
 pub fn read_line(line: &[u8]) -> Result<Entry<'_>, LineFault>
     ensures said { IsOkOption said_by result (lines.said line.now) }

@@ -1,16 +1,17 @@
 //! The job of a text.
 ghost use Rattle.frame_asm.specs.Shapes.{code_of_tree};
+ghost use Rattle.frame_load.specs.Budget.{worst_messages};
 ghost use Rattle.frame_text.specs.Frames.{tree_of_text};
 ghost use Rattle.frame_tree.specs.Bounds.{IsSound};
 ghost use Rattle.frame_tree.specs.Tree.{tree_of};
 ghost use Rattle.job_file.specs.Drafts.{shown};
 ghost use Rattle.job_file.specs.Faults.{IsJobHead, IsFirstFault, IsScriptRefused, IsLineOf, IsPlacedBelow};
 ghost use Rattle.job_file.specs.JobRanges.{IsFit};
-ghost use Rattle.job_file.specs.Jobs.{tree_in, job_in};
+ghost use Rattle.job_file.specs.Jobs.{own_inserts, tree_in, job_in};
 ghost use Rattle.job_file.specs.Reading.{IsJobRefusal, IsScriptRefusal, IsCodeRefusal, HasProgram};
 ghost use Rattle.job_file.specs.Spelled.{spelled, job_of};
 ghost use Rattle.job_file.specs.Texts.{IsAccepted};
-ghost use Rattle.std.specs.Prelude.{◌≡◌, ◌+◌, ◌-◌, ◌^◌, min, Ok, Some, MatchResult, IfOk, IfErr};
+ghost use Rattle.std.specs.Prelude.{◌≡◌, ◌+◌, ◌-◌, ◌^◌, ◌≤◌, min, Ok, Some, MatchResult, IfOk, IfErr};
 
 use crate::drafts::{Draft, Taken};
 use crate::error::{JobError, LineFault};
@@ -23,6 +24,9 @@ use frame_text::{Place, ScriptError, parse};
 use frame_tree::Frame;
 use std::alloc::Global;
 use text_lines::split_line;
+
+/// A channel makes at most so many messages.
+const MOST_MESSAGES: u64 = 1_000_000;
 
 /// What the lines above the script say, the line of the script, counted from 1, and the script.
 #[derive(Drop)]
@@ -134,6 +138,8 @@ fn finish(
     ensures refused { IfErr result (IsJobRefusal (job_of (shown draft) script.now)) }
     ensures first { IfErr result (IsScriptRefused (shown draft) line script.now) }
     ensures well { IfOk result (λ j. HasProgram (code_of_tree (tree_in j))) }
+    ensures few { IfOk result (λ j. own_inserts j.actions
+        + worst_messages (code_of_tree (tree_in j)).operations ≤ 1000000) }
 {
     let Some(channel) = draft.channel else {
         return Err(JobError::Line {
@@ -145,6 +151,10 @@ fn finish(
     let program = program(alloc, line, &frame)?;
     drop(frame);
     give_up(alloc, arena);
+    let left = MOST_MESSAGES - program.worst_messages();
+    if draft.actions.inserts() > left {
+        return Err(JobError::Inserts { line });
+    }
     Ok(Job::make(channel, draft, program, Script::of(script)))
 }
 
@@ -166,10 +176,10 @@ pub(crate) fn read_in(alloc: Global, arena: &mut Bump, text: &[u8]) -> Result<Jo
     finish(alloc, arena, draft, line, script)
 }
 
-/// The job that a text spells: lines `channel N`, `start TICK`, `terminal ADDRESS`, `at NUMBER ADDRESS ACTION` and
-/// `fault NUMBER FAULT`, and below a line `script` the script. The first fault is answered, line by line: J1 to J6,
-/// then J7 of the script, where A1 counts before A2, and P5 before P8; and J8 where memory is refused. The script's
-/// tree stands in an arena, which is given up once the image is made.
+/// The job that a text spells: lines `channel N`, `start TICK`, `terminal ADDRESS`, `at NUMBER ADDRESS ACTION`, `at
+/// NUMBER bc CONTROL` and `fault NUMBER FAULT`, and below a line `script` the script. The first fault is answered, line
+/// by line: J1 to J6, then J7 of the script, where A1 counts before A2, and P5 before P8, then J9; and J8 where memory
+/// is refused. The script's tree stands in an arena, which is given up once the image is made.
 pub fn read_job(alloc: Global, text: &[u8]) -> Result<Job, JobError>
     ensures job { IfOk result (λ j. spelled text.now ≡ Some (job_in j)) }
     ensures accepted { IfOk result (λ _. IsAccepted text.now) }

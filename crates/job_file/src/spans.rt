@@ -4,7 +4,7 @@ ghost use Rattle.mil_word.specs.Fields.{highest_put_up};
 ghost use Rattle.std.specs.Prelude.{◌≡◌, ◌<◌, ◌≤◌};
 
 use arrayvec::ArrayVec;
-use bc_machine::Placed;
+use bc_machine::{HostAction, Placed};
 use mil_host::{Action, TransmitWords};
 
 /// The messages from `first` to `last`, both 1 to 1,000,000, of which each is `step` (1 to 1,000,000) behind the one
@@ -71,8 +71,10 @@ impl Series {
         words.push(self.word(before));
         Placed {
             number: self.span.number(before),
-            address: self.address,
-            action: Action::Transmit(TransmitWords::make(self.sub, words)),
+            action: HostAction::Terminal {
+                address: self.address,
+                action: Action::Transmit(TransmitWords::make(self.sub, words)),
+            },
         }
     }
 }

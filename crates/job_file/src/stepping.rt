@@ -1,8 +1,7 @@
 //! The controller of a job, from one record to the next.
-ghost use Rattle.bc_machine.specs.Running.{clock_in, turn_of};
+ghost use Rattle.bc_machine.specs.Running.{HasEnded, ended_in};
 ghost use Rattle.bc_machine.specs.UnderWay.{IsUnderWay};
 ghost use Rattle.bc_machine.specs.declared.placed.Placed.{Placed};
-ghost use Rattle.frame_code.specs.Table.{halted};
 ghost use Rattle.frame_tree.specs.Bounds.{IsSound};
 ghost use Rattle.job_file.specs.Machines.{IsOf, IsLatestOutcome};
 ghost use Rattle.job_file.specs.Meaning.{records};
@@ -28,21 +27,21 @@ pub fn next_record(machine: &mut Machine) -> Option<Record>
     ensures small { IfSome result (λ r. r.stamp < 2 ^ 48) }
 
     // The message begins when the one before has ended, or later, and ends after it began.
-    ensures follows { IfSome result (λ r. clock_in machine.old ≤ r.stamp) }
-    ensures ends { IfSome result (λ r. r.stamp ≤ clock_in machine.new) }
+    ensures follows { IfSome result (λ r. ended_in machine.old ≤ r.stamp) }
+    ensures ends { IfSome result (λ r. r.stamp ≤ ended_in machine.new) }
 
     ensures all { IfNone result ((job : ChannelJob) (placed : List Placed) → IsSound job.tree
         → IsOf job placed machine.old
         → machine.old.point.number ≡ length (records job placed)) }
     ensures same { IfNone result (machine.new.point.number ≡ machine.old.point.number) }
-    ensures halted { IfNone result (turn_of machine.new ≡ halted) }
+    ensures ended { IfNone result (HasEnded machine.new) }
 {
     // The laws of a job's records, for the proofs.
     job_runs();
     'steps: loop {
         match machine.step() {
             Stepped::Ran => {}
-            Stepped::Sent(record) => return Some(record),
+            Stepped::Sent(record) | Stepped::Inserted(record) => return Some(record),
             Stepped::Halted => return None,
         }
     }

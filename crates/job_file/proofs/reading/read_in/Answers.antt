@@ -12,7 +12,7 @@ returns-clause-first c =
 pub returns-clause-accepted : goal.returns-clause-accepted
 returns-clause-accepted c =
     let h = c.in_ok-draft.field-0 in
-    accepted c.args.text.now (job_of (shown h.draft) h.script.now) c.finish.result c.in_ok-draft.ensures.read c.finish.ensures.job c.finish.ensures.well
+    accepted c.args.text.now (job_of (shown h.draft) h.script.now) c.finish.result c.in_ok-draft.ensures.read c.finish.ensures.job c.finish.ensures.well c.finish.ensures.few
 
 pub returns-clause-room : goal.returns-clause-room
 returns-clause-room c =

@@ -1,7 +1,7 @@
-use Rattle.std.proofs.Common.{◌≡◌, ◌≤◌, ◌-◌, List}
+use Rattle.std.proofs.Common.{◌≡◌, ◌-◌, List}
 use Rattle.frame_load.specs.Budget.{budget}
 use Rattle.bc_machine.specs.declared.placed.Placed.{Placed}
-use Rattle.bc_machine.specs.Running.{clock_in}
+use Rattle.bc_machine.specs.Running.{ended_in}
 use Rattle.job_file.specs.Spelled.{ChannelJob}
 use Rattle.job_file.specs.Machines.{IsOf}
 use Rattle.job_file.proofs.stepping.next_record.Given as goal
@@ -10,8 +10,8 @@ use Rattle.job_file.proofs.stepping.next_record.Given as goal
 abbrev pub invariant-steps : goal.invariant-steps
 invariant-steps l = record {
   talks : l.machine.point.state.talks ≡ l.initial.machine.point.state.talks;
-  later : clock_in l.initial.machine ≤ clock_in l.machine;
-  last : l.machine.point.last ≡ l.initial.machine.point.last;
+  ended : ended_in l.machine ≡ ended_in l.initial.machine;
+  latest : l.machine.latest ≡ l.initial.machine.latest;
   number : l.machine.point.number ≡ l.initial.machine.point.number;
   of : (job : ChannelJob) (placed : List Placed) → IsOf job placed l.initial.machine → IsOf job placed l.machine;
 }
