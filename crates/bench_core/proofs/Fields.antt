@@ -4,7 +4,7 @@ use Rattle.std.specs.Option.{option_to_list}
 use Rattle.std.specs.Prelude.{Result, Ok, Err, OnOk, OnErr}
 use Rattle.std.specs.List.{AllByRecursion}
 use Rattle.std.proofs.lemmas.List.{length-set, length-append}
-use Rattle.mil_host.specs.declared.actions.Action.{Action}
+use Rattle.bc_machine.specs.declared.placed.HostAction.{HostAction}
 use Rattle.mil_monitor.specs.declared.Record.{Record}
 use Rattle.ch11_builder.specs.Held.{Held, packet_of}
 use Rattle.ch11_recording.specs.declared.item.Item.{Item}
@@ -186,21 +186,21 @@ module _ {U E : Type 0} (f : Format) (prologue : List ℕ) (most : ℕ) (ls : Li
 
 -- ---- a post
 
-reached_post : (b : Bench) (i address : ℕ) (action : Action) → IsReached b → IsReached (posted i address action b)
+reached_post : (b : Bench) (i : ℕ) (action : HostAction) → IsReached b → IsReached (posted i action b)
 unfolding stepped
-reached_post b i address action r = reached_more b (Post i address action) r
+reached_post b i action r = reached_more b (Post i action) r
 
-module _ (i address : ℕ) (action : Action) where
+module _ (i : ℕ) (action : HostAction) where
   post_is : (b : Bench) (l : LaneState) → slice_get b.lanes i ≡ Some l
-      → ◌≡◌ {A = Bench} (record { lanes = slice_set b.lanes i (with_post l address action); capacity = b.capacity; queue = b.queue; taken = b.taken }) (posted i address action b)
-  post_is b l at = ap (λ (o : Option LaneState). lane_posts i o address action b) (sym at)
+      → ◌≡◌ {A = Bench} (record { lanes = slice_set b.lanes i (with_post l action); capacity = b.capacity; queue = b.queue; taken = b.taken }) (posted i action b)
+  post_is b l at = ap (λ (o : Option LaneState). lane_posts i o action b) (sym at)
 
-  post_kept : (slots : ℕ) (builders : List Held) (bytes : List ℕ) (count : ℕ) (w : WorldState) (l : LaneState) → slice_get w.bench.lanes i ≡ Some l → IsMade (with_post l address action)
-      → IsKeptWorld slots builders bytes count w → IsKeptWorld slots builders bytes count (with_bench w (posted i address action w.bench))
+  post_kept : (slots : ℕ) (builders : List Held) (bytes : List ℕ) (count : ℕ) (w : WorldState) (l : LaneState) → slice_get w.bench.lanes i ≡ Some l → IsMade (with_post l action)
+      → IsKeptWorld slots builders bytes count w → IsKeptWorld slots builders bytes count (with_bench w (posted i action w.bench))
   post_kept slots builders bytes count w l at made is =
-      let new : LaneState = with_post l address action in
+      let new : LaneState = with_post l action in
       subst (λ (b : Bench). IsKeptWorld slots builders bytes count (with_bench w b)) (post_is w.bench l at) (record {
-        reached = subst IsReached (sym (post_is w.bench l at)) (reached_post w.bench i address action is.reached);
+        reached = subst IsReached (sym (post_is w.bench l at)) (reached_post w.bench i action is.reached);
         made = all_set_to IsMade w.bench.lanes i new is.made made;
         format = is.format;
         prologue = is.prologue;
@@ -212,16 +212,16 @@ module _ (i address : ℕ) (action : Action) where
       })
 
   module _ (f : Format) (prologue : List ℕ) (most : ℕ) (ls : List LaneState) (capacity : ℕ) (queue taken : List Item) (old v : LaneState) (at : slice_get ls i ≡ Some old) where
-    post_state : v ≡ with_post old address action
-        → state f prologue most (slice_set ls i v) capacity queue taken ≡ with_bench (state f prologue most ls capacity queue taken) (posted i address action (state f prologue most ls capacity queue taken).bench)
+    post_state : v ≡ with_post old action
+        → state f prologue most (slice_set ls i v) capacity queue taken ≡ with_bench (state f prologue most ls capacity queue taken) (posted i action (state f prologue most ls capacity queue taken).bench)
     post_state is =
         let b : Bench = record { lanes = ls; capacity = capacity; queue = queue; taken = taken } in
         ap (λ (l : LaneState). state f prologue most (slice_set ls i l) capacity queue taken) is
         ∙ ap (λ (c : Bench). record { format = f; prologue = prologue; most = most; bench = c }) (post_is b old at)
 
-    pub post_done : {U E : Type 0} (r : Result U E) (now : WorldState) → state f prologue most ls capacity queue taken ≡ now → OnOk r (v ≡ with_post old address action)
-        → OnOk r (state f prologue most (slice_set ls i v) capacity queue taken ≡ with_bench now (posted i address action now.bench))
-    post_done (Ok u) now view is = post_state is ∙ ap (λ (w : WorldState). with_bench w (posted i address action w.bench)) view
+    pub post_done : {U E : Type 0} (r : Result U E) (now : WorldState) → state f prologue most ls capacity queue taken ≡ now → OnOk r (v ≡ with_post old action)
+        → OnOk r (state f prologue most (slice_set ls i v) capacity queue taken ≡ with_bench now (posted i action now.bench))
+    post_done (Ok u) now view is = post_state is ∙ ap (λ (w : WorldState). with_bench w (posted i action w.bench)) view
     post_done (Err e) now view is = tt
 
     pub post_failed : {U E : Type 0} (r : Result U E) (now : WorldState) → state f prologue most ls capacity queue taken ≡ now → OnErr r (v ≡ old)
@@ -231,7 +231,7 @@ module _ (i address : ℕ) (action : Action) where
         ap (λ (l : LaneState). state f prologue most (slice_set ls i l) capacity queue taken) one
         ∙ ap (λ (xs : List LaneState). state f prologue most xs capacity queue taken) (set_same ls i old at) ∙ view
 
-    pub post_keeps : {U E : Type 0} (r : Result U E) (slots : ℕ) (builders : List Held) (bytes : List ℕ) (count : ℕ) → OnOk r (v ≡ with_post old address action) → OnOk r (IsMade v) → OnErr r (v ≡ old)
+    pub post_keeps : {U E : Type 0} (r : Result U E) (slots : ℕ) (builders : List Held) (bytes : List ℕ) (count : ℕ) → OnOk r (v ≡ with_post old action) → OnOk r (IsMade v) → OnErr r (v ≡ old)
         → IsKeptWorld slots builders bytes count (state f prologue most ls capacity queue taken) → IsKeptWorld slots builders bytes count (state f prologue most (slice_set ls i v) capacity queue taken)
     post_keeps (Ok u) slots builders bytes count is made one kept =
         subst (IsKeptWorld slots builders bytes count) (sym (post_state is))

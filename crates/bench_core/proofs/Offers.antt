@@ -1,5 +1,5 @@
 -- What a channel offers, and what that makes of the bench.
-use Rattle.std.proofs.Common.{◌≡◌, ℕ, zero, suc, ◌+◌, ◌<◌, ◌≤◌, Bool, true, false, not, ◌||◌, cond, List, [], ◌∷◌, ◌++◌, length, map, take, slice_get, slice_set, slice_index_or, Option, Some, None, refl, sym, ap, ◌∙◌, arith, subst}
+use Rattle.std.proofs.Common.{◌≡◌, ℕ, zero, suc, ◌+◌, ◌<◌, ◌≤◌, Bool, true, false, not, ◌||◌, cond, List, [], ◌∷◌, ◌++◌, length, take, slice_get, slice_set, slice_index_or, Option, Some, None, refl, sym, ap, ◌∙◌, arith, subst}
 use Rattle.std.specs.Option.{option_to_list}
 use Rattle.std.specs.List.{AllByRecursion}
 use Rattle.std.proofs.lemmas.List.{append-nil}
@@ -14,8 +14,7 @@ use Rattle.ch11_builder.specs.Recorded.{IsRecorded}
 use Rattle.ch11_recording.specs.declared.item.Item.{Item}
 use Rattle.ch11_recording.specs.declared.item.Item.TheVariants as item
 use Rattle.ch11_recording.specs.Items.{numbered}
-use Rattle.bench_settings.proofs.Lists.{map_at, map_kept}
-use Rattle.bench_core.specs.Bench.{LaneState, Bench, has_room, with_message, with_end, message_of, next_offered, lane_offers, offered}
+use Rattle.bench_core.specs.Bench.{LaneState, Bench, all_records, has_room, with_message, with_end, message_of, next_offered, lane_offers, offered}
 use Rattle.bench_core.specs.Channels.{after_next, queued_next, next_in}
 
 -- ---- a channel's numbers and records
@@ -94,6 +93,30 @@ next_made i b l None at = end_made i b l (l.ended || not (has_room b)) at
 pub offer_is : (i : ℕ) (b : Bench) (l : LaneState) → slice_get b.lanes i ≡ Some l
     → offer_made i b (after_next l (next_in l) (has_room b)) (queued_next l (next_in l) (has_room b)) ≡ offered i b
 offer_is i b l at = next_made i b l (next_in l) at ∙ ap (λ (o : Option LaneState). lane_offers i o b) (sym at)
+
+-- ---- what comes next of a channel
+
+next_ended : (l : LaneState) → l.ended ≡ true → next_in l ≡ None
+next_ended l is = ap (λ (ended : Bool). cond ended None (slice_get (all_records l) l.made)) is
+
+pub next_none : (l : LaneState) → slice_get (all_records l) l.made ≡ None → next_in l ≡ None
+next_none l none = go l.ended
+  where
+    go : (ended : Bool) → cond ended None (slice_get (all_records l) l.made) ≡ None
+    go true = refl
+    go false = none
+
+pub next_some : (l : LaneState) (r : Record) → l.ended ≡ false → slice_get (all_records l) l.made ≡ Some r → next_in l ≡ Some r
+next_some l r going at = ap (λ (ended : Bool). cond ended None (slice_get (all_records l) l.made)) going ∙ at
+
+-- a channel behind its end mark stays as it is
+pub ended_stays : (l : LaneState) (room : Bool) → l.ended ≡ true → l ≡ after_next l (next_in l) room
+ended_stays l room is =
+    sym (ap (λ (o : Option Record). after_next l o room) (next_ended l is) ∙ ap (λ (ended : Bool). cond (ended || not room) l (with_end l)) is)
+
+pub ended_gives : (l : LaneState) (room : Bool) → l.ended ≡ true → None ≡ queued_next l (next_in l) room
+ended_gives l room is =
+    sym (ap (λ (o : Option Record). queued_next l o room) (next_ended l is) ∙ ap (λ (ended : Bool). cond (ended || not room) None (Some (item.End l.channel))) is)
 
 -- ---- a channel after its last message, and after a message
 

@@ -2,7 +2,7 @@
 use Rattle.std.proofs.Common.{◌≡◌, ℕ, ◌+◌, ◌<◌, ◌≤◌, max, Bool, false, cond, eqb, ne_eqb, List, [], ◌∷◌, ◌++◌, length, take, refl, sym, ap, ◌∙◌, subst, arith}
 use Rattle.std.proofs.lemmas.List.{append-nil, length-append}
 use Rattle.std.proofs.lemmas.List.Elements.{filter-append}
-use Rattle.mil_host.specs.declared.actions.Action.{Action}
+use Rattle.bc_machine.specs.declared.placed.HostAction.{HostAction}
 use Rattle.bc_machine.specs.declared.placed.Placed.{Placed}
 use Rattle.bc_machine.specs.Controller.{placed_at}
 use Rattle.bc_machine.specs.Running.{MachineState}
@@ -26,17 +26,17 @@ left_out most actions one above = up_to_same most actions (actions ++ one ∷ []
 
 -- ---- a controller for which room was made and an action was placed at its next message
 
-pub placed_next : (m x : MachineState) (number address : ℕ) (a b : Action) → x ≡ with_room m 1 → number ≡ x.point.number → a ≡ b
-    → ◌≡◌ {A = Placed} (record { number = number + 1; address = address; action = a }) (at_next m address b)
-placed_next m x number address a b same is copy =
+pub placed_next : (m x : MachineState) (number : ℕ) (a b : HostAction) → x ≡ with_room m 1 → number ≡ x.point.number → a ≡ b
+    → ◌≡◌ {A = Placed} (record { number = number + 1; action = a }) (at_next m b)
+placed_next m x number a b same is copy =
     let here : number + 1 ≡ m.point.number + 1 = ap (λ (n : ℕ). n + 1) (is ∙ ap (λ (y : MachineState). y.point.number) same) in
-    λ i. record { number = here i; address = address; action = copy i }
+    λ i. record { number = here i; action = copy i }
 
-pub moved_next : (m x n : MachineState) (address : ℕ) (a b : Action) → x ≡ with_room m 1 → a ≡ b → n ≡ with_placed x (x.placed ++ at_next x address a ∷ [])
-    → n ≡ with_placed (with_room m 1) (m.placed ++ at_next m address b ∷ [])
-moved_next m x n address a b same copy is =
-    is ∙ ap (λ (y : MachineState). with_placed y (y.placed ++ at_next y address a ∷ [])) same
-    ∙ ap (λ (c : Action). with_placed (with_room m 1) (m.placed ++ at_next m address c ∷ [])) copy
+pub moved_next : (m x n : MachineState) (a b : HostAction) → x ≡ with_room m 1 → a ≡ b → n ≡ with_placed x (x.placed ++ at_next x a ∷ [])
+    → n ≡ with_placed (with_room m 1) (m.placed ++ at_next m b ∷ [])
+moved_next m x n a b same copy is =
+    is ∙ ap (λ (y : MachineState). with_placed y (y.placed ++ at_next y a ∷ [])) same
+    ∙ ap (λ (c : HostAction). with_placed (with_room m 1) (m.placed ++ at_next m c ∷ [])) copy
 
 -- where room was made no action comes back
 pub never_back : (m x : MachineState) → x ≡ with_room m 1 → x.capacity ≤ length x.placed → ⊥
@@ -45,7 +45,7 @@ never_back m x is full =
     let long : length x.placed ≡ length m.placed = ap (λ (y : MachineState). length y.placed) is in
     omega (arith, capacity, long, full)
 
-module _ (job : JobState) (m n : MachineState) (address : ℕ) (action : Action) (is : n ≡ with_placed (with_room m 1) (m.placed ++ at_next m address action ∷ [])) where
+module _ (job : JobState) (m n : MachineState) (action : HostAction) (is : n ≡ with_placed (with_room m 1) (m.placed ++ at_next m action ∷ [])) where
   pub posted_of : IsUnderWay n → IsOf (job_in job) m.placed m → IsOf (job_in job) n.placed n
   posted_of under_way of = record {
     code = ap (λ (x : MachineState). x.code) is ∙ of.code;
@@ -57,22 +57,22 @@ module _ (job : JobState) (m n : MachineState) (address : ℕ) (action : Action)
 
   pub posted_lane : (channel : ℕ) (refused : List ℕ) (ended : Bool)
       → ◌≡◌ {A = LaneState} (record { channel = channel; job = job; placed = n.placed; made = n.point.number; refused = refused; ended = ended })
-      (with_post (record { channel = channel; job = job; placed = m.placed; made = m.point.number; refused = refused; ended = ended }) address action)
+      (with_post (record { channel = channel; job = job; placed = m.placed; made = m.point.number; refused = refused; ended = ended }) action)
   posted_lane channel refused ended = ap (λ (x : MachineState). record { channel = channel; job = job; placed = x.placed; made = x.point.number; refused = refused; ended = ended }) is
 
   pub posted_recorded : AreRecorded (take m.point.number (records (job_in job) m.placed)) → AreRecorded (take n.point.number (records (job_in job) n.placed))
   posted_recorded all =
       subst (λ (x : MachineState). AreRecorded (take x.point.number (records (job_in job) x.placed))) (sym is)
-      (subst AreRecorded (sym (records_posted (record { channel = 0; job = job; placed = m.placed; made = m.point.number; refused = []; ended = false }) address action)) all)
+      (subst AreRecorded (sym (records_posted (record { channel = 0; job = job; placed = m.placed; made = m.point.number; refused = []; ended = false }) action)) all)
 
   pub posted_number : n.point.number ≡ m.point.number
   posted_number = ap (λ (x : MachineState). x.point.number) is
 
-  pub posted_placed : n.placed ≡ m.placed ++ at_next m address action ∷ []
+  pub posted_placed : n.placed ≡ m.placed ++ at_next m action ∷ []
   posted_placed = ap (λ (x : MachineState). x.placed) is
 
   -- one post more
   pub posted_count : (own posts : ℕ) → length m.placed ≡ own + posts → length n.placed ≡ own + (posts + 1)
   posted_count own posts same =
-      let long : length n.placed ≡ length (m.placed ++ at_next m address action ∷ []) = ap (λ (x : MachineState). length x.placed) is in
-      omega (arith, long, length-append m.placed (at_next m address action ∷ []), same)
+      let long : length n.placed ≡ length (m.placed ++ at_next m action ∷ []) = ap (λ (x : MachineState). length x.placed) is in
+      omega (arith, long, length-append m.placed (at_next m action ∷ []), same)

@@ -2,7 +2,7 @@
 use Rattle.std.proofs.Common.{◌≡◌, ◌≢◌, ℕ, zero, suc, ◌+◌, ◌<◌, ◌^◌, Bool, true, false, not, ◌||◌, cond, List, [], ◌∷◌, ◌++◌, map, take, slice_get, slice_set, Option, Some, None, refl, sym, ap, ◌∙◌, append_assoc, arith, subst}
 use Rattle.std.specs.List.{AllByRecursion}
 use Rattle.std.proofs.lemmas.List.{append-nil}
-use Rattle.mil_host.specs.declared.actions.Action.{Action}
+use Rattle.bc_machine.specs.declared.placed.HostAction.{HostAction}
 use Rattle.mil_monitor.specs.declared.Record.{Record}
 use Rattle.ch11_builder.specs.Packet.{Numbered}
 use Rattle.ch11_builder.specs.Recorded.{IsRecorded}
@@ -13,7 +13,7 @@ use Rattle.ch11_recording.specs.Recording.{AreDistinct}
 use Rattle.ch11_recording.specs.Laws.{IsItem}
 use Rattle.bench_core.specs.declared.step.Step.{Step}
 use Rattle.bench_core.specs.declared.step.Step.TheVariants.{Offer, Take, Post}
-use Rattle.bench_core.specs.Bench.{LaneState, Bench, begun, all_records, has_room, with_message, with_end, message_of, next_offered, lane_offers, taken_from, with_post, lane_posts, stepped, after_steps}
+use Rattle.bench_core.specs.Bench.{LaneState, Bench, begun, all_records, has_room, with_message, with_end, message_of, next_offered, next_in, lane_offers, taken_from, with_post, lane_posts, stepped, after_steps}
 use Rattle.bench_core.specs.Settled.{kept_of, IsFresh, HasRecorded}
 use Rattle.bench_settings.specs.Kept.{kept_records}
 use Rattle.bench_core.proofs.Foreseen.{records_posted}
@@ -177,13 +177,21 @@ after_end b i l false at is =
     let lane : IsLane (b.taken ++ b.queue) l = one_of (IsLane (b.taken ++ b.queue)) b.lanes i l at is.lanes in
     lane_queues b i l (with_end l) (item.End l.channel) at refl refl (λ recorded. (recorded, (lane.channel, tt))) (lane_ended (b.taken ++ b.queue) l) is
 
-after_next : (b : Bench) (i : ℕ) (l : LaneState) (next : Option Record) → slice_get b.lanes i ≡ Some l → slice_get (all_records l) l.made ≡ next → IsBench b → IsBench (next_offered i l next b)
-after_next b i l (Some r) at next is = after_message b i l r (has_room b) at next is
+-- a message that is offered is the next of the channel's job
+next_record : (l : LaneState) (r : Record) → next_in l ≡ Some r → slice_get (all_records l) l.made ≡ Some r
+next_record l r next = go l.ended next
+  where
+    go : (ended : Bool) → cond ended None (slice_get (all_records l) l.made) ≡ Some r → slice_get (all_records l) l.made ≡ Some r
+    go true next = absurd cc
+    go false next = next
+
+after_next : (b : Bench) (i : ℕ) (l : LaneState) (next : Option Record) → slice_get b.lanes i ≡ Some l → next_in l ≡ next → IsBench b → IsBench (next_offered i l next b)
+after_next b i l (Some r) at next is = after_message b i l r (has_room b) at (next_record l r next) is
 after_next b i l None at next is = after_end b i l (l.ended || not (has_room b)) at is
 
 after_offer : (b : Bench) (i : ℕ) (lane : Option LaneState) → slice_get b.lanes i ≡ lane → IsBench b → IsBench (lane_offers i lane b)
 after_offer b i None at is = is
-after_offer b i (Some l) at is = after_next b i l (slice_get (all_records l) l.made) at refl is
+after_offer b i (Some l) at is = after_next b i l (next_in l) at refl is
 
 after_take : (b : Bench) (queue : List Item) → b.queue ≡ queue → IsBench b → IsBench (taken_from queue b)
 after_take b [] at is = is
@@ -196,26 +204,26 @@ after_take b (x ∷ queue) at is =
     }
 
 -- an action at a message to come changes none of those so far
-lane_posted : (items : List Item) (l : LaneState) (address : ℕ) (action : Action) → IsLane items l → IsLane items (with_post l address action)
-lane_posted items l address action is = record {
+lane_posted : (items : List Item) (l : LaneState) (action : HostAction) → IsLane items l → IsLane items (with_post l action)
+lane_posted items l action is = record {
   channel = is.channel;
   low = is.low;
-  settled = is.settled ∙ ap (kept_records l.refused) (sym (records_posted l address action));
+  settled = is.settled ∙ ap (kept_records l.refused) (sym (records_posted l action));
 }
 
-recorded_posted : (l : LaneState) (address : ℕ) (action : Action) → HasRecorded (with_post l address action) → HasRecorded l
-recorded_posted l address action all = subst AllRecorded (records_posted l address action) all
+recorded_posted : (l : LaneState) (action : HostAction) → HasRecorded (with_post l action) → HasRecorded l
+recorded_posted l action all = subst AllRecorded (records_posted l action) all
 
-after_post : (b : Bench) (i address : ℕ) (action : Action) (lane : Option LaneState) → slice_get b.lanes i ≡ lane → IsBench b → IsBench (lane_posts i lane address action b)
-after_post b i address action None at is = is
-after_post b i address action (Some l) at is =
-    lane_drops b i l (with_post l address action) at refl (recorded_posted l address action) (lane_posted (b.taken ++ b.queue) l address action) is
+after_post : (b : Bench) (i : ℕ) (action : HostAction) (lane : Option LaneState) → slice_get b.lanes i ≡ lane → IsBench b → IsBench (lane_posts i lane action b)
+after_post b i action None at is = is
+after_post b i action (Some l) at is =
+    lane_drops b i l (with_post l action) at refl (recorded_posted l action) (lane_posted (b.taken ++ b.queue) l action) is
 
 after_step : (b : Bench) (s : Step) → IsBench b → IsBench (stepped s b)
 unfolding stepped
 after_step b (Offer i) is = after_offer b i (slice_get b.lanes i) refl is
 after_step b Take is = after_take b b.queue refl is
-after_step b (Post i address action) is = after_post b i address action (slice_get b.lanes i) refl is
+after_step b (Post i action) is = after_post b i action (slice_get b.lanes i) refl is
 
 pub after_all : (b : Bench) (steps : List Step) → IsBench b → IsBench (after_steps steps b)
 after_all b [] is = is

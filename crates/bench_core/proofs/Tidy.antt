@@ -2,7 +2,7 @@
 use Rattle.std.proofs.Common.{◌≡◌, ℕ, zero, suc, ◌+◌, ◌*◌, ◌≤◌, Bool, true, false, not, ◌||◌, cond, List, [], ◌∷◌, ◌++◌, length, slice_get, slice_set, Option, Some, None, refl, sym, ap, ◌∙◌, arith, subst}
 use Rattle.std.specs.List.{AllByRecursion}
 use Rattle.std.proofs.lemmas.List.{length-append}
-use Rattle.mil_host.specs.declared.actions.Action.{Action}
+use Rattle.bc_machine.specs.declared.placed.HostAction.{HostAction}
 use Rattle.mil_monitor.specs.declared.Record.{Record}
 use Rattle.ch11_builder.specs.Held.{Held, packet_of}
 use Rattle.ch11_recording.specs.declared.item.Item.{Item}
@@ -11,7 +11,7 @@ use Rattle.ch11_recording.specs.Items.{channel_of}
 use Rattle.ch11_recording.specs.WrittenFile.{Format, closes, held_in, closed_by, closed_packets_behind, closed_packets}
 use Rattle.bench_core.specs.declared.step.Step.{Step}
 use Rattle.bench_core.specs.declared.step.Step.TheVariants.{Offer, Take, Post}
-use Rattle.bench_core.specs.Bench.{LaneState, Bench, begun, all_records, has_room, with_message, with_end, message_of, next_offered, lane_offers, taken_from, with_post, lane_posts, stepped, after_steps}
+use Rattle.bench_core.specs.Bench.{LaneState, Bench, begun, has_room, with_message, with_end, message_of, next_offered, next_in, lane_offers, taken_from, with_post, lane_posts, stepped, after_steps}
 use Rattle.bench_core.specs.Channels.{IsMade}
 use Rattle.bench_core.proofs.Steps.{channels_in, channels_set, with_lane}
 
@@ -91,7 +91,7 @@ tidy_next b i l None at is = tidy_end b i l l.ended (has_room b) at refl is
 
 tidy_offer : (b : Bench) (i : ℕ) (lane : Option LaneState) → slice_get b.lanes i ≡ lane → IsTidy b → IsTidy (lane_offers i lane b)
 tidy_offer b i None at is = is
-tidy_offer b i (Some l) at is = tidy_next b i l (slice_get (all_records l) l.made) at is
+tidy_offer b i (Some l) at is = tidy_next b i l (next_in l) at is
 
 tidy_take : (b : Bench) (queue : List Item) → b.queue ≡ queue → IsTidy b → IsTidy (taken_from queue b)
 tidy_take b [] at is = is
@@ -102,10 +102,10 @@ tidy_take b (x ∷ queue) at is =
       count = omega (arith, is.count, ap (λ (xs : List Item). length xs) at, length-append b.taken (x ∷ []));
     }
 
-tidy_post : (b : Bench) (i address : ℕ) (action : Action) (lane : Option LaneState) → slice_get b.lanes i ≡ lane → IsTidy b → IsTidy (lane_posts i lane address action b)
-tidy_post b i address action None at is = is
-tidy_post b i address action (Some l) at is =
-    let new : LaneState = with_post l address action in
+tidy_post : (b : Bench) (i : ℕ) (action : HostAction) (lane : Option LaneState) → slice_get b.lanes i ≡ lane → IsTidy b → IsTidy (lane_posts i lane action b)
+tidy_post b i action None at is = is
+tidy_post b i action (Some l) at is =
+    let new : LaneState = with_post l action in
     record {
       known = known_set b.lanes i l new b.queue at refl is.known;
       count = let sum = total_set b.lanes i l new at in let same : weight new ≡ weight l = refl in omega (arith, sum, same, is.count);
@@ -115,7 +115,7 @@ tidy_step : (b : Bench) (s : Step) → IsTidy b → IsTidy (stepped s b)
 unfolding stepped
 tidy_step b (Offer i) is = tidy_offer b i (slice_get b.lanes i) refl is
 tidy_step b Take is = tidy_take b b.queue refl is
-tidy_step b (Post i address action) is = tidy_post b i address action (slice_get b.lanes i) refl is
+tidy_step b (Post i action) is = tidy_post b i action (slice_get b.lanes i) refl is
 
 pub tidy_all : (b : Bench) (steps : List Step) → IsTidy b → IsTidy (after_steps steps b)
 tidy_all b [] is = is

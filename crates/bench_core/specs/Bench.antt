@@ -1,12 +1,12 @@
 -- The bench, one step at a time (own choice). Each channel makes its messages in order and offers each once to one
 -- queue; a number that the full queue does not take is listed as refused. Behind its last message a channel offers its
--- end mark until it is taken. The writer takes what stands in front of the queue. An action that a host posts for a
--- terminal of a channel acts at the channel's next message, behind what is placed there.
+-- end mark until it is taken. The writer takes what stands in front of the queue. An action that a host posts to a
+-- channel, for a terminal or for the controller, acts at the channel's next message, behind what is placed there.
 use Rattle.std.specs.Prelude.{ℕ, ◌+◌, nat_lt, Bool, false, true, not, ◌||◌, if◌then◌else◌, List, [], ◌∷◌, ◌++◌, length}
 use Rattle.std.specs.Prelude.{slice_get, slice_set, Option, Some, None}
-use Rattle.mil_host.specs.declared.actions.Action.{Action}
 use Rattle.mil_monitor.specs.declared.Record.{Record}
 use Rattle.bc_machine.specs.declared.placed.Placed.{Placed}
+use Rattle.bc_machine.specs.declared.placed.HostAction.{HostAction}
 use Rattle.job_file.specs.Jobs.{JobState, job_in}
 use Rattle.job_file.specs.Meaning.{records}
 use Rattle.ch11_recording.specs.declared.item.Item.{Item}
@@ -101,9 +101,13 @@ abbrev pub next_offered : ℕ → LaneState → Option Record → Bench → Benc
 next_offered index l (Some r) b = message_offered index l r b
 next_offered index l None b = end_offered index l b
 
+-- the record of its next message; a channel makes none behind its end mark
+abbrev pub next_in : LaneState → Option Record
+next_in l = if l.ended then None else slice_get (all_records l) l.made
+
 abbrev pub lane_offers : ℕ → Option LaneState → Bench → Bench
 lane_offers index None b = b
-lane_offers index (Some l) b = next_offered index l (slice_get (all_records l) l.made) b
+lane_offers index (Some l) b = next_offered index l (next_in l) b
 
 -- the channel at an index offers what comes next
 abbrev pub offered : ℕ → Bench → Bench
@@ -114,36 +118,36 @@ abbrev pub taken_from : List Item → Bench → Bench
 taken_from [] b = b
 taken_from (x ∷ behind) b = record { lanes = b.lanes; capacity = b.capacity; queue = behind; taken = b.taken ++ x ∷ [] }
 
--- an action was posted for a terminal of a channel
-abbrev pub with_post : LaneState → ℕ → Action → LaneState
-with_post l address action = record {
+-- an action was posted to a channel, for a terminal or for the controller
+abbrev pub with_post : LaneState → HostAction → LaneState
+with_post l action = record {
   channel = l.channel;
   job = l.job;
-  placed = l.placed ++ record { number = l.made + 1; address = address; action = action } ∷ [];
+  placed = l.placed ++ record { number = l.made + 1; action = action } ∷ [];
   made = l.made;
   refused = l.refused;
   ended = l.ended;
 }
 
-abbrev pub lane_posts : ℕ → Option LaneState → ℕ → Action → Bench → Bench
-lane_posts index None address action b = b
-lane_posts index (Some l) address action b =
+abbrev pub lane_posts : ℕ → Option LaneState → HostAction → Bench → Bench
+lane_posts index None action b = b
+lane_posts index (Some l) action b =
     record {
-      lanes = slice_set b.lanes index (with_post l address action);
+      lanes = slice_set b.lanes index (with_post l action);
       capacity = b.capacity;
       queue = b.queue;
       taken = b.taken;
     }
 
--- a host posts an action for a terminal of the channel at an index
-abbrev pub posted : ℕ → ℕ → Action → Bench → Bench
-posted index address action b = lane_posts index (slice_get b.lanes index) address action b
+-- a host posts an action to the channel at an index
+abbrev pub posted : ℕ → HostAction → Bench → Bench
+posted index action b = lane_posts index (slice_get b.lanes index) action b
 
 -- one step
 unfoldable pub stepped : Step → Bench → Bench
 stepped (Offer index) b = offered index b
 stepped Take b = taken_from b.queue b
-stepped (Post index address action) b = posted index address action b
+stepped (Post index action) b = posted index action b
 
 -- a list of steps
 abbrev pub after_steps : List Step → Bench → Bench

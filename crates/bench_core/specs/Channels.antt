@@ -1,5 +1,5 @@
 -- One channel of a world, and what it offers next.
-use Rattle.std.specs.Prelude.{◌≡◌, ℕ, ◌+◌, ◌-◌, ◌≤◌, ◌==◌, Bool, not, ◌||◌, if◌then◌else◌, length, slice_get, Option}
+use Rattle.std.specs.Prelude.{◌≡◌, ℕ, ◌+◌, ◌-◌, ◌≤◌, ◌==◌, Bool, true, not, ◌||◌, if◌then◌else◌, length, Option}
 use Rattle.std.specs.Prelude.{Some, None}
 use Rattle.std.specs.List.{list_any}
 use Rattle.mil_monitor.specs.declared.Record.{Record}
@@ -9,7 +9,10 @@ use Rattle.job_file.specs.Jobs.{tree_in, job_in}
 use Rattle.job_file.specs.Machines.{IsOf}
 use Rattle.ch11_recording.specs.declared.item.Item.{Item}
 use Rattle.ch11_recording.specs.declared.item.Item.TheVariants as item
-use Rattle.bench_core.specs.Bench.{LaneState, all_records, with_message, with_end, message_of}
+use Rattle.bench_core.specs.Bench.{LaneState, with_message, with_end, message_of}
+pub use Rattle.bench_core.specs.Bench.{next_in}
+use Rattle.bc_machine.specs.declared.placed.HostAction.{HostAction}
+use Rattle.bc_machine.specs.declared.placed.HostAction.TheVariants.{Terminal, Controller}
 use Rattle.bench_core.specs.Settled.{HasRecorded}
 use Rattle.bench_settings.specs.Placing.{placed_up_to, IsOrdered}
 use Rattle.bench_core.specs.declared.lane.Lane.TheInside.{Inside}
@@ -24,10 +27,6 @@ abbrev pub queued_next : LaneState → Option Record → Bool → Option Item
 queued_next l (Some r) room = if room then Some (message_of l r) else None
 queued_next l None room = if l.ended || not room then None else Some (item.End l.channel)
 
--- the record of its next message
-abbrev pub next_in : LaneState → Option Record
-next_in l = slice_get (all_records l) l.made
-
 -- its messages so far are those of a bus monitor, and at most 1,000,000
 pub record IsMade (l : LaneState) : Type 0 where
   pub recorded : HasRecorded l
@@ -40,6 +39,11 @@ posts_of l = length l.placed - length l.job.actions
 -- whether there is a terminal at an address of its bus
 abbrev pub has_terminal : LaneState → ℕ → Bool
 has_terminal l address = list_any (λ a. a == address) l.job.addresses
+
+-- whether an action may be posted: one for a terminal where its bus has it, one for the controller always
+abbrev pub may_post : LaneState → HostAction → Bool
+may_post l (Terminal address action) = has_terminal l address
+may_post l (Controller asked) = true
 
 -- what a report says of it
 abbrev pub report_part : LaneState → ChannelPart

@@ -1,14 +1,13 @@
 -- What is settled after each step: for each channel, what the file gives, what is written to no packet yet, and what
 -- stands in the queue are together the messages made so far, in order and once, but for the refused.
-use Rattle.std.specs.Prelude.{◌≡◌, ℕ, ◌<◌, ◌==◌, ◌^◌, Bool, not, List, [], ◌++◌, map, take, Ok}
-use Rattle.std.specs.List.{AllByRecursion, filter, list_any}
-use Rattle.mil_monitor.specs.declared.Record.{Record}
+use Rattle.std.specs.Prelude.{◌≡◌, ℕ, ◌<◌, ◌^◌, List, [], ◌++◌, map, take, Ok}
+use Rattle.std.specs.List.{AllByRecursion}
 use Rattle.ch11_f1.specs.Again.{as_message}
 use Rattle.ch11_builder.specs.Packet.{Numbered, messages_of}
 use Rattle.ch11_builder.specs.Recorded.{IsRecorded}
 use Rattle.ch11_reader.specs.Recording.{Found, packets_in}
 use Rattle.ch11_reader.specs.Contents.{reading}
-use Rattle.ch11_recording.specs.Items.{records_in, numbered, numbered_from}
+use Rattle.ch11_recording.specs.Items.{records_in, numbered}
 use Rattle.ch11_recording.specs.WrittenFile.{Format, held_in, written_file}
 use Rattle.ch11_recording.specs.Recording.{AreDistinct}
 use Rattle.ch11_recording.specs.Laws.{IsFormat, IsPrologue}

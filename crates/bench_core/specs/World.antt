@@ -3,6 +3,7 @@ use Rattle.std.specs.Prelude.{◌≡◌, ℕ, ◌+◌, ◌<◌, ◌≤◌, ◌==
 use Rattle.std.specs.Prelude.{length, slice_get, codes, Option, Some, None, Result, Ok, Err}
 use Rattle.std.specs.List.{AllByRecursion}
 use Rattle.std.specs.VecDeque.{deque_capacity}
+use Rattle.bc_machine.specs.declared.placed.HostAction.{HostAction}
 use Rattle.bench_report.specs.Reports.{RunReport}
 use Rattle.job_file.specs.Jobs.{JobState}
 use Rattle.ch11_builder.specs.Held.{Held}
@@ -17,7 +18,7 @@ use Rattle.bench_core.specs.declared.error.PlayError.TheVariants as fault
 use Rattle.bench_settings.specs.Lawful.{format_of}
 use Rattle.bench_core.specs.Bench.{LaneState, Bench, begun_lane, begun, after_steps}
 use Rattle.bench_core.specs.Settled.{IsSettled, IsFresh, ReadsBack}
-use Rattle.bench_core.specs.Channels.{posts_of, has_terminal, report_part, IsMade}
+use Rattle.bench_core.specs.Channels.{posts_of, may_post, report_part, IsMade}
 use Rattle.bench_core.specs.declared.world.World.TheInside.{Inside}
 
 -- the format and the prologue of its file, how many posts of each channel may be placed, and the bench
@@ -43,7 +44,7 @@ with_bench w b = record { format = w.format; prologue = w.prologue; most = w.mos
 abbrev pub IsBenchStep : ℕ → Step → Type 0
 IsBenchStep channels (Offer index) = index < channels
 IsBenchStep channels Take = Unit {0}
-IsBenchStep channels (Post index address action) = index < channels
+IsBenchStep channels (Post index action) = index < channels
 
 abbrev pub AreSteps : ℕ → List Step → Type 0
 AreSteps channels steps = AllByRecursion (IsBenchStep channels) steps
@@ -51,15 +52,15 @@ AreSteps channels steps = AllByRecursion (IsBenchStep channels) steps
 abbrev pub channel_count : WorldState → ℕ
 channel_count w = length w.bench.lanes
 
-abbrev pub stands_at : Option LaneState → ℕ → Bool
-stands_at None address = false
-stands_at (Some l) address = has_terminal l address
+abbrev pub may_post_to : Option LaneState → HostAction → Bool
+may_post_to None action = false
+may_post_to (Some l) action = may_post l action
 
--- what is posted is for a terminal of its channel
+-- what is posted for a terminal is for one of its channel
 abbrev pub IsForTerminal : List LaneState → Step → Type 0
 IsForTerminal lanes (Offer index) = Unit {0}
 IsForTerminal lanes Take = Unit {0}
-IsForTerminal lanes (Post index address action) = stands_at (slice_get lanes index) address ≡ true
+IsForTerminal lanes (Post index action) = may_post_to (slice_get lanes index) action ≡ true
 
 abbrev pub AreForTerminals : List LaneState → List Step → Type 0
 AreForTerminals lanes steps = AllByRecursion (IsForTerminal lanes) steps
@@ -67,7 +68,7 @@ AreForTerminals lanes steps = AllByRecursion (IsForTerminal lanes) steps
 abbrev pub is_post_for : ℕ → Step → Bool
 is_post_for index (Offer i) = false
 is_post_for index Take = false
-is_post_for index (Post i address action) = i == index
+is_post_for index (Post i action) = i == index
 
 -- how many of the steps post an action for a channel
 abbrev pub posts_for : ℕ → List Step → ℕ

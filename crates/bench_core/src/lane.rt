@@ -1,21 +1,19 @@
 //! One channel of a world: its controller, and what became of its messages.
 ghost use Rattle.bench_core.specs.Bench.{begun_lane, with_post};
 ghost use Rattle.bench_core.specs.Channels.{IsMade};
-ghost use Rattle.bench_core.specs.Channels.{posts_of, has_terminal, after_next, queued_next, next_in, report_part};
+ghost use Rattle.bench_core.specs.Channels.{posts_of, may_post, after_next, queued_next, next_in, report_part};
 ghost use Rattle.ch11_recording.specs.declared.item.Item.TheVariants as item;
 ghost use Rattle.std.specs.Prelude.{OnErr};
 ghost use Rattle.std.specs.Prelude.{◌≡◌, ◌<◌, ◌||◌, not, if◌then◌else◌, [], ◌∷◌, ◌++◌, vec_len, Some, None, IfOk, OnOk};
 ghost use Rattle.std.specs.Vec.{vec_capacity};
 
 use crate::posted::add_posted;
-use bc_machine::{Actions, Machine, Placed, Schedule};
+use bc_machine::{Actions, HostAction, Machine, Placed, Schedule};
 use bench_report::ChannelReport;
-use bench_settings::{MOST_POSTS, channel_report, ordered_actions};
+use bench_settings::{MOST_POSTS, channel_report, is_for_place, ordered_actions};
 use ch11_recording::{Item, record_fits};
 use job_file::{Job, next_record};
-use mil_host::Action;
 use mil_monitor::Record;
-use mil_word::fields::HIGHEST_ADDRESS;
 use std::alloc::{AllocError, Global};
 use std::marker::Model;
 use std::snapshot::Snapshot;
@@ -110,11 +108,14 @@ impl Lane {
         self.channel
     }
 
-    /// Whether there is a terminal at an address of its bus.
-    pub(crate) fn has_terminal(&self, address: u8) -> bool
-        ensures { result ≡ has_terminal self.now address }
+    /// Whether its bus has the terminal that an action is for; one for the controller may always be posted.
+    pub(crate) fn may_post(&self, action: &HostAction) -> bool
+        ensures { result ≡ may_post self.now action.now }
     {
-        self.addresses.contains(&address)
+        match action {
+            HostAction::Terminal { address, .. } => self.addresses.contains(address),
+            HostAction::Controller(_) => true,
+        }
     }
 
     /// How many actions were posted.
@@ -132,6 +133,9 @@ impl Lane {
         ensures made { OnOk result (IsMade self.new) }
         ensures err { OnErr result (self.new ≡ self.old) }
     {
+        if self.ended {
+            return Ok(None);
+        }
         self.refused.reserve(1)?;
         let next = next_record(&mut self.machine);
         let number = self.machine.number();
@@ -142,26 +146,25 @@ impl Lane {
         Ok(message(&mut self.refused, self.channel, number, made, room))
     }
 
-    /// Places an action of a host of a terminal at the channel's next message, behind what is placed there. It fails
-    /// where memory is refused, and for an address above 30 and behind `MOST_POSTS` posts, which the steps that are
-    /// played never have; then nothing was done.
+    /// Places an action of a host at the channel's next message, behind what is placed there. It fails where memory is
+    /// refused, and for an address above 30 and behind `MOST_POSTS` posts, which the steps that are played never have;
+    /// then nothing was done.
     #[tactic(auto, using(crate::proofs::Posting::never_back))]
-    pub(crate) fn post(&mut self, address: u8, action: &Action) -> Result<(), AllocError>
-        ensures lane { OnOk result (self.new ≡ with_post self.old address action.now) }
+    pub(crate) fn post(&mut self, action: &HostAction) -> Result<(), AllocError>
+        ensures lane { OnOk result (self.new ≡ with_post self.old action.now) }
         ensures made { OnOk result (IsMade self.new) }
         ensures err { OnErr result (self.new ≡ self.old) }
     {
-        if address > HIGHEST_ADDRESS || self.posts >= MOST_POSTS {
+        if !is_for_place(action) || self.posts >= MOST_POSTS {
             return Err(AllocError);
         }
         self.placed.room(1)?;
         self.machine.room(1)?;
         let one = Placed {
             number: self.machine.number() + 1,
-            address,
             action: action.copy(),
         };
-        match self.machine.place(address, action.copy()) {
+        match self.machine.place(action.copy()) {
             Ok(()) => {
                 add_posted(&mut self.placed, one);
                 self.posts += 1;

@@ -1,9 +1,9 @@
 //! The bench one step at a time: every interleaving of buses, hosts and writer; and one channel from its job to a
 //! recording.
 //!
-//! It may know: words, messages, host actions, gaps and planned faults, the bus, the monitor, trees, the controller,
-//! jobs, bodies, the builder, the reader, the writer, recordings, reports, what runs share, histories. Its tests:
-//! `bench_tests`. Its wrong bodies: `edits/`.
+//! It may know: words, messages, what the host of a controller asks for, gaps and planned faults, the bus, the monitor,
+//! trees, the assembler, the controller, jobs, bodies, the builder, the reader, the writer, recordings, reports, what
+//! runs share, histories. Its tests: `bench_tests`. Its wrong bodies: `edits/`.
 #![tactic(auto)]
 
 mod alone;

@@ -1,5 +1,5 @@
 //! What may come next on the bench.
-use mil_host::Action;
+use bc_machine::HostAction;
 
 /// One step of the bench.
 #[derive(Debug, Drop)]
@@ -10,7 +10,7 @@ pub enum Step {
     /// The writer takes the front of the queue.
     Take,
 
-    /// A host of the terminal at an address of the channel at an index posts an action: it acts at the channel's next
-    /// message, behind what is placed there.
-    Post(u8, u8, Action),
+    /// A host of the channel at an index posts an action, for a terminal or for the controller: it acts at the
+    /// channel's next message, behind what is placed there.
+    Post(u8, HostAction),
 }

@@ -11,7 +11,7 @@ fn is_step(channels: usize, step: &Step) -> bool
     ensures { IsTrue result ↔ IsBenchStep channels step.now }
 {
     match step {
-        Step::Offer(index) | Step::Post(index, _, _) => usize::from(*index) < channels,
+        Step::Offer(index) | Step::Post(index, _) => usize::from(*index) < channels,
         Step::Take => true,
     }
 }
@@ -33,8 +33,8 @@ fn is_for_terminal(lanes: &[Lane], step: &Step) -> bool
     ensures { IsTrue result ↔ IsForTerminal lanes.now step.now }
 {
     match step {
-        Step::Post(index, address, _) => match lanes.get(usize::from(*index)) {
-            Some(lane) => lane.has_terminal(*address),
+        Step::Post(index, action) => match lanes.get(usize::from(*index)) {
+            Some(lane) => lane.may_post(action),
             None => false,
         },
         Step::Offer(_) | Step::Take => true,
@@ -58,7 +58,7 @@ fn is_post_for(index: usize, step: &Step) -> bool
     ensures { result ≡ is_post_for index step.now }
 {
     match step {
-        Step::Post(channel, _, _) => usize::from(*channel) == index,
+        Step::Post(channel, _) => usize::from(*channel) == index,
         Step::Offer(_) | Step::Take => false,
     }
 }

@@ -14,13 +14,13 @@ use crate::lane::Lane;
 use crate::laws::bench_is_settled;
 use crate::step::Step;
 use crate::writing::{LONGEST, channel_of, write};
+use bc_machine::HostAction;
 use bench_report::Report;
 use bench_settings::{Settings, WorldError, judge};
 use ch11_builder::{Builder, BuilderError};
 use ch11_recording::{Item, file_is_packets, latest_is_last, recording_goes_on};
 use history::History;
 use job_file::Job;
-use mil_host::Action;
 use std::alloc::{AllocError, Global};
 use std::collections::VecDeque;
 use std::marker::Model;
@@ -217,16 +217,16 @@ impl World {
         Ok(())
     }
 
-    /// A host posts an action for the terminal at an address of the channel at an index; nothing is done where there is
-    /// no such channel. It fails as the channel does, and then nothing was done.
-    fn post(&mut self, index: usize, address: u8, action: &Action) -> Result<(), AllocError>
-        ensures ok { OnOk result (self.new ≡ with_bench self.old (posted index address action.now self.old.bench)) }
+    /// A host posts an action for a terminal or for the controller of the channel at an index; nothing is done where
+    /// there is no such channel. It fails as the channel does, and then nothing was done.
+    fn post(&mut self, index: usize, action: &HostAction) -> Result<(), AllocError>
+        ensures ok { OnOk result (self.new ≡ with_bench self.old (posted index action.now self.old.bench)) }
         ensures err { OnErr result (self.new ≡ self.old) }
     {
         if index >= self.lanes.len() {
             return Ok(());
         }
-        self.lanes[index].post(address, action)
+        self.lanes[index].post(action)
     }
 
     /// One step, which does nothing where there is no such channel. It fails for want of memory, and for a post that a
@@ -239,7 +239,7 @@ impl World {
         match step {
             Step::Offer(index) => self.offer(usize::from(*index)),
             Step::Take => self.take(),
-            Step::Post(index, address, action) => self.post(usize::from(*index), *address, action),
+            Step::Post(index, action) => self.post(usize::from(*index), action),
         }
     }
 

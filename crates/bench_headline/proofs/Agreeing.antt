@@ -34,18 +34,18 @@ at_place P (a ∷ xs) (b ∷ ys) zero x y are at at' =
     rw (← left, ← right) are.0
 at_place P (a ∷ xs) (b ∷ ys) (suc k) x y are at at' = at_place P xs ys k x y are.1 at at'
 
-channels_are : (jobs : List JobState) (s : Settings) (items : List Item) (js : List JobState) (parts : List ChannelPart) → ArePairs (IsPartOf jobs s items) js parts
+channels_are : (posts : ℕ) (jobs : List JobState) (s : Settings) (items : List Item) (js : List JobState) (parts : List ChannelPart) → ArePairs (IsPartOf posts jobs s items) js parts
     → reported parts ≡ channels_of js
-channels_are jobs s items [] [] are = refl
-channels_are jobs s items (j ∷ js) (p ∷ parts) are = rw (are.0.channel, channels_are jobs s items js parts are.1) refl
-channels_are jobs s items [] (p ∷ parts) are = absurd are
-channels_are jobs s items (j ∷ js) [] are = absurd are
+channels_are posts jobs s items [] [] are = refl
+channels_are posts jobs s items (j ∷ js) (p ∷ parts) are = rw (are.0.channel, channels_are posts jobs s items js parts are.1) refl
+channels_are posts jobs s items [] (p ∷ parts) are = absurd are
+channels_are posts jobs s items (j ∷ js) [] are = absurd are
 
 -- ---- one job
 
-agrees_on : PlacedActionsSuffice → (jobs : List JobState) (s : Settings) (items : List Item) (found : List Found) (job : JobState) (part : ChannelPart)
-    → IsPartOf jobs s items job part → IsReadAs found job part → AgreesOn found job part
-agrees_on suffice jobs s items found job part is read =
+agrees_on : PlacedActionsSuffice → (posts : ℕ) (jobs : List JobState) (s : Settings) (items : List Item) (found : List Found) (job : JobState) (part : ChannelPart)
+    → IsPartOf posts jobs s items job part → IsReadAs found job part → AgreesOn found job part
+agrees_on suffice posts jobs s items found job part is read =
     let same : played job part ≡ records_of job =
     ap (records (job_in job)) is.placed ∙ suffice (job_in job) job.actions part.made (omega (arith, is.made)) in
     record {
@@ -64,8 +64,8 @@ only_one : (ps qs : List Found) (bytes : List ℕ) → packets_in bytes ≡ Ok p
 only_one ps qs bytes a b = cc
 
 module _ (size : PacketHasItsLength) (header : HeaderIsReadAgain) (messages : MessagesAreReadAgain) (join : RecordingsJoin) (goes_on : FileGoesOn) (suffice : PlacedActionsSuffice)
-    (jobs : List JobState) (s : Settings) (report : RunReport) (bytes : List ℕ) (found : List Found)
-    (lawful : AreLawful jobs s) (run : IsRun jobs s report bytes) (readable : packets_in bytes ≡ Ok found) where
+    (posts : ℕ) (given jobs : List JobState) (s : Settings) (report : RunReport) (bytes : List ℕ) (found : List Found)
+    (lawful : AreLawful jobs s) (run : IsRun posts given jobs s report bytes) (readable : packets_in bytes ≡ Ok found) where
   known : AreOfChannels (channels_of jobs) found
   known =
       let channels : List ℕ = channels_of jobs in
@@ -75,11 +75,11 @@ module _ (size : PacketHasItsLength) (header : HeaderIsReadAgain) (messages : Me
 
   pub agrees : Agrees jobs report.channels found
   agrees = record {
-    channels = channels_are jobs s run.items jobs report.channels run.parts;
+    channels = channels_are posts given s run.items jobs report.channels run.parts;
     known = known;
     each = λ k job part at at'.
-        agrees_on suffice jobs s run.items found job part
-        (at_place (IsPartOf jobs s run.items) jobs report.channels k job part run.parts at at')
+        agrees_on suffice posts given s run.items found job part
+        (at_place (IsPartOf posts given s run.items) jobs report.channels k job part run.parts at at')
         (subst (λ ps. IsReadAs ps job part) (only_one run.found found bytes run.readable readable)
         (at_place (IsReadAs run.found) jobs report.channels k job part run.read at at'));
   }

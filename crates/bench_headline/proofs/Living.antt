@@ -9,8 +9,7 @@ use Rattle.ch11_recording.specs.Laws.{FileGoesOn}
 use Rattle.bench_report.specs.Reports.{ChannelPart, RunReport}
 use Rattle.bench_settings.specs.declared.settings.Settings.{Settings}
 use Rattle.bench_settings.specs.Lawful.{AreLawful}
-use Rattle.bench_settings.proofs.Lists.{map_at}
-use Rattle.bench_settings.proofs.Lists.{which}
+use Rattle.bench_settings.proofs.Lists.{map_at, which}
 use Rattle.bench_mail.specs.declared.mailbox.Inbox.{Inbox}
 use Rattle.bench_run.specs.Runs.{IsRun}
 use Rattle.bench_run.specs.Live.{LiveChannel, live_job, with_posts, AreLive}
@@ -25,10 +24,10 @@ without_posts found job posts part is = record { made = is.made; read = is.read 
 
 module _ (size : PacketHasItsLength) (header : HeaderIsReadAgain) (messages : MessagesAreReadAgain) (join : RecordingsJoin) (goes_on : FileGoesOn) (suffice : PlacedActionsSuffice)
     (most : ℕ) (jobs : List JobState) (s : Settings) (before after : List Inbox) (report : RunReport) (lives : List JobState) (bytes : List ℕ) (found : List Found)
-    (lawful : AreLawful jobs s) (live : AreLive most jobs before after report.channels lives) (run : IsRun lives s report bytes) (readable : packets_in bytes ≡ Ok found) where
+    (lawful : AreLawful jobs s) (live : AreLive most jobs before after report.channels lives) (run : IsRun most jobs lives s report bytes) (readable : packets_in bytes ≡ Ok found) where
   of_lives : Agrees lives report.channels found
   of_lives =
-      agrees size header messages join goes_on suffice lives s report bytes found
+      agrees size header messages join goes_on suffice most jobs lives s report bytes found
       (lives_lawful most jobs before after report.channels lives live s lawful) run readable
 
   of_job : (k : ℕ) (job : JobState) (part : ChannelPart) → slice_get jobs k ≡ Some job → slice_get report.channels k ≡ Some part → AgreesOn found job part

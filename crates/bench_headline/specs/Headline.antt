@@ -16,7 +16,7 @@ use Rattle.replay.specs.Accord.{Agrees}
 abbrev pub RunIsReplayed : Type 0
 RunIsReplayed =
     (jobs : List JobState) (s : Settings) (report : RunReport) (bytes : List ℕ) (found : List Found)
-    → AreLawful jobs s → IsRun jobs s report bytes → packets_in bytes ≡ Ok found
+    → AreLawful jobs s → IsRun 0 jobs jobs s report bytes → packets_in bytes ≡ Ok found
     → Agrees jobs report.channels found
 
 -- The same of a live run: jobs, report and packets agree, where the jobs are those that the run was given, without the
@@ -26,6 +26,6 @@ abbrev pub LiveRunIsReplayed : Type 0
 LiveRunIsReplayed =
     (most : ℕ) (jobs : List JobState) (s : Settings) (before after : List Inbox) (report : RunReport)
     (lives : List JobState) (bytes : List ℕ) (found : List Found)
-    → AreLawful jobs s → AreLive most jobs before after report.channels lives → IsRun lives s report bytes
+    → AreLawful jobs s → AreLive most jobs before after report.channels lives → IsRun most jobs lives s report bytes
     → packets_in bytes ≡ Ok found
     → Agrees jobs report.channels found

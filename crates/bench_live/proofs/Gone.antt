@@ -1,12 +1,12 @@
 -- Lines that were read and posted, one by one, and the hands of the channels.
-use Rattle.std.proofs.Common.{◌≡◌, ℕ, zero, suc, ◌<◌, List, [], ◌∷◌, ◌++◌, length, map, set, length-set, Option, None, Some, IfSome, refl, sym, ap, ◌∙◌, subst, inl, inr, arith, append_assoc, append-nil}
+use Rattle.std.proofs.Common.{◌≡◌, ℕ, zero, suc, ◌+◌, ◌^◌, ◌<◌, List, [], ◌∷◌, ◌++◌, length, map, set, length-set, Option, None, Some, IfSome, refl, sym, ap, ◌∙◌, subst, inl, inr, arith, append_assoc, append-nil}
 use Rattle.std.specs.Prelude.{◌==◌, true, false, slice_get, slice_index_or, Result, Ok, Err, OnOk, IfErr, ⊤}
 use Rattle.std.specs.List.{filter, position_or_len, before_first}
 use Rattle.std.specs.Io.KnownBytes.{IsAtEnd}
 use Rattle.std.specs.Io.BufRead.{take_through, drop_through, DropsThrough}
 use Rattle.std.proofs.lemmas.Bool.{cases_eq}
 use Rattle.std.proofs.lemmas.Bool.Decides.{nat_tests}
-use Rattle.std.proofs.lemmas.List.{map-append}
+use Rattle.std.proofs.lemmas.List.{map-append, length-append}
 use Rattle.std.proofs.lemmas.List.Elements.{filter-append}
 use Rattle.std.proofs.lemmas.Option.{slice_get_within}
 use Rattle.text_lines.specs.Words.{Text}
@@ -14,7 +14,7 @@ use Rattle.text_lines.specs.Lines.{is_line_end, text_lines}
 use Rattle.bench_mail.specs.declared.mailbox.Mailbox.{Mailbox}
 use Rattle.bench_mail.specs.Mail.{posted}
 use Rattle.bench_live.specs.Lines.{post_of}
-use Rattle.bench_live.specs.Posting.{IsHandOf, AreHandsOf, as_post, is_channel, is_for, posts_for, HavePosted, LeavesHand, IsFault, IsLineDone, AreRead, HaveGone, IsCallDone}
+use Rattle.bench_live.specs.Posting.{IsHandOf, AreHandsOf, as_post, is_channel, is_for, posts_for, HavePosted, LeavesHand, IsFault, IsLineDone, AreRead, HaveGone, number_behind, IsCallDone}
 use Rattle.bench_live.specs.declared.line.LivePost.{LivePost}
 use Rattle.bench_live.specs.declared.desk.Desk.{Desk}
 use Rattle.bench_live.specs.declared.desk.Hand.{Hand}
@@ -169,42 +169,56 @@ pub none_read : (left : Option (List ℕ)) → AreRead left left []
 none_read None = tt
 none_read (Some text) = (text, refl, refl)
 
-pub begins : (desk : Desk) (left : Option (List ℕ)) (hands : List Hand) → HaveGone desk left left hands hands
-begins desk left hands = record { lines = []; posts = []; read = none_read left; asked = refl; posted = posted_none desk hands }
+-- lines were posted, and counted on from the number of the last line before them
+abbrev pub HaveCounted : Desk → ℕ → ℕ → Option (List ℕ) → Option (List ℕ) → List Hand → List Hand → Type 0
+HaveCounted desk number last left leaves before after = (gone : HaveGone desk left leaves before after) × (last ≡ number_behind number (length gone.lines))
+
+pub begins : (desk : Desk) (number : ℕ) (left : Option (List ℕ)) (hands : List Hand) → number < 2 ^ 64 → HaveCounted desk number number left left hands hands
+begins desk number left hands low = (record { lines = []; posts = []; read = none_read left; asked = refl; posted = posted_none desk hands }, omega (arith, low))
 
 -- one more line was posted
-pub goes_on : (desk : Desk) (left leaves then : Option (List ℕ)) (before mid after : List Hand) (line bytes : Text) (post : LivePost) → HaveGone desk left leaves before mid
+goes_on : (desk : Desk) (left leaves then : Option (List ℕ)) (before mid after : List Hand) (line bytes : Text) (post : LivePost) (number last next : ℕ)
+    → HaveCounted desk number last left leaves before mid → next ≡ number_behind last 1
     → 0 < length bytes → line ≡ before_first is_line_end bytes → IfSome leaves (λ xs. bytes ≡ take_through 10 xs) → DropsThrough leaves then 10
-    → post_of line ≡ Ok post → HavePosted desk (post ∷ []) mid after → HaveGone desk left then before after
-goes_on desk left leaves then before mid after line bytes post h some is gave drops asks more = record {
-  lines = h.lines ++ line ∷ [];
-  posts = h.posts ++ post ∷ [];
-  read = more_read left leaves then h.lines line bytes some is gave drops h.read;
-  asked = map-append post_of h.lines (line ∷ []) ∙ ap (λ l. l ++ post_of line ∷ []) h.asked
-      ∙ ap (λ x. map (λ (p : LivePost). Ok p) h.posts ++ x ∷ []) asks ∙ sym (map-append (λ (p : LivePost). Ok p) h.posts (post ∷ []));
-  posted = posted_on desk h.posts (post ∷ []) before mid after h.posted more;
-}
+    → post_of line ≡ Ok post → HavePosted desk (post ∷ []) mid after → HaveCounted desk number next left then before after
+goes_on desk left leaves then before mid after line bytes post number last next h counts some is gave drops asks more =
+    let gone = h.0 in (
+      record {
+        lines = gone.lines ++ line ∷ [];
+        posts = gone.posts ++ post ∷ [];
+        read = more_read left leaves then gone.lines line bytes some is gave drops gone.read;
+        asked = map-append post_of gone.lines (line ∷ []) ∙ ap (λ l. l ++ post_of line ∷ []) gone.asked
+            ∙ ap (λ x. map (λ (p : LivePost). Ok p) gone.posts ++ x ∷ []) asks ∙ sym (map-append (λ (p : LivePost). Ok p) gone.posts (post ∷ []));
+        posted = posted_on desk gone.posts (post ∷ []) before mid after gone.posted more;
+      },
+      omega (arith, h.1, counts, length-append gone.lines (line ∷ [])),
+    )
 
 -- the same of what became of the line
-pub still_on : (desk : Desk) (left leaves then : Option (List ℕ)) (before mid after : List Hand) (line bytes : Text) (d : ⊤) → HaveGone desk left leaves before mid
+pub still_on : (desk : Desk) (left leaves then : Option (List ℕ)) (before mid after : List Hand) (line bytes : Text) (d : ⊤) (number last next : ℕ)
+    → HaveCounted desk number last left leaves before mid → next ≡ number_behind last 1
     → 0 < length bytes → line ≡ before_first is_line_end bytes → IfSome leaves (λ xs. bytes ≡ take_through 10 xs) → DropsThrough leaves then 10
-    → IsLineDone desk line mid after (Ok d) → HaveGone desk left then before after
-still_on desk left leaves then before mid after line bytes d h some is gave drops done =
-    goes_on desk left leaves then before mid after line bytes done.0 h some is gave drops done.1 done.2
+    → IsLineDone desk line mid after (Ok d) → HaveCounted desk number next left then before after
+still_on desk left leaves then before mid after line bytes d number last next h counts some is gave drops done =
+    goes_on desk left leaves then before mid after line bytes done.0 number last next h counts some is gave drops done.1 done.2
 
 -- the input is at its end
-pub ends : (desk : Desk) (left leaves then : Option (List ℕ)) (before mid : List Hand) → HaveGone desk left leaves before mid → IsAtEnd leaves → DropsThrough leaves then 10
-    → HaveGone desk left then before mid × IfSome left (λ text. then ≡ Some [])
-ends desk None leaves then before mid h end drops = (record { lines = h.lines; posts = h.posts; read = tt; asked = h.asked; posted = h.posted }, tt)
-ends desk (Some text) None then before mid h end drops = let wrong = h.read.1 in cc
-ends desk (Some text) (Some xs) then before mid h end drops =
+pub ends : (desk : Desk) (left leaves then : Option (List ℕ)) (before mid : List Hand) (number last : ℕ) → HaveCounted desk number last left leaves before mid → IsAtEnd leaves
+    → DropsThrough leaves then 10 → IsCallDone desk number last left then before mid None
+ends desk None leaves then before mid number last h end drops =
+    let gone = h.0 in (record { lines = gone.lines; posts = gone.posts; read = tt; asked = gone.asked; posted = gone.posted }, h.1, tt)
+ends desk (Some text) None then before mid number last h end drops = let wrong = h.0.read.1 in absurd cc
+ends desk (Some text) (Some xs) then before mid number last h end drops =
+    let gone = h.0 in
     let none : then ≡ Some [] = drops ∙ (rw end refl) in
-    let same : h.read.0 ≡ [] = let is = h.read.1 in cc in
-    (record { lines = h.lines; posts = h.posts; read = ([], none, h.read.2 ∙ (rw same refl)); asked = h.asked; posted = h.posted }, none)
+    let same : gone.read.0 ≡ [] = let is = gone.read.1 in cc in
+    (record { lines = gone.lines; posts = gone.posts; read = ([], none, gone.read.2 ∙ (rw same refl)); asked = gone.asked; posted = gone.posted }, h.1, none)
 
 -- a line with a fault was read
-pub tells : (desk : Desk) (left leaves then : Option (List ℕ)) (before mid after : List Hand) (line bytes : Text) (number : ℕ) (f : PostFault) → HaveGone desk left leaves before mid
+pub tells : (desk : Desk) (left leaves then : Option (List ℕ)) (before mid after : List Hand) (line bytes : Text) (f : PostFault) (number last next : ℕ)
+    → HaveCounted desk number last left leaves before mid → next ≡ number_behind last 1
     → 0 < length bytes → line ≡ before_first is_line_end bytes → IfSome leaves (λ xs. bytes ≡ take_through 10 xs) → DropsThrough leaves then 10
-    → IsLineDone desk line mid after (Err f) → IsCallDone desk left then before after (Some (record { number = number; fault = f }))
-tells desk left leaves then before mid after line bytes number f h some is gave drops done =
-    (mid, leaves, line, h, more_read leaves leaves then [] line bytes some is gave drops (none_read leaves), done.1, done.0)
+    → IsLineDone desk line mid after (Err f) → IsCallDone desk number next left then before after (Some (record { number = next; fault = f }))
+tells desk left leaves then before mid after line bytes f number last next h counts some is gave drops done =
+    let counted : next ≡ number_behind number (length h.0.lines + 1) = omega (arith, h.1, counts) in
+    (mid, leaves, line, h.0, counted, refl, more_read leaves leaves then [] line bytes some is gave drops (none_read leaves), done.1, done.0)

@@ -1,6 +1,6 @@
 -- Lines that are posted while a run goes on (own choice): each once, in their order and to its channel, or told.
-use Rattle.std.specs.Prelude.{◌≡◌, ℕ, ◌^◌, ◌≤◌, ◌==◌, Bool, true, false, List, [], ◌∷◌, ◌++◌, length, map, slice_get}
-use Rattle.std.specs.Prelude.{Option, None, Some, IfSome, Result, Ok, Err, ⊤}
+use Rattle.std.specs.Prelude.{◌≡◌, ℕ, ◌+◌, ◌-◌, ◌^◌, ◌≤◌, ◌==◌, min, Bool, true, false, List, [], ◌∷◌, ◌++◌, length}
+use Rattle.std.specs.Prelude.{map, slice_get, Option, None, Some, IfSome, Result, Ok, Err, ⊤}
 use Rattle.std.specs.List.{filter, position_or_len, AllByRecursion}
 use Rattle.mil_trunk.specs.Tags.{has, bound_of}
 use Rattle.text_lines.specs.Words.{Text}
@@ -9,7 +9,7 @@ use Rattle.bench_settings.specs.Lawful.{most_posts}
 use Rattle.bench_mail.specs.declared.mailbox.Post.{Post}
 use Rattle.bench_mail.specs.declared.mailbox.Mailbox.{Mailbox}
 use Rattle.bench_mail.specs.declared.mailbox.Inbox.{Inbox}
-use Rattle.bench_mail.specs.Mail.{IsPosterOf, hosts_of, limits_of, posted, stands_in}
+use Rattle.bench_mail.specs.Mail.{IsPosterOf, hosts_of, limits_of, posted, may_post}
 use Rattle.bench_run.specs.Live.{AreInboxesOf}
 use Rattle.bench_live.specs.Lines.{post_of}
 use Rattle.bench_live.specs.declared.line.LivePost.{LivePost}
@@ -48,7 +48,7 @@ pub record IsOpened (desk : Desk) (hands : List Hand) (inboxes : List Inbox) : T
 
 -- the post of host 0
 abbrev pub as_post : LivePost → Post
-as_post p = record { host = 0; address = p.address; action = p.action }
+as_post p = record { host = 0; action = p.action }
 
 abbrev pub is_channel : ℕ → ℕ → Bool
 is_channel channel c = c == channel
@@ -72,7 +72,7 @@ pub record HavePosted (desk : Desk) (posts : List LivePost) (before after : List
 abbrev pub IsPostRefusal : Mailbox → Hand → LivePost → PostFault → Type 0
 IsPostRefusal box h post (fault.Line bad) = ⊥
 IsPostRefusal box h post (fault.NoChannel channel) = ⊥
-IsPostRefusal box h post fault.NoTerminal = stands_in box post.address ≡ false
+IsPostRefusal box h post fault.NoTerminal = may_post box post.action ≡ false
 IsPostRefusal box h post (fault.Spent channel) = (channel ≡ post.channel) × (length (posted h.poster) ≡ most_posts)
 IsPostRefusal box h post (fault.Ended channel) = channel ≡ post.channel
 
@@ -120,11 +120,17 @@ pub record HaveGone (desk : Desk) (left leaves : Option (List ℕ)) (before afte
   pub asked : AskFor lines posts
   pub posted : HavePosted desk posts before after
 
--- All lines were posted, and none is left; or those before the first that has a fault, which is told and not posted.
-abbrev pub IsCallDone : Desk → Option (List ℕ) → Option (List ℕ) → List Hand → List Hand → Option Told → Type 0
-IsCallDone desk left leaves before after None =
-    HaveGone desk left leaves before after × IfSome left (λ text. leaves ≡ Some [])
-IsCallDone desk left leaves before after (Some told) =
-    (mid : List Hand) × (then : Option (List ℕ)) × (line : Text)
-    × HaveGone desk left then before mid × AreRead then leaves (line ∷ []) × IsFault desk mid line told.fault
-    × HavePosted desk [] mid after
+-- the number of the last of so many lines behind the line of a number; the count stops at 2^64 - 1
+abbrev pub number_behind : ℕ → ℕ → ℕ
+number_behind number lines = min (number + lines) (2 ^ 64 - 1)
+
+-- All lines were posted, and none is left; or those before the first that has a fault, which is told with its number
+-- and not posted. The lines are counted on from the number of the last line before them.
+abbrev pub IsCallDone : Desk → ℕ → ℕ → Option (List ℕ) → Option (List ℕ) → List Hand → List Hand → Option Told → Type 0
+IsCallDone desk number last left leaves before after None =
+    (gone : HaveGone desk left leaves before after) × (last ≡ number_behind number (length gone.lines))
+    × IfSome left (λ text. leaves ≡ Some [])
+IsCallDone desk number last left leaves before after (Some told) =
+    (mid : List Hand) × (then : Option (List ℕ)) × (line : Text) × (gone : HaveGone desk left then before mid)
+    × (told.number ≡ number_behind number (length gone.lines + 1)) × (last ≡ told.number)
+    × AreRead then leaves (line ∷ []) × IsFault desk mid line told.fault × HavePosted desk [] mid after

@@ -1,9 +1,10 @@
 //! A run that a person or a shell drives: lines of actions posted while it goes on, bus time at a pace of real time,
 //! and messages that are shown as they are recorded.
 //!
-//! It may know: words, gaps and planned faults, host actions, the records of the monitor, jobs, bodies, layouts, the
-//! writer, the trunk, reports, what runs share, mailboxes, runs, the library of `bench run`, decoded messages, numbers
-//! and words of a text. Its tests: `live_tests`. Its wrong bodies: `edits/`.
+//! It may know: words, gaps and planned faults, host actions, what the host of a controller asks for, as text, placed
+//! actions, the records of the monitor, jobs, bodies, layouts, the writer, the trunk, reports, what runs share,
+//! mailboxes, runs, the library of `bench run`, decoded messages, numbers and words of a text. Its tests:
+//! `live_tests`. Its wrong bodies: `edits/`.
 #![tactic(auto)]
 
 mod desk;

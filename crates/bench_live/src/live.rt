@@ -116,7 +116,8 @@ impl<'s, R: Threads + Wait + Clock + Sync, E: Eprint + IsTerminal + Sync> Sessio
         ensures ran { IfOk result (λ r. RanLive S.taken self.now.settings.now.posts self.now.jobs.now
             self.now.settings.now inboxes.items sink r.0 r.1.items r.2) }
         ensures ends { IfOk result (λ r. AreInboxesOf desk.now.boxes.items r.1.items) }
-        ensures room { IfOk result (λ r. RefusesNoneWithRoom self.now.jobs.now self.now.settings.now r.0) }
+        ensures room { IfOk result (λ r. RefusesNoneWithRoom self.now.settings.now.posts self.now.jobs.now
+            self.now.settings.now r.0) }
         ensures refused { IfErr result
             (λ e. LeavesLive S.taken S.failures self.now.settings.now.posts self.now.jobs.now self.now.settings.now
             desk.now.boxes.items inboxes.items sink e.fault e.inboxes.items) }

@@ -2,9 +2,8 @@
 ghost use Rattle.bench_live.specs.Posting.{IsCallDone};
 ghost use Rattle.bench_live.specs.Posting.{IsHandOf, AreHandsOf, as_post, is_channel, LeavesHand, IsLineDone};
 ghost use Rattle.bench_mail.specs.Mail.{posted};
-ghost use Rattle.std.specs.List.{before_first, position_or_len};
-ghost use Rattle.std.specs.Prelude.{◌≡◌, ◌≤◌, ◌∷◌, ◌++◌, [], length, IfOk, IfErr, OnOk};
-ghost use Rattle.text_lines.specs.Lines.{is_line_end};
+ghost use Rattle.std.specs.List.{position_or_len};
+ghost use Rattle.std.specs.Prelude.{◌≡◌, ◌<◌, ◌≤◌, ◌^◌, ◌∷◌, ◌++◌, [], length, IfOk, IfErr, OnOk};
 
 use crate::desk::{Desk, Hand};
 use crate::line::{LivePost, read_post};
@@ -61,7 +60,6 @@ fn post_to<R: Wait + Clock>(
 {
     let LivePost {
         channel,
-        address,
         mut action,
     } = post;
     if hand.count >= MOST_POSTS {
@@ -71,7 +69,7 @@ fn post_to<R: Wait + Clock>(
         if ended.load(Ordering::SeqCst) > 0 {
             return Err(PostFault::Ended(channel));
         }
-        match mailbox.post(rt, &mut hand.poster, 0, address, action) {
+        match mailbox.post(rt, &mut hand.poster, 0, action) {
             Ok(()) => {
                 hand.count += 1;
                 return Ok(());
@@ -127,9 +125,15 @@ fn post_line<R: Wait + Clock>(
     )
 }
 
+/// The number of a line has the size of its type.
+fn number_fits(number: u64)
+    ensures { number < 2 ^ 64 }
+{}
+
 /// Reads lines and posts what they ask for, each once and in their order, up to the end of the input or to the first
-/// line that is not posted, which is answered with its fault. `number` counts the lines. A last line needs no LF.
-/// Fault: the reader's, or want of memory for a line, behind the lines that were posted.
+/// line that is not posted, which is answered with its number and its fault. `number` counts the lines, up to 2^64 - 1:
+/// it is the number of the last line that was read before. A last line needs no LF. Fault: the reader's, or want of
+/// memory for a line, behind the lines that were posted.
 pub fn next_fault<R: Wait + Clock, B: BufRead>(
     rt: &R,
     alloc: Global,
@@ -140,9 +144,10 @@ pub fn next_fault<R: Wait + Clock, B: BufRead>(
 ) -> io::Result<Option<Told>>
     requires hands { AreHandsOf desk.now hands.old.items }
     ensures hands { AreHandsOf desk.now hands.new.items }
-    ensures done { IfOk result (IsCallDone desk.now (B.remaining input.old)
+    ensures done { IfOk result (IsCallDone desk.now number.old number.new (B.remaining input.old)
         (B.remaining input.new) hands.old.items hands.new.items) }
 {
+    number_fits(*number);
     let mut line = Vec::new(alloc);
     'lines: for _ in rt.forever() {
         line.clear();

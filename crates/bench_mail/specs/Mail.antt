@@ -1,9 +1,10 @@
 -- What a contract says of a mailbox, its posters and its inbox.
 use Rattle.std.specs.Prelude.{◌≡◌, ℕ, ◌+◌, ◌^◌, ◌≤◌, ◌==◌, Bool, true, false, List, [], length}
 use Rattle.std.specs.List.{list_any}
-use Rattle.mil_host.specs.declared.actions.Action.{Action}
 use Rattle.mil_trunk.specs.Tags.{has, bound_of, bounds_outside}
 use Rattle.mil_trunk.specs.Ends.{IsTicketOf, IsTakerOf, capacity_of, tags_of, bounds_of, sent, received}
+use Rattle.bc_machine.specs.declared.placed.HostAction.{HostAction}
+use Rattle.bc_machine.specs.declared.placed.HostAction.TheVariants.{Terminal, Controller}
 use Rattle.job_file.specs.Jobs.{JobState}
 use Rattle.bench_mail.specs.declared.mailbox.Post.{Post}
 use Rattle.bench_mail.specs.declared.mailbox.Mailbox.{Mailbox}
@@ -55,14 +56,19 @@ IsInboxOf box i = IsTakerOf box.trunk i.taker
 abbrev pub stands_in : Mailbox → ℕ → Bool
 stands_in box address = list_any (λ a. a == address) box.addresses.items
 
+-- whether an action may be posted: one for a terminal where the job has it, one for the controller always
+abbrev pub may_post : Mailbox → HostAction → Bool
+may_post box (Terminal address action) = stands_in box address
+may_post box (Controller control) = true
+
 -- it was made for the channel and the terminals of this job
 abbrev pub IsMadeFor : Mailbox → JobState → Type 0
 IsMadeFor box job = (box.channel ≡ job.channel) × (box.addresses.items ≡ job.addresses)
 
 -- what a refusal hands back and leaves: where there is a terminal, the mailbox was full
-abbrev pub Returns : Mailbox → Poster → Poster → ℕ → Action → PostError → Type 0
-Returns box old new address action (fault.NoTerminal back) = (back ≡ action) × (stands_in box address ≡ false)
+abbrev pub Returns : Mailbox → Poster → Poster → HostAction → PostError → Type 0
+Returns box old new action (fault.NoTerminal back) = (back ≡ action) × (may_post box action ≡ false)
     × (posted new ≡ posted old)
-Returns box old new address action (fault.Full back) =
-    (back ≡ action) × (stands_in box address ≡ true) × (posted new ≡ posted old)
+Returns box old new action (fault.Full back) =
+    (back ≡ action) × (may_post box action ≡ true) × (posted new ≡ posted old)
     × (room_of box ≤ length (posted old) + bounds_outside (hosts_of old) (limits_of old))

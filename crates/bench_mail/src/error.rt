@@ -1,5 +1,5 @@
 //! Why no mailbox was made, and why an action was not posted.
-use mil_host::Action;
+use bc_machine::HostAction;
 use std::error::Error;
 use std::fmt::{self, Display, Formatter, Write};
 
@@ -33,9 +33,9 @@ impl Error for MailError {}
 #[derive(Debug, Drop)]
 pub enum PostError {
     /// `E3`: the job has no terminal at the address.
-    NoTerminal { action: Action },
+    NoTerminal { action: HostAction },
     /// `E4`: the mailbox was full.
-    Full { action: Action },
+    Full { action: HostAction },
 }
 
 /// `E3` and `E4`.

@@ -1,6 +1,6 @@
-//! Mailboxes: hosts post actions for the terminals of a channel while its thread runs the channel's job.
+//! Mailboxes: hosts post actions on a channel while its thread runs the channel's job.
 //!
-//! It may know: host actions, jobs, the trunk. Its tests: `run_tests`. Its wrong bodies: `edits/`.
+//! It may know: placed actions, jobs, the trunk. Its tests: `run_tests`. Its wrong bodies: `edits/`.
 #![tactic(auto)]
 
 mod error;

@@ -1,6 +1,6 @@
-//! Mailboxes: while a channel runs, hosts post actions for its terminals.
+//! Mailboxes: while a channel runs, hosts post actions for its terminals and for its controller.
 ghost use Rattle.bench_mail.specs.Mail.{hosts_of, limits_of, posted, received_by, IsPosterOf, IsInboxOf, room_of};
-ghost use Rattle.bench_mail.specs.Mail.{stands_in, times_empty, IsMadeFor, Returns};
+ghost use Rattle.bench_mail.specs.Mail.{may_post, times_empty, IsMadeFor, Returns};
 ghost use Rattle.bench_mail.specs.Posts.{host_of};
 ghost use Rattle.mil_trunk.specs.Ends.{IsCapacity};
 ghost use Rattle.mil_trunk.specs.Tags.{has, bound_of, Includes};
@@ -10,20 +10,18 @@ ghost use Rattle.std.specs.Prelude.{◌≡◌, ◌<◌, ◌+◌, ◌-◌, ◌^�
 ghost use Rattle.std.specs.Prelude.{not, ◌&&◌, ◌||◌, Err};
 
 use crate::error::{MailError, PostError};
+use bc_machine::HostAction;
 use job_file::Job;
-use mil_host::Action;
 use mil_trunk::{Tagged, Tags, Taker, Ticket, Trunk, TrunkError};
 use std::alloc::Global;
 use std::sync::Wait;
 
-/// An action that a host asks of a terminal.
+/// What a host asks for, of a terminal or of the controller.
 #[derive(Debug, Drop)]
 pub struct Post {
     /// The host, 0 to 63.
     pub host: u8,
-    /// The address of the terminal, 0 to 30.
-    pub address: u8,
-    pub action: Action,
+    pub action: HostAction,
 }
 
 impl Tagged for Post {
@@ -135,16 +133,25 @@ impl Mailbox {
         self.trunk.take_in(&mut poster.ticket, ticket);
     }
 
-    /// Posts an action of a host for the terminal at an address: it joins the mailbox at the back. `E3` comes where the
-    /// job has no terminal there, and nothing is posted; `E4` where the mailbox was full at one moment of the call.
-    /// Both hand the action back.
+    /// Whether the job has the terminal that an action is for; one for the controller may always be posted.
+    fn may_post(&self, action: &HostAction) -> bool
+        ensures { result ≡ may_post self.now action.now }
+    {
+        match action {
+            HostAction::Terminal { address, .. } => self.addresses.contains(address),
+            HostAction::Controller(_) => true,
+        }
+    }
+
+    /// Posts an action of a host, for a terminal or for the controller: it joins the mailbox at the back. `E3` comes
+    /// where it is for a terminal that the job does not have, and nothing is posted; `E4` where the mailbox was full at
+    /// one moment of the call. Both hand the action back.
     pub fn post<R: Wait>(
         &self,
         rt: &R,
         poster: &mut Poster,
         host: u8,
-        address: u8,
-        action: Action,
+        action: HostAction,
     ) -> Result<(), PostError>
         requires poster { IsPosterOf self.now poster.old }
         requires host { has (hosts_of poster.old) host ≡ true }
@@ -153,18 +160,14 @@ impl Mailbox {
         ensures hosts { hosts_of poster.new ≡ hosts_of poster.old }
         ensures limits { limits_of poster.new ≡ limits_of poster.old }
         ensures kept { OnOk result
-            (posted poster.new ≡ posted poster.old ++ record { host = host; address = address; action = action } ∷ []) }
-        ensures terminal { OnOk result (stands_in self.now address ≡ true) }
-        ensures refused { IfErr result (Returns self.now poster.old poster.new address action) }
+            (posted poster.new ≡ posted poster.old ++ record { host = host; action = action } ∷ []) }
+        ensures terminal { OnOk result (may_post self.now action ≡ true) }
+        ensures refused { IfErr result (Returns self.now poster.old poster.new action) }
     {
-        if !self.addresses.contains(&address) {
+        if !self.may_post(&action) {
             return Err(PostError::NoTerminal { action });
         }
-        let post = Post {
-            host,
-            address,
-            action,
-        };
+        let post = Post { host, action };
         match self.trunk.offer(rt, &mut poster.ticket, post) {
             Ok(()) => Ok(()),
             Err(Post { action, .. }) => Err(PostError::Full { action }),

@@ -1,22 +1,28 @@
 -- A printed report spells itself.
 use Rattle.std.proofs.Common.{◌≡◌, ℕ, ◌^◌, ◌<◌, ◌≤◌, List, [], ◌∷◌, ◌++◌, refl, ap, ◌∙◌, arith, length, All, append-nil, append_assoc, slice_index_or}
-use Rattle.std.specs.Prelude.{Bool, true, false, map, nat_le, Some, Ok, codes, decimal}
+use Rattle.std.specs.Prelude.{Bool, true, false, map, nat_le, nat_eq, Some, Ok, codes, decimal}
 use Rattle.std.specs.List.{flat_map}
 use Rattle.std.proofs.lemmas.Bool.Decides.{nat_tests}
+use Rattle.std.specs.Str.Parse.{AllDigits}
+use Rattle.std.proofs.lemmas.Str.Parse.{digit_from_value}
 use Rattle.std.proofs.lemmas.Fmt.{decimal_is_IsNumeral}
 use Rattle.std.proofs.lemmas.List.Elements.{All-nil, All-cons, All-append, All-tail}
 use Rattle.numerals.proofs.Back.{decimal_back}
 use Rattle.bc_machine.specs.declared.placed.Placed.{Placed}
+use Rattle.bc_machine.specs.declared.placed.HostAction.{HostAction}
+use Rattle.bc_machine.specs.declared.placed.HostAction.TheVariants.{Terminal, Controller}
 use Rattle.text_lines.specs.Words.{Text, words}
 use Rattle.mil_host.specs.Reading.{in_words, action_in}
 use Rattle.mil_host.specs.Printing.{spaced, spaced_word, action_text}
 use Rattle.mil_host.proofs.Spacing.{IsWord, words-word, words-spaced, one_line-word}
 use Rattle.mil_host.proofs.ReadingBack.{digits_visible, has_bytes_of, named, reads-back, one_line}
-use Rattle.bench_report.specs.Reports.{ChannelPart, RunReport, IsPart, IsPlaced, IsReport, Rises}
-use Rattle.bench_report.specs.Lines.{said, line_in, bounded_number, IsLine}
+use Rattle.controller_text.specs.Printing.{control_text}
+use Rattle.controller_text.proofs.ControlsBack as control
+use Rattle.bench_report.specs.Reports.{ChannelPart, RunReport, IsPart, IsPlaced, IsForPlace, IsHostAction, IsReport, Rises}
+use Rattle.bench_report.specs.Lines.{said, line_in, bounded_number, is_controller, IsLine}
 use Rattle.bench_report.specs.Spelling.{part_lines, report_lines, Spells}
 use Rattle.text_lines.specs.Lines.{is_line_end, text_lines}
-use Rattle.bench_report.specs.Printing.{line_words, report_line_text, report_text}
+use Rattle.bench_report.specs.Printing.{line_words, host_action_words, report_line_text, report_text}
 use Rattle.bench_report.specs.declared.lines.Line.{Line}
 use Rattle.bench_report.specs.declared.lines.Line.TheVariants as line
 use Rattle.text_lines.proofs.LineLemmas.{text_lines-line, text_lines-none}
@@ -57,9 +63,40 @@ address_number n high = number 7 0 30 n (omega arith) (omega arith) (omega arith
 packets_number : (n : ℕ) → n ≤ 9999999999 → IsNumber 10 0 9999999999 n
 packets_number n high = number 10 0 9999999999 n (omega arith) (omega arith) (omega arith) (omega arith) high
 
+-- a number does not name the controller
+digits_alone : (word : Text) → AllDigits 10 word → is_controller word ≡ false
+digits_alone [] all = refl
+digits_alone (c ∷ word) all =
+    let range = digit_from_value c all.0 in
+    let other : nat_eq c 98 ≡ false = grind (arith, nat_tests, range.1) in
+    rw other refl
+
+no_name : (n : ℕ) → n ≤ 30 → is_controller (decimal n) ≡ false
+no_name n high = digits_alone (decimal n) (decimal_is_IsNumeral n (omega (arith, high))).0.1
+
+bc_word : IsWord (codes "bc")
+bc_word = named (codes "bc") refl refl
+
+-- the line of a placed action says it
+said_placed : (n : ℕ) (action : HostAction) → 1 ≤ n → n ≤ 1000000 → IsForPlace action → IsHostAction action
+    → said (spaced (line_words (line.Placed (record { number = n; action = action })))) ≡ Some (line.Placed (record { number = n; action = action }))
+unfolding said action_in
+said_placed n (Terminal address action) low high place is =
+    let n_is = message_number n low high in
+    let a_is = address_number address place in
+    let back : in_words (words (action_text action)) ≡ Ok action = reads-back action is in
+    let parted : words (spaced (codes "placed" ∷ decimal n ∷ decimal address ∷ action_text action ∷ [])) ≡ codes "placed" ∷ decimal n ∷ decimal address ∷ words (action_text action) =
+    placed_words (codes "placed") (decimal n) (decimal address) (action_text action) (named (codes "placed") refl refl) n_is.is a_is.is in
+    ap line_in parted ∙ rw (no_name address place, n_is.reads, a_is.reads, back) refl
+said_placed n (Controller asked) low high place is =
+    let n_is = message_number n low high in
+    let parted : words (spaced (codes "placed" ∷ decimal n ∷ codes "bc" ∷ control_text asked ∷ [])) ≡ codes "placed" ∷ decimal n ∷ codes "bc" ∷ words (control_text asked) =
+    placed_words (codes "placed") (decimal n) (codes "bc") (control_text asked) (named (codes "placed") refl refl) n_is.is bc_word in
+    ap line_in parted ∙ rw (n_is.reads, control.back asked is) refl
+
 -- the text of a line says it
 said_line : (l : Line) → IsLine l → said (spaced (line_words l)) ≡ Some l
-unfolding said action_in
+unfolding said
 said_line (line.Channel n) is =
     let n_is = channel_number n is in
     let parted : words (spaced (line_words (line.Channel n))) ≡ codes "channel" ∷ decimal n ∷ [] = words-spaced (codes "channel" ∷ decimal n ∷ []) (named (codes "channel") refl refl, (n_is.is, tt)) in
@@ -72,13 +109,7 @@ said_line (line.Refused n) is =
     let n_is = message_number n is.0 is.1 in
     let parted : words (spaced (line_words (line.Refused n))) ≡ codes "refused" ∷ decimal n ∷ [] = words-spaced (codes "refused" ∷ decimal n ∷ []) (named (codes "refused") refl refl, (n_is.is, tt)) in
     ap line_in parted ∙ rw n_is.reads refl
-said_line (line.Placed p) is =
-    let n_is = message_number p.number is.place.number_low is.place.number_high in
-    let a_is = address_number p.address is.place.address in
-    let back : in_words (words (action_text p.action)) ≡ Ok p.action = reads-back p.action is.action in
-    let parted : words (spaced (line_words (line.Placed p))) ≡ codes "placed" ∷ decimal p.number ∷ decimal p.address ∷ words (action_text p.action) =
-    placed_words (codes "placed") (decimal p.number) (decimal p.address) (action_text p.action) (named (codes "placed") refl refl) n_is.is a_is.is in
-    ap line_in parted ∙ rw (n_is.reads, a_is.reads, back) refl
+said_line (line.Placed p) is = said_placed p.number p.action is.place.number_low is.place.number_high is.place.address is.action
 said_line (line.Packets n) is =
     let n_is = packets_number n is in
     let parted : words (spaced (line_words (line.Packets n))) ≡ codes "packets" ∷ decimal n ∷ [] = words-spaced (codes "packets" ∷ decimal n ∷ []) (named (codes "packets") refl refl, (n_is.is, tt)) in
@@ -104,6 +135,10 @@ together (w ∷ ws) each = All-append (λ b. 32 ≤ b) w (flat_map spaced_word w
 on_line : (word : Text) → IsWord word → OnOneLine word
 on_line word is = one_line-word word is.visible
 
+host_on_line : (action : HostAction) → IsForPlace action → IsHostAction action → EachOnOneLine (host_action_words action)
+host_on_line (Terminal address action) place is = (on_line (decimal address) (address_number address place).is, (one_line action is, tt))
+host_on_line (Controller asked) place is = (on_line (codes "bc") bc_word, (control.one_line asked is, tt))
+
 line_on_line : (l : Line) → IsLine l → OnOneLine (spaced (line_words l))
 line_on_line (line.Channel n) is =
     together (codes "channel" ∷ decimal n ∷ []) (on_line (codes "channel") (named (codes "channel") refl refl), (on_line (decimal n) (channel_number n is).is, tt))
@@ -112,12 +147,9 @@ line_on_line (line.Made n) is =
 line_on_line (line.Refused n) is =
     together (codes "refused" ∷ decimal n ∷ []) (on_line (codes "refused") (named (codes "refused") refl refl), (on_line (decimal n) (message_number n is.0 is.1).is, tt))
 line_on_line (line.Placed p) is =
-    together (codes "placed" ∷ decimal p.number ∷ decimal p.address ∷ action_text p.action ∷ []) (
+    together (codes "placed" ∷ decimal p.number ∷ host_action_words p.action) (
       on_line (codes "placed") (named (codes "placed") refl refl),
-      (
-        on_line (decimal p.number) (message_number p.number is.place.number_low is.place.number_high).is,
-        (on_line (decimal p.address) (address_number p.address is.place.address).is, (one_line p.action is.action, tt)),
-      ),
+      (on_line (decimal p.number) (message_number p.number is.place.number_low is.place.number_high).is, host_on_line p.action is.place.address is.action),
     )
 line_on_line (line.Packets n) is =
     together (codes "packets" ∷ decimal n ∷ []) (on_line (codes "packets") (named (codes "packets") refl refl), (on_line (decimal n) (packets_number n is).is, tt))

@@ -5,10 +5,10 @@ use Rattle.std.specs.Prelude.{None, Ok, Err, Result, All, codes}
 use Rattle.std.specs.Str.{bytes_eq}
 use Rattle.text_lines.specs.Words.{Text, words}
 use Rattle.mil_host.specs.Reading.{in_words}
-use Rattle.mil_host.specs.declared.actions.Action.{Action}
+use Rattle.controller_text.specs.Reading.{control_in}
 use Rattle.mil_host.specs.declared.reading.BadAction.{BadAction}
 use Rattle.bench_report.specs.Reports.{ChannelPart, RunReport, Rises, NeverFalls}
-use Rattle.bench_report.specs.Lines.{said}
+use Rattle.bench_report.specs.Lines.{said, is_controller}
 use Rattle.bench_report.specs.Spelling.{report_lines}
 use Rattle.text_lines.specs.Lines.{text_lines}
 use Rattle.bench_report.specs.declared.fault.ReportFault.{ReportFault}
@@ -20,7 +20,7 @@ is_one_word [] = false
 is_one_word (word ∷ []) = true
 is_one_word (word ∷ more ∷ rest) = false
 
-abbrev pub is_action : Result Action BadAction → Bool
+abbrev pub is_action : {X : Type 0} → Result X BadAction → Bool
 is_action (Ok action) = true
 is_action (Err bad) = false
 
@@ -28,7 +28,8 @@ is_action (Err bad) = false
 abbrev pub are_placed_words : List Text → Bool
 are_placed_words [] = false
 are_placed_words (number ∷ []) = false
-are_placed_words (number ∷ address ∷ action) = is_action (in_words action)
+are_placed_words (number ∷ host ∷ action) =
+    if is_controller host then is_action (control_in action) else is_action (in_words action)
 
 -- a line's words are those of one of the five kinds of line, whatever numbers they spell
 abbrev pub are_line_words : List Text → Bool

@@ -1,5 +1,6 @@
 -- What a line of a report says (own choice): its words, separated by spaces alone.
-use Rattle.std.specs.Prelude.{ℕ, ◌≤◌, ◌&&◌, nat_le, if◌then◌else◌, List, [], ◌∷◌, Option, Some, None, Ok, Err, Result}
+use Rattle.std.specs.Prelude.{ℕ, Bool, ◌≤◌, ◌&&◌, nat_le, if◌then◌else◌, List, [], ◌∷◌, Option, Some, None, Ok, Err}
+use Rattle.std.specs.Prelude.{Result}
 use Rattle.std.specs.Prelude.{codes, option_map}
 use Rattle.std.specs.Str.{bytes_eq}
 use Rattle.numerals.specs.Numerals.{spelled}
@@ -8,6 +9,9 @@ use Rattle.mil_word.specs.Fields.{highest_address}
 use Rattle.mil_host.specs.Reading.{in_words}
 use Rattle.mil_host.specs.declared.actions.Action.{Action}
 use Rattle.mil_host.specs.declared.reading.BadAction.{BadAction}
+use Rattle.controller_host.specs.declared.controls.Control.{Control}
+use Rattle.controller_text.specs.Reading.{control_in}
+use Rattle.bc_machine.specs.declared.placed.HostAction.TheVariants.{Terminal, Controller}
 use Rattle.bench_report.specs.Reports.{IsPlaced}
 use Rattle.bench_report.specs.declared.lines.Line.{Line}
 use Rattle.bench_report.specs.declared.lines.Line.TheVariants as line
@@ -30,18 +34,28 @@ only_number most low high (word ∷ more ∷ rest) = None
 -- an action at a message and a terminal
 abbrev pub placed_line_of : Option ℕ → Option ℕ → Result Action BadAction → Option Line
 placed_line_of (Some number) (Some address) (Ok action) = Some
-    (line.Placed (record { number = number; address = address; action = action }))
+    (line.Placed (record { number = number; action = Terminal address action }))
 placed_line_of (Some number) (Some address) (Err bad) = None
 placed_line_of (Some number) None action = None
 placed_line_of None address action = None
 
--- the number of a message, the address of a terminal, and the text of an action
+-- what the host of the controller asks for at a message
+abbrev pub asked_line_of : Option ℕ → Result Control BadAction → Option Line
+asked_line_of (Some number) (Ok asked) = Some (line.Placed (record { number = number; action = Controller asked }))
+asked_line_of (Some number) (Err bad) = None
+asked_line_of None asked = None
+
+-- the word that names the controller where the address of a terminal may stand
+abbrev pub is_controller : Text → Bool
+is_controller word = bytes_eq word (codes "bc")
+
+-- the number of a message, the address of a terminal or `bc`, and the text of an action
 abbrev pub placed_in : List Text → Option Line
 placed_in [] = None
 placed_in (number ∷ []) = None
-placed_in (number ∷ address ∷ action) = placed_line_of (bounded_number 7 1 1000000 number)
-    (bounded_number 7 0 highest_address address)
-    (in_words action)
+placed_in (number ∷ host ∷ action) =
+    if is_controller host then asked_line_of (bounded_number 7 1 1000000 number) (control_in action)
+    else placed_line_of (bounded_number 7 1 1000000 number) (bounded_number 7 0 highest_address host) (in_words action)
 
 abbrev pub line_in : List Text → Option Line
 line_in [] = None

@@ -2,6 +2,9 @@
 use Rattle.std.specs.Prelude.{ℕ, List, [], ◌∷◌, ◌++◌, codes, decimal}
 use Rattle.std.specs.List.{flat_map}
 use Rattle.bc_machine.specs.declared.placed.Placed.{Placed}
+use Rattle.bc_machine.specs.declared.placed.HostAction.{HostAction}
+use Rattle.bc_machine.specs.declared.placed.HostAction.TheVariants.{Terminal, Controller}
+use Rattle.controller_text.specs.Printing.{control_text}
 use Rattle.text_lines.specs.Words.{Text}
 use Rattle.mil_host.specs.Printing.{spaced, action_text}
 use Rattle.bench_report.specs.Reports.{ChannelPart, RunReport}
@@ -12,12 +15,20 @@ use Rattle.bench_report.specs.declared.fault.ReportFault.{ReportFault}
 use Rattle.bench_report.specs.declared.fault.ReportFault.TheVariants as fault
 use Rattle.bench_report.specs.declared.fault.ReportError.{ReportError}
 
+-- what a host asked for: the address of the terminal, or `bc`, and the text of the action
+abbrev pub host_action_words : HostAction → List Text
+host_action_words (Terminal address action) = decimal address ∷ action_text action ∷ []
+host_action_words (Controller asked) = codes "bc" ∷ control_text asked ∷ []
+
+abbrev pub host_action_text : HostAction → Text
+host_action_text action = spaced (host_action_words action)
+
 -- the words of a line; those of an action stand in its text
 abbrev pub line_words : Line → List Text
 line_words (line.Channel n) = codes "channel" ∷ decimal n ∷ []
 line_words (line.Made n) = codes "made" ∷ decimal n ∷ []
 line_words (line.Refused n) = codes "refused" ∷ decimal n ∷ []
-line_words (line.Placed p) = codes "placed" ∷ decimal p.number ∷ decimal p.address ∷ action_text p.action ∷ []
+line_words (line.Placed p) = codes "placed" ∷ decimal p.number ∷ host_action_words p.action
 line_words (line.Packets n) = codes "packets" ∷ decimal n ∷ []
 
 -- a line and its end

@@ -3,7 +3,10 @@
 use Rattle.std.specs.Prelude.{ℕ, ◌≤◌, ◌<◌, List, [], ◌∷◌, All}
 use Rattle.mil_word.specs.Fields.{highest_address}
 use Rattle.mil_host.specs.Ranges.{IsInRange}
+use Rattle.controller_host.specs.Ranges.{IsControl}
 use Rattle.bc_machine.specs.declared.placed.Placed.{Placed}
+use Rattle.bc_machine.specs.declared.placed.HostAction.{HostAction}
+use Rattle.bc_machine.specs.declared.placed.HostAction.TheVariants.{Terminal, Controller}
 
 -- what contracts see of the report of one channel
 pub record ChannelPart : Type 0 where
@@ -27,16 +30,26 @@ abbrev pub NeverFalls : ℕ → List Placed → Type 0
 NeverFalls least [] = Unit {0}
 NeverFalls least (p ∷ ps) = (least ≤ p.number) × NeverFalls p.number ps
 
--- the number of a message, and the address of a terminal
+-- an action for the address of a terminal, or for the controller
+abbrev pub IsForPlace : HostAction → Type 0
+IsForPlace (Terminal address action) = address ≤ highest_address
+IsForPlace (Controller asked) = Unit {0}
+
+-- the number of a message, and an action for a terminal or for the controller
 pub record IsPlace (p : Placed) : Type 0 where
   pub number_low : 1 ≤ p.number
   pub number_high : p.number ≤ 1000000
-  pub address : p.address ≤ highest_address
+  pub address : IsForPlace p.action
+
+-- the values of an action are in their ranges
+abbrev pub IsHostAction : HostAction → Type 0
+IsHostAction (Terminal address action) = IsInRange action
+IsHostAction (Controller asked) = IsControl asked
 
 -- the same, with an action whose values are in their ranges
 pub record IsPlaced (p : Placed) : Type 0 where
   pub place : IsPlace p
-  pub action : IsInRange p.action
+  pub action : IsHostAction p.action
 
 pub record IsPart (p : ChannelPart) : Type 0 where
   pub channel_low : 1 ≤ p.channel

@@ -1,12 +1,11 @@
 //! The report of one channel.
 ghost use Rattle.bc_machine.specs.declared.placed.Placed.{Placed};
 ghost use Rattle.bench_report.specs.Drafts.{TakesIntoDraft, last_number, numbers, with_refused, with_placed};
-ghost use Rattle.bench_report.specs.Reports.{IsPart, IsPlaced, IsPlace, Rises, NeverFalls};
-ghost use Rattle.mil_host.specs.Ranges.{IsInRange};
+ghost use Rattle.bench_report.specs.Reports.{IsPart, IsPlaced, IsPlace, IsHostAction, Rises, NeverFalls};
 ghost use Rattle.std.specs.Prelude.{◌≡◌, ◌≤◌, All, []};
 
 use crate::fault::ReportFault;
-use bc_machine::{Actions, Placed};
+use bc_machine::{Actions, HostAction, Placed};
 use std::alloc::Global;
 use std::marker::Model;
 
@@ -144,9 +143,19 @@ fn last_placed(placed: &Actions) -> u32
 
 /// Each action keeps its ranges.
 fn keep_ranges(placed: &Actions)
-    ensures { All (λ (p : Placed). IsInRange p.action) placed.now }
+    ensures { All (λ (p : Placed). IsHostAction p.action) placed.now }
 {
     for place in 0..placed.len() {
-        placed.get(place).action.reads_back();
+        action_keeps_ranges(&placed.get(place).action);
+    }
+}
+
+/// The values of an action are in their ranges.
+fn action_keeps_ranges(action: &HostAction)
+    ensures { IsHostAction action.now }
+{
+    match action {
+        HostAction::Terminal { action, .. } => action.reads_back(),
+        HostAction::Controller(control) => control.keeps_ranges(),
     }
 }

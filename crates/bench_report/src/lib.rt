@@ -1,7 +1,7 @@
 //! The report of a run, as a value and as text.
 //!
-//! It may know: words, host actions, placed actions, numbers and words of a text. Its tests: `bench_tests`. Its
-//! wrong bodies: `edits/`.
+//! It may know: words, host actions, what the host of a controller asks for, as values and as text, placed actions,
+//! numbers and words of a text. Its tests: `bench_tests`. Its wrong bodies: `edits/`.
 #![tactic(auto)]
 
 mod channels;
@@ -18,6 +18,6 @@ mod stages;
 pub use channels::ChannelReport;
 pub use fault::{ReportError, ReportFault};
 pub use laws::text_spells_one_report;
-pub use printing::{print_report, write_report};
+pub use printing::{HostActionText, print_report, write_report};
 pub use reading::read_report;
 pub use reports::Report;

@@ -1,15 +1,17 @@
 //! The lines of a report.
 ghost use Rattle.bench_report.specs.Drafts.{IsBad};
-ghost use Rattle.bench_report.specs.Faults.{are_line_words, are_placed_words};
-ghost use Rattle.bench_report.specs.Lines.{placed_in, said, IsLine};
+ghost use Rattle.bench_report.specs.Faults.{are_line_words, are_placed_words, is_action};
+ghost use Rattle.bench_report.specs.Lines.{placed_in, asked_line_of, bounded_number, said, IsLine};
 ghost use Rattle.bench_report.specs.Reports.{IsPlaced};
+ghost use Rattle.controller_text.specs.Reading.{control_in};
 ghost use Rattle.std.specs.Prelude.{IfOk, IfErr};
 ghost use Rattle.text_lines.specs.Readings.{IsOkOption};
 ghost use Rattle.text_lines.specs.Words.{words};
 
 use crate::fault::ReportFault;
 use crate::numbers::{number, only_number_in};
-use bc_machine::Placed;
+use bc_machine::{HostAction, Placed};
+use controller_text::read_control;
 use mil_host::read_action;
 use mil_word::fields::HIGHEST_ADDRESS;
 use text_lines::next_word;
@@ -42,6 +44,9 @@ fn read_placed(rest: &[u8]) -> Result<Placed, ReportFault>
     let Some((address_word, text)) = next_word(behind) else {
         return Err(ReportFault::Word);
     };
+    if address_word == b"bc".as_slice() {
+        return read_control_at(number_word, text);
+    }
     let Ok(action) = read_action(text) else {
         return Err(ReportFault::Word);
     };
@@ -50,8 +55,28 @@ fn read_placed(rest: &[u8]) -> Result<Placed, ReportFault>
     let address = number(address_word, 7, 0, u64::from(HIGHEST_ADDRESS))?;
     Ok(Placed {
         number: placed as u32,
-        address: address as u8,
-        action,
+        action: HostAction::Terminal {
+            address: address as u8,
+            action,
+        },
+    })
+}
+
+/// What the host of the controller asked for before the message of a number.
+fn read_control_at(number_word: &[u8], text: &[u8]) -> Result<Placed, ReportFault>
+    ensures value { IsOkOption Line.Placed result
+        (asked_line_of (bounded_number 7 1 1000000 number_word.now) (control_in (words text.now))) }
+    ensures range { IfOk result IsPlaced }
+    ensures fault { IfErr result (λ f. IsBad (is_action (control_in (words text.now))) f) }
+{
+    let Ok(control) = read_control(text) else {
+        return Err(ReportFault::Word);
+    };
+    control.keeps_ranges();
+    let placed = number(number_word, 7, 1, 1_000_000)?;
+    Ok(Placed {
+        number: placed as u32,
+        action: HostAction::Controller(control),
     })
 }
 

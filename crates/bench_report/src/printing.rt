@@ -1,5 +1,5 @@
 //! The text of a report.
-ghost use Rattle.bench_report.specs.Printing.{report_text, refused_text, placed_text, part_text};
+ghost use Rattle.bench_report.specs.Printing.{report_text, refused_text, placed_text, part_text, host_action_text};
 ghost use Rattle.bench_report.specs.Spelling.{Spells};
 ghost use Rattle.std.specs.Io.KnownBytes.{Appends};
 ghost use Rattle.std.specs.List.{flat_map};
@@ -7,7 +7,8 @@ ghost use Rattle.std.specs.Prelude.{◌≡◌, IfOk, OnOk, string_bytes, Some};
 
 use crate::channels::ChannelReport;
 use crate::reports::Report;
-use bc_machine::Actions;
+use bc_machine::{Actions, HostAction, Placed};
+use controller_text::ControlText;
 use std::alloc::{AllocError, Global};
 use std::io::Write;
 use std::{fmt, io};
@@ -50,6 +51,35 @@ impl fmt::Display for RefusedLines<'_> {
     }
 }
 
+/// What a host asked for as its text: the address of the terminal, or `bc`, and the action.
+#[derive(Clone, Copy)]
+pub struct HostActionText<'a>(pub &'a HostAction);
+
+impl fmt::Display for HostActionText<'_> {
+    ghost output = { λ a. Some (host_action_text a.0.now) };
+
+    fn fmt<W: fmt::Write>(&self, f: &mut fmt::Formatter<W>) -> fmt::Result {
+        match self.0 {
+            HostAction::Terminal { address, action } => write!(f, "{address} {action}"),
+            HostAction::Controller(control) => write!(f, "bc {}", ControlText(control)),
+        }
+    }
+}
+
+/// A placed action, on a line.
+#[derive(Clone, Copy)]
+struct PlacedLine<'a>(&'a Placed);
+
+impl fmt::Display for PlacedLine<'_> {
+    ghost output = { λ p. Some (placed_text p.0.now) };
+
+    fn fmt<W: fmt::Write>(&self, f: &mut fmt::Formatter<W>) -> fmt::Result {
+        let number = self.0.number;
+        let action = HostActionText(&self.0.action);
+        write!(f, "placed {number} {action}\n")
+    }
+}
+
 /// The placed actions, each on a line.
 #[derive(Clone, Copy)]
 struct PlacedLines<'a>(&'a Actions);
@@ -60,10 +90,7 @@ impl fmt::Display for PlacedLines<'_> {
     fn fmt<W: fmt::Write>(&self, f: &mut fmt::Formatter<W>) -> fmt::Result {
         for place in 0..self.0.len() {
             let one = self.0.get(place);
-            let number = one.number;
-            let address = one.address;
-            let action = &one.action;
-            write!(f, "placed {number} {address} {action}\n")?;
+            write!(f, "{}", PlacedLine(&one))?;
         }
         Ok(())
     }

@@ -12,9 +12,9 @@ use std::alloc::Global;
 use text_lines::next_line;
 
 /// The report that a text spells: for each channel the lines `channel N`, `made N`, one `refused N` for each refused
-/// number and one `placed NUMBER ADDRESS ACTION` for each placed action, and last `packets N` (own choice). Else the
-/// fault of the first line that may not stand where it stands: X1 a word or an action, X2 a number, X3 the order; X4
-/// where memory was refused.
+/// number, one `placed NUMBER ADDRESS ACTION` for each placed action of a terminal and one `placed NUMBER bc CONTROL`
+/// for each of the controller, and last `packets N` (own choice). Else the fault of the first line that may not stand
+/// where it stands: X1 a word or an action, X2 a number, X3 the order; X4 where memory was refused.
 pub fn read_report(alloc: Global, text: &[u8]) -> Result<Report, ReportError>
     ensures spelled { IfOk result (λ r. Spells text.now r) }
     ensures refused { IfErr result (λ e. IsNotMemory e.fault → (r : RunReport) → IsReport r → Spells text.now r → ⊥) }

@@ -36,22 +36,22 @@ low_place [] k x at = absurd cc
 low_place (y ∷ xs) zero x at = omega arith
 low_place (y ∷ xs) (suc k) x at = let low = low_place xs k x at in omega (arith, low)
 
-no_bound : (jobs : List JobState) (t : ℕ) → length jobs ≤ t → bound_of (map most_items jobs) t ≡ 0
-no_bound [] t high = refl
-no_bound (j ∷ jobs) zero high = absurd (omega (arith, high))
-no_bound (j ∷ jobs) (suc t) high = no_bound jobs t (omega (arith, high))
+no_bound : (most : ℕ) (jobs : List JobState) (t : ℕ) → length jobs ≤ t → bound_of (map (most_items most) jobs) t ≡ 0
+no_bound most [] t high = refl
+no_bound most (j ∷ jobs) zero high = absurd (omega (arith, high))
+no_bound most (j ∷ jobs) (suc t) high = no_bound most jobs t (omega (arith, high))
 
 -- where all that was sent was received, each job's part is known
-pub all_got : (capacity queue : ℕ) (jobs : List JobState) (parts : List ChannelPart) (sent got : List Entry) (bounds : List ℕ)
-    → capacity ≡ queue → length jobs ≤ 32 → bounds ≡ map most_items jobs
-    → ArePairs (IsCountedIn capacity jobs) jobs parts → AreJoined capacity sent jobs parts
+pub all_got : (capacity queue most : ℕ) (given jobs : List JobState) (parts : List ChannelPart) (sent got : List Entry) (bounds : List ℕ)
+    → capacity ≡ queue → length given ≤ 32 → length jobs ≡ length given → bounds ≡ map (most_items most) given
+    → ArePairs (IsCountedIn capacity most given) jobs parts → AreJoined capacity most sent given jobs parts
     → ((t : ℕ) → t < 64 → with_tag index_of t sent ≡ with_tag index_of t got)
     → ((t : ℕ) → bound_of bounds t ≡ 0 → with_tag index_of t got ≡ [])
-    → IsAll queue jobs parts got
-all_got capacity queue jobs parts sent got bounds same few bounds_are counted joined settled barred = record {
-  counted = subst (λ n. ArePairs (IsCountedIn n jobs) jobs parts) same counted;
+    → IsAll queue most given jobs parts got
+all_got capacity queue most given jobs parts sent got bounds same few long bounds_are counted joined settled barred = record {
+  counted = subst (λ n. ArePairs (IsCountedIn n most given) jobs parts) same counted;
   own = λ k job part at at'.
       let low = low_place jobs k job at in
-      sym (settled k (omega (arith, low, few))) ∙ (joined k job part at at').1;
-  others = λ t high. barred t (ap (λ bs. bound_of bs t) bounds_are ∙ no_bound jobs t high);
+      sym (settled k (omega (arith, low, few, long))) ∙ (joined k job part at at').1;
+  others = λ t high. barred t (ap (λ bs. bound_of bs t) bounds_are ∙ no_bound most given t (omega (arith, high, long)));
 }

@@ -53,11 +53,11 @@ length-mapped : (f : Entry → Item) (es : List Entry) → length (map f es) ≡
 length-mapped f [] = refl
 length-mapped f (e ∷ es) = ap suc (length-mapped f es)
 
-module _ {S : Type 0} (taken : S → Option (List ℕ)) (failures : S → ℕ) (jobs : List JobState) (s : Settings) (before : S) (parts : List ChannelPart) (got : List Entry)
+module _ {S : Type 0} (taken : S → Option (List ℕ)) (failures : S → ℕ) (most : ℕ) (given jobs : List JobState) (s : Settings) (before : S) (parts : List ChannelPart) (got : List Entry)
     (old : Recording S) (whole : Bool) (lawful : AreLawful jobs s) (small : s.version < 2 ^ 8)
-    (all : IsAll s.queue jobs parts got) (logged : IsLogged taken failures (format_of s) s.prologue.items before (channels_of jobs) got old whole) where
+    (all : IsAll s.queue most given jobs parts got) (logged : IsLogged taken failures (format_of s) s.prologue.items before (channels_of jobs) got old whole) where
   items_are : logged.items ≡ map (item_of (channels_of jobs)) got
-  items_are = logged.all (whole_is whole (λ cut. nothing_unfit s.queue jobs parts got all (logged.unfit cut)))
+  items_are = logged.all (whole_is whole (λ cut. nothing_unfit s.queue most given jobs parts got all (logged.unfit cut)))
 
   -- the recording is that of all that was received
   abbrev IsRecorded_ : Recording S → Type 0
@@ -70,14 +70,14 @@ module _ {S : Type 0} (taken : S → Option (List ℕ)) (failures : S → ℕ) (
   pub count_fits : (r : Recording S) → IsRecorded_ r → r.packets ≤ 9999999999
   count_fits r is =
       let items : List Item = map (item_of (channels_of jobs)) got in
-      let few = got_few s.queue jobs parts got all in
+      let few = got_few s.queue most given jobs parts got all in
       let fewer = packets_few (format_of s) items in
       let fewest = whole_few (r.writing.taken - length s.prologue.items) (closed_packets (format_of s) items) in
       omega (arith, few, fewer, fewest, is.packets, length-mapped (item_of (channels_of jobs)) got, lawful.ranges.few)
 
   module _ (read : RecordingIsRead) (keeps : RecordsAreKept) (closed : EndedIsClosed) (file : FileIsPackets) (packets : AllPacketsAreWhole) where
     -- the sink took the whole file
-    pub ran : (r : Recording S) → IsRecorded_ r → r.writing.failed ≡ false → Ran taken jobs s before (record { channels = parts; packets = r.packets }) r.writing.sink
+    pub ran : (r : Recording S) → IsRecorded_ r → r.writing.failed ≡ false → Ran taken most given jobs s before (record { channels = parts; packets = r.packets }) r.writing.sink
     ran r is sound =
         let f = format_of s in
         let prologue : List ℕ = s.prologue.items in
@@ -85,7 +85,7 @@ module _ {S : Type 0} (taken : S → Option (List ℕ)) (failures : S → ℕ) (
         let bytes : List ℕ = written_file f prologue items in
         let long : r.writing.taken ≡ length bytes = is.written.whole sound in
         let good : IsFormat f = record { version = small; low = lawful.ranges.limit_low; high = lawful.ranges.limit_high } in
-        let sound_items = items_sound s.queue jobs parts got all in
+        let sound_items = items_sound s.queue most given jobs parts got all in
         let rs = read f prologue items good lawful.prologue sound_items in
         let joined = ap (λ (bs : List ℕ). length bs) (file f prologue items) in
         let rest : r.writing.taken - length prologue ≡ length (concat (closed_packets f items)) =
@@ -97,24 +97,24 @@ module _ {S : Type 0} (taken : S → Option (List ℕ)) (failures : S → ℕ) (
             format = good;
             sound = sound_items;
             file = refl;
-            parts = parts_are s.queue jobs parts got all s refl lawful.distinct;
-            others = others_none s.queue jobs parts got all;
+            parts = parts_are s.queue most given jobs parts got all s refl lawful.distinct;
+            others = others_none s.queue most given jobs parts got all;
             packets = is.packets ∙ ap (λ n. whole_packets n (closed_packets f items)) rest ∙ packets f items;
             found = rs.0;
             readable = rs.1;
-            read = read_are s.queue jobs parts got all closed f rs.0 lawful.distinct rs.2;
-            silent = others_silent s.queue jobs parts got all keeps f rs.0 rs.2;
+            read = read_are s.queue most given jobs parts got all closed f rs.0 lawful.distinct rs.2;
+            silent = others_silent s.queue most given jobs parts got all keeps f rs.0 rs.2;
           },
         )
 
   -- the sink failed
-  pub cut : (r : Recording S) (count : ℕ) → IsRecorded_ r → count ≡ r.writing.taken → IsCut taken jobs s before (record { channels = parts; packets = r.packets }) count r.writing.sink
+  pub cut : (r : Recording S) (count : ℕ) → IsRecorded_ r → count ≡ r.writing.taken → IsCut taken most given jobs s before (record { channels = parts; packets = r.packets }) count r.writing.sink
   cut r count is same = record {
     items = map (item_of (channels_of jobs)) got;
     bytes = rw same is.written.taken;
     within = omega (arith, same, is.written.within);
-    parts = parts_are s.queue jobs parts got all s refl lawful.distinct;
-    others = others_none s.queue jobs parts got all;
+    parts = parts_are s.queue most given jobs parts got all s refl lawful.distinct;
+    others = others_none s.queue most given jobs parts got all;
     packets = is.packets ∙ ap (λ n. whole_packets (n - length s.prologue.items) (closed_packets (format_of s) (map (item_of (channels_of jobs)) got))) (sym same);
   }
 

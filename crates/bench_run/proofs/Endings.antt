@@ -73,14 +73,14 @@ within [] k x at = absurd cc
 within (y ∷ xs) zero x at = omega arith
 within (y ∷ xs) (suc k) x at = let low = within xs k x at in omega (arith, low)
 
-module _ (capacity : ℕ) (jobs : List JobState) (parts : List ChannelPart) (got : List Entry) (all : IsAll capacity jobs parts got) where
+module _ (capacity most : ℕ) (given jobs : List JobState) (parts : List ChannelPart) (got : List Entry) (all : IsAll capacity most given jobs parts got) where
   -- each item is a sound one
   pub items_sound : AllByRecursion IsItem (map (item_of (channels_of jobs)) got)
   items_sound = all_mapped (channels_of jobs) got (all_by_index (λ x. IsItem (item_of (channels_of jobs) x)) got each)
     where
       each : (t : ℕ) → AllByRecursion (λ x. IsItem (item_of (channels_of jobs) x)) (with_tag index_of t got)
       each t = ⊎_elim
-          (λ (low : t < length jobs). let p = pair_at (IsCountedIn capacity jobs) jobs parts t all.counted low in
+          (λ (low : t < length jobs). let p = pair_at (IsCountedIn capacity most given) jobs parts t all.counted low in
           let job = p.0 in let part = p.1 in
           let small : slice_index (channels_of jobs) t < 2 ^ 16 = omega (arith, channel_at_job jobs t job p.2, (p.4).channel_high) in
           subst (AllByRecursion (λ x. IsItem (item_of (channels_of jobs) x))) (sym (all.own t job part p.2 p.3))
@@ -99,7 +99,7 @@ module _ (capacity : ℕ) (jobs : List JobState) (parts : List ChannelPart) (got
 
       each : (t : ℕ) → AllByRecursion (λ x. index_of x < length (channels_of jobs)) (with_tag index_of t got)
       each t = ⊎_elim
-          (λ (low : t < length jobs). let p = pair_at (IsCountedIn capacity jobs) jobs parts t all.counted low in
+          (λ (low : t < length jobs). let p = pair_at (IsCountedIn capacity most given) jobs parts t all.counted low in
           subst (AllByRecursion (λ x. index_of x < length (channels_of jobs))) (sym (all.own t p.0 p.1 p.2 p.3))
           (named t (kept_records (p.1).refused (records_of p.0)) (omega (arith, low, length-map jobs (λ (j : JobState). j.channel)))))
           (λ (high : length jobs ≤ t). subst (AllByRecursion (λ x. index_of x < length (channels_of jobs))) (sym (all.others t high)) tt)
@@ -115,22 +115,22 @@ module _ (capacity : ℕ) (jobs : List JobState) (parts : List ChannelPart) (got
       subst (λ c. part_of c (map (item_of channels) got) ≡ to_the_end c (kept_records part.refused (records_of job))) is
       (part_is channels k got distinct low indexed ∙ ap (map (item_of channels)) (all.own k job part at at') ∙ ended_is channels k (kept_records part.refused (records_of job)))
 
-  pub parts_are : (s : Settings) → capacity ≡ s.queue → AreDistinct (channels_of jobs) → ArePairs (IsPartOf jobs s (map (item_of (channels_of jobs)) got)) jobs parts
-  parts_are s same distinct = pairs_with (IsCountedIn capacity jobs) (IsPartOf jobs s (map (item_of (channels_of jobs)) got)) jobs parts all.counted
+  pub parts_are : (s : Settings) → capacity ≡ s.queue → AreDistinct (channels_of jobs) → ArePairs (IsPartOf most given s (map (item_of (channels_of jobs)) got)) jobs parts
+  parts_are s same distinct = pairs_with (IsCountedIn capacity most given) (IsPartOf most given s (map (item_of (channels_of jobs)) got)) jobs parts all.counted
       (λ k job part at at' p. record {
         channel = p.channel;
         made = p.made;
         placed = p.placed;
         rising = p.rising;
         taken = part_taken distinct k job part at at';
-        full = subst (λ c. AllByRecursion (λ n. c ≤ kept_below n part.refused job + most_in_all (others_than job.channel jobs)) part.refused) same p.full;
+        full = subst (λ c. AllByRecursion (λ n. c ≤ kept_below n part.refused job + most_in_all most (others_than job.channel given)) part.refused) same p.full;
       })
 
   -- what is read of each channel
   pub read_are : EndedIsClosed → (f : Format) (found : List Found) → AreDistinct (channels_of jobs)
       → ((channel : ℕ) → reading found channel ≡ map as_message (messages_of (closed_records f channel (map (item_of (channels_of jobs)) got))))
       → ArePairs (IsReadAs found) jobs parts
-  read_are closed f found distinct read = pairs_with (IsCountedIn capacity jobs) (IsReadAs found) jobs parts all.counted
+  read_are closed f found distinct read = pairs_with (IsCountedIn capacity most given) (IsReadAs found) jobs parts all.counted
       (λ k job part at at' p. read job.channel
       ∙ ap (λ (ns : List Numbered). map as_message (messages_of ns))
       (closed f job.channel (map (item_of (channels_of jobs)) got) (kept_records part.refused (records_of job)) (part_taken distinct k job part at at')))
@@ -167,7 +167,7 @@ module _ (capacity : ℕ) (jobs : List JobState) (parts : List ChannelPart) (got
   ended : AreEnded (channels_of jobs) got sent_at
   ended = (
     λ t low.
-        let p = pair_at (IsCountedIn capacity jobs) jobs parts t all.counted (omega (arith, low, length-map jobs (λ (j : JobState). j.channel))) in
+        let p = pair_at (IsCountedIn capacity most given) jobs parts t all.counted (omega (arith, low, length-map jobs (λ (j : JobState). j.channel))) in
         all.own t p.0 p.1 p.2 p.3 ∙ ap (entries_to_the_end t) (sym (sent_is t p.0 p.1 p.2 p.3)),
     λ t high. all.others t (omega (arith, high, length-map jobs (λ (j : JobState). j.channel))),
   )
@@ -175,7 +175,7 @@ module _ (capacity : ℕ) (jobs : List JobState) (parts : List ChannelPart) (got
   pub nothing_unfit : ¬ IsUnfit (channels_of jobs) got
   nothing_unfit = all_fit (channels_of jobs) got sent_at ended
       (λ t low.
-      let p = pair_at (IsCountedIn capacity jobs) jobs parts t all.counted (omega (arith, low, length-map jobs (λ (j : JobState). j.channel))) in
+      let p = pair_at (IsCountedIn capacity most given) jobs parts t all.counted (omega (arith, low, length-map jobs (λ (j : JobState). j.channel))) in
       subst (AreOrdered 0) (sym (sent_is t p.0 p.1 p.2 p.3)) (kept_ordered (p.1).refused (records_of p.0) (all_small (records_of p.0) (p.4).recorded)))
 
   -- no more was received than the channels can send
@@ -195,7 +195,7 @@ module _ (capacity : ℕ) (jobs : List JobState) (parts : List ChannelPart) (got
   top_at (j ∷ js) zero low = refl
   top_at (j ∷ js) (suc t) low = top_at js t (omega (arith, low))
 
-  pub got_few : length got ≤ 1000001 * length jobs
+  pub got_few : length got ≤ 1065537 * length jobs
   got_few =
       let fewer = length-by_bounds index_of (tops jobs) got each in
       let top = sum_low (tops jobs) (tops_low jobs) in
@@ -203,7 +203,7 @@ module _ (capacity : ℕ) (jobs : List JobState) (parts : List ChannelPart) (got
     where
       each : (t : ℕ) → length (with_tag index_of t got) ≤ bound_of (tops jobs) t
       each t = ⊎_elim
-          (λ (low : t < length jobs). let p = pair_at (IsCountedIn capacity jobs) jobs parts t all.counted low in
+          (λ (low : t < length jobs). let p = pair_at (IsCountedIn capacity most given) jobs parts t all.counted low in
           let own = ap (λ (es : List Entry). length es) (all.own t p.0 p.1 p.2 p.3) in
           let ends = length-append (map (entry_of t) (kept_records (p.1).refused (records_of p.0))) (entry.End t ∷ []) in
           omega (arith, own, ends, length-kept t (p.1).refused (records_of p.0), (p.4).made, (p.4).made_high, top_at jobs t low))
@@ -226,14 +226,28 @@ kept_few number refused job =
     length-front (suc n) [] = omega arith
     length-front (suc n) (r ∷ rs) = let low = length-front n rs in omega (arith, low)
 
-pub none_refused : (capacity : ℕ) (jobs : List JobState) (parts : List ChannelPart) → AreDistinct (channels_of jobs) → ArePairs (IsCountedIn capacity jobs) jobs parts
-    → most_in_all jobs ≤ capacity → AllByRecursion (λ (part : ChannelPart). part.refused ≡ []) parts
-none_refused capacity jobs parts distinct counted room = seconds_with (IsCountedIn capacity jobs) (λ (part : ChannelPart). part.refused ≡ []) jobs parts counted
-    (λ k job part at at' p. go job part.refused part.made (own_and_others jobs k job distinct at) p.made p.within p.rising p.full)
+-- a job as it was given, of the same channel, that may offer as many items where so many actions are posted to it
+pub record IsGiven (most : ℕ) (given : List JobState) (k : ℕ) (job : JobState) : Type 0 where
+  pub own : JobState
+  pub at : slice_get given k ≡ Some own
+  pub channel : job.channel ≡ own.channel
+  pub items : most_items 0 job ≤ most_items most own
+
+abbrev pub AreGiven : ℕ → List JobState → List JobState → Type 0
+AreGiven most given jobs = (k : ℕ) (job : JobState) → slice_get jobs k ≡ Some job → IsGiven most given k job
+
+pub none_refused : (capacity most : ℕ) (given jobs : List JobState) (parts : List ChannelPart) → AreDistinct (channels_of given) → AreGiven most given jobs
+    → ArePairs (IsCountedIn capacity most given) jobs parts → most_in_all most given ≤ capacity → AllByRecursion (λ (part : ChannelPart). part.refused ≡ []) parts
+none_refused capacity most given jobs parts distinct are counted room = seconds_with (IsCountedIn capacity most given) (λ (part : ChannelPart). part.refused ≡ []) jobs parts counted
+    (λ k job part at at' p.
+    let is = are k job at in
+    let others : most_in_all most (others_than job.channel given) ≡ most_in_all most (others_than is.own.channel given) = ap (λ c. most_in_all most (others_than c given)) is.channel in
+    let sum = own_and_others most given k is.own distinct is.at in
+    go job part.refused part.made (most_items most is.own) (most_in_all most (others_than job.channel given)) (omega (arith, sum, others, room)) is.items p.made p.within p.rising p.full)
   where
-    go : (job : JobState) (refused : List ℕ) (made : ℕ) → most_in_all jobs ≡ most_items job + most_in_all (others_than job.channel jobs)
-        → made ≡ length (records_of job) → length (records_of job) < most_items job → Rises 0 made refused
-        → AllByRecursion (λ n. capacity ≤ kept_below n refused job + most_in_all (others_than job.channel jobs)) refused → refused ≡ []
-    go job [] made total is few rising full = refl
-    go job (n ∷ refused) made total is few rising full =
-        let low = kept_few n (n ∷ refused) job in absurd (omega (arith, total, is, few, rising.0, rising.1, full.0, low, room))
+    go : (job : JobState) (refused : List ℕ) (made own others : ℕ) → own + others ≤ capacity → most_items 0 job ≤ own
+        → made ≡ length (records_of job) → length (records_of job) < most_items 0 job → Rises 0 made refused
+        → AllByRecursion (λ n. capacity ≤ kept_below n refused job + others) refused → refused ≡ []
+    go job [] made own others total items is few rising full = refl
+    go job (n ∷ refused) made own others total items is few rising full =
+        let low = kept_few n (n ∷ refused) job in absurd (omega (arith, total, items, is, few, rising.0, rising.1, full.0, low))

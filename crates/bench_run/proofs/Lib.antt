@@ -3,6 +3,7 @@ pub mod Rows
 pub mod Sent
 pub mod Taken
 pub mod PlacedPosts
+pub mod Messages
 pub mod Stages
 pub mod PlacedStages
 pub mod Sums

@@ -1,6 +1,6 @@
 -- The jobs of a live run, each with the posts that were placed.
-use Rattle.std.proofs.Common.{◌≡◌, ℕ, zero, suc, ◌<◌, ◌≤◌, Bool, true, false, not, cond, List, [], ◌∷◌, ◌++◌, length, map, sum, append-nil, refl, sym, ap, ◌∙◌, subst, arith}
-use Rattle.std.specs.Prelude.{◌==◌, Some, slice_get, Result, Ok, Err, IfOk, IfErr}
+use Rattle.std.proofs.Common.{◌≡◌, ℕ, zero, suc, ◌<◌, ◌≤◌, List, [], ◌∷◌, ◌++◌, length, map, append-nil, refl, sym, ap, ◌∙◌, subst, arith}
+use Rattle.std.specs.Prelude.{Some, slice_get, Result, Ok, Err, IfOk, IfErr}
 use Rattle.std.specs.List.{AllByRecursion}
 use Rattle.std.proofs.lemmas.List.{length-map}
 use Rattle.mil_trunk.specs.Tags.{bound_of}
@@ -23,8 +23,11 @@ use Rattle.bench_mail.specs.Mail.{IsInboxOf}
 use Rattle.bench_run.specs.Live.{with_posts, LiveChannel, live_job, ArePlaced, AreLive, AreInboxesOf}
 use Rattle.bench_run.specs.Threads.{IsThreadReport, IsCountedIn, AreEnded}
 use Rattle.bench_run.specs.Ending.{IsAll, IsAllLive}
-use Rattle.bench_run.proofs.Rows.{same_some, some_at, place_below, none_at}
+use Rattle.bench_settings.proofs.Lists.{map_at, which}
+use Rattle.bench_run.proofs.Rows.{same_some, some_at, place_below, none_at, all_at}
 use Rattle.bench_run.proofs.Beginning.{all_got}
+use Rattle.bench_run.proofs.Endings.{AreGiven}
+use Rattle.bench_run.proofs.Messages.{live_items}
 use Rattle.bench_run.proofs.PlacedPosts.{few_placed}
 
 abbrev pub jobs_in : List LiveChannel → List JobState
@@ -38,24 +41,6 @@ lives_in rows = map live_job rows
 pub channels_alike : (rows : List LiveChannel) → channels_of (lives_in rows) ≡ channels_of (jobs_in rows)
 channels_alike [] = refl
 channels_alike (c ∷ rows) = ap (λ l. c.job.channel ∷ l) (channels_alike rows)
-
-pub bounds_alike : (rows : List LiveChannel) → map most_items (lives_in rows) ≡ map most_items (jobs_in rows)
-bounds_alike [] = refl
-bounds_alike (c ∷ rows) = ap (λ l. most_items c.job ∷ l) (bounds_alike rows)
-
-one_other : (c : LiveChannel) (us vs : List JobState) (b : Bool) → map most_items us ≡ map most_items vs → map most_items (cond b (live_job c ∷ us) us) ≡ map most_items (cond b (c.job ∷ vs) vs)
-one_other c us vs true same = ap (λ l. most_items c.job ∷ l) same
-one_other c us vs false same = same
-
-others_bounds_alike : (channel : ℕ) (rows : List LiveChannel) → map most_items (others_than channel (lives_in rows)) ≡ map most_items (others_than channel (jobs_in rows))
-others_bounds_alike channel [] = refl
-others_bounds_alike channel (c ∷ rows) = one_other c (others_than channel (lives_in rows)) (others_than channel (jobs_in rows)) (not (c.job.channel == channel)) (others_bounds_alike channel rows)
-
-pub others_alike : (channel : ℕ) (rows : List LiveChannel) → most_in_all (others_than channel (lives_in rows)) ≡ most_in_all (others_than channel (jobs_in rows))
-others_alike channel rows = ap sum (others_bounds_alike channel rows)
-
-pub most_alike : (rows : List LiveChannel) → most_in_all (lives_in rows) ≡ most_in_all (jobs_in rows)
-most_alike rows = ap sum (bounds_alike rows)
 
 -- ---- a row for each channel
 
@@ -120,10 +105,10 @@ row_at P (c ∷ rows) (suc k) live part at at' each = row_at P rows k live part 
 module _ (capacity queue most : ℕ) (jobs : List JobState) (boxes : List Mailbox) (before : List Inbox) (joined : List Joined) (sent got : List Entry) (bounds : List ℕ) where
   abbrev IsOfRow : ℕ → LiveChannel → Type 0
   IsOfRow k c =
-      ArePlaced most c.part.made c.before c.after c.posts × IsThreadReport capacity (most_in_all (others_than c.job.channel jobs)) (live_job c) c.part
+      ArePlaced most c.part.made c.before c.after c.posts × IsThreadReport capacity (most_in_all most (others_than c.job.channel jobs)) (live_job c) c.part
       × (with_tag index_of k sent ≡ entries_to_the_end k (kept_records c.part.refused (records_of (live_job c))))
 
-  pub all_live : capacity ≡ queue → length jobs ≤ 32 → bounds ≡ map most_items jobs → length boxes ≡ length jobs → length before ≡ length jobs → length joined ≡ length jobs
+  pub all_live : capacity ≡ queue → length jobs ≤ 32 → bounds ≡ map (most_items most) jobs → length boxes ≡ length jobs → length before ≡ length jobs → length joined ≡ length jobs
       → AreEnded capacity sent jobs most boxes before joined
       → ((t : ℕ) → t < 64 → with_tag index_of t sent ≡ with_tag index_of t got)
       → ((t : ℕ) → bound_of bounds t ≡ 0 → with_tag index_of t got ≡ [])
@@ -135,12 +120,11 @@ module _ (capacity queue most : ℕ) (jobs : List JobState) (boxes : List Mailbo
       (e.posts, (e.placed, e.counted, e.own_are))) in
       let lives : List JobState = lives_in has.rows in
       let parts : List ChannelPart = map (λ (c : LiveChannel). c.part) has.rows in
-      let counted_in : (k : ℕ) (c : LiveChannel) → slice_get has.rows k ≡ Some c → IsCountedIn capacity lives (live_job c) c.part =
-      λ k c at. subst (λ m. IsThreadReport capacity m (live_job c) c.part) (sym (others_alike c.job.channel has.rows ∙ ap (λ l. most_in_all (others_than c.job.channel l)) has.jobs_are)) (has.each k c at).1 in
-      let long : length lives ≤ 32 = let l = ap length has.jobs_are in omega (arith, few, l, length-map has.rows live_job, length-map has.rows (λ (c : LiveChannel). c.job)) in
-      let all = all_got capacity queue lives parts sent got bounds same long (bounds_are ∙ ap (map most_items) (sym has.jobs_are) ∙ sym (bounds_alike has.rows))
-      (pairs_rows (IsCountedIn capacity lives) has.rows counted_in)
-      (λ k live part at at'. row_at (λ l p. IsCountedIn capacity lives l p × (with_tag index_of k sent ≡ entries_to_the_end k (kept_records p.refused (records_of l)))) has.rows k live part at at' (λ c e. (counted_in k c e, (has.each k c e).2)))
+      let counted_in : (k : ℕ) (c : LiveChannel) → slice_get has.rows k ≡ Some c → IsCountedIn capacity most jobs (live_job c) c.part = λ k c at. (has.each k c at).1 in
+      let long : length lives ≡ length jobs = length-map has.rows live_job ∙ sym (length-map has.rows (λ (c : LiveChannel). c.job)) ∙ ap length has.jobs_are in
+      let all = all_got capacity queue most jobs lives parts sent got bounds same few long bounds_are
+      (pairs_rows (IsCountedIn capacity most jobs) has.rows counted_in)
+      (λ k live part at at'. row_at (λ l p. IsCountedIn capacity most jobs l p × (with_tag index_of k sent ≡ entries_to_the_end k (kept_records p.refused (records_of l)))) has.rows k live part at at' (λ c e. (counted_in k c e, (has.each k c e).2)))
       settled barred in
       record {
         lives = lives;
@@ -153,7 +137,7 @@ module _ (capacity queue most : ℕ) (jobs : List JobState) (boxes : List Mailbo
           lives_are = refl;
           placed = all_of (λ (c : LiveChannel). ArePlaced most c.part.made c.before c.after c.posts) has.rows (λ k c at. (has.each k c at).0);
         };
-        all = subst (λ (ps : List ChannelPart). IsAll queue lives ps got) has.parts_are all;
+        all = subst (λ (ps : List ChannelPart). IsAll queue most jobs lives ps got) has.parts_are all;
       }
 
   -- each inbox that comes back is that of its mailbox
@@ -178,8 +162,18 @@ module _ (most : ℕ) (jobs : List JobState) (before after : List Inbox) (parts 
   pub lives_channels : channels_of lives ≡ channels_of jobs
   lives_channels = ap channels_of (sym live.lives_are) ∙ channels_alike live.rows ∙ ap channels_of live.jobs_are
 
-  pub lives_most : most_in_all lives ≡ most_in_all jobs
-  lives_most = ap most_in_all (sym live.lives_are) ∙ most_alike live.rows ∙ ap most_in_all live.jobs_are
+  -- they are the jobs that were given
+  pub lives_given : AreGiven most jobs lives
+  lives_given k job at =
+      let row = which live_job live.rows k job (ap (λ (js : List JobState). slice_get js k) live.lives_are ∙ at) in
+      let placed = all_at (λ (c : LiveChannel). ArePlaced most c.part.made c.before c.after c.posts) live.rows k row.0 live.placed row.1 in
+      let few = few_placed row.0.posts placed.got placed.first in
+      record {
+        own = row.0.job;
+        at = ap (λ (js : List JobState). slice_get js k) (sym live.jobs_are) ∙ map_at (λ (c : LiveChannel). c.job) live.rows k row.0 row.1;
+        channel = ap (λ (j : JobState). j.channel) row.2;
+        items = subst (λ (j : JobState). most_items 0 j ≤ most_items most row.0.job) (sym row.2) (live_items most row.0.job row.0.posts (omega (arith, few, placed.few)));
+      }
 
   lives_long : length lives ≡ length jobs
   lives_long = ap length (sym live.lives_are) ∙ length-map live.rows live_job ∙ sym (length-map live.rows (λ (c : LiveChannel). c.job)) ∙ ap length live.jobs_are

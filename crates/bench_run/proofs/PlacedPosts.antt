@@ -64,11 +64,11 @@ module _ (most : ℕ) (before : Inbox) (job : JobState) where
   -- a post was received and placed at the next message
   pub one_placed : (m m' : MachineState) (p p' : Posts) (x : Post) → IsPosted most before job m p → 0 < p.left → p'.left + 1 ≡ p.left
       → received_by p'.inbox ≡ received_by p.inbox ++ x ∷ [] → times_empty p'.inbox ≡ times_empty p.inbox
-      → m' ≡ with_placed m (m.placed ++ at_next m x.address x.action ∷ []) → IsUnderWay m'
-      → ((actions : List Placed) → p.ordered.actions ≡ placed_up_to 1000000 actions → p'.ordered.actions ≡ placed_up_to 1000000 (actions ++ at_next m x.address x.action ∷ []))
+      → m' ≡ with_placed m (m.placed ++ at_next m x.action ∷ []) → IsUnderWay m'
+      → ((actions : List Placed) → p.ordered.actions ≡ placed_up_to 1000000 actions → p'.ordered.actions ≡ placed_up_to 1000000 (actions ++ at_next m x.action ∷ []))
       → IsPosted most before job m' p'
   one_placed m m' p p' x is some less received times moved under_way listed =
-      let y : Placed = at_next m x.address x.action in
+      let y : Placed = at_next m x.action in
       let same = is.all some in
       let grown : (job.actions ++ is.posts) ++ y ∷ [] ≡ job.actions ++ (is.posts ++ y ∷ []) = append_assoc job.actions is.posts (y ∷ []) in
       let long : length (map asked_by is.got) ≡ length is.posts = length-map is.got asked_by ∙ sym same in

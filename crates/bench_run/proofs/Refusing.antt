@@ -13,9 +13,9 @@ use Rattle.bench_run.proofs.Lives.{lives_are_jobs}
 
 module _ {S : Type 0} (taken : S → Option (List ℕ)) where
   pub ran_alone : (jobs : List JobState) (s : Settings) (inboxes : List Inbox) (before : S) (report : RunReport) (back : List Inbox) (after : S)
-      → RanLive taken 0 jobs s inboxes before report back after → Ran taken jobs s before report after
+      → RanLive taken 0 jobs s inboxes before report back after → Ran taken 0 jobs jobs s before report after
   ran_alone jobs s inboxes before report back after live =
-      subst (λ (js : List JobState). Ran taken js s before report after) (lives_are_jobs jobs inboxes back report.channels live.lives live.live) live.ran
+      subst (λ (js : List JobState). Ran taken 0 jobs js s before report after) (lives_are_jobs jobs inboxes back report.channels live.lives live.live) live.ran
 
   pub left_alone : (failures : S → ℕ) (jobs : List JobState) (s : Settings) (inboxes : List Inbox) (before : S) (e : RunError S) (back : List Inbox)
       → LeavesLate taken failures 0 jobs s inboxes before e back → LeavesRunInSink taken failures jobs s before e
@@ -26,7 +26,7 @@ module _ {S : Type 0} (taken : S → Option (List ℕ)) where
   left_alone failures jobs s inboxes before (fault.Sink sink report count) back left = record {
     lawful = left.lawful;
     failed = left.failed;
-    cut = subst (λ (js : List JobState). IsCut taken js s before report count sink) (lives_are_jobs jobs inboxes back report.channels left.lives left.live) left.cut;
+    cut = subst (λ (js : List JobState). IsCut taken 0 jobs js s before report count sink) (lives_are_jobs jobs inboxes back report.channels left.lives left.live) left.cut;
   }
 
   pub left_late : (failures : S → ℕ) (most : ℕ) (jobs : List JobState) (s : Settings)

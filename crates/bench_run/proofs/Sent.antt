@@ -1,6 +1,6 @@
 -- An entry, a controller and an inbox may go to another thread, and a job and a mailbox may be seen by one.
 use denote.RattleType.{RattleType}
-use denote.Param.Send.{IsSend, IsSync, sendable, number_array_send, view_send}
+use denote.Param.Send.{IsSend, IsSync, sendable, number_array_send, view_send, view_sync}
 use denote.Param.{ArrayAt}
 use denote.Param.SendFields.{declared_send, declared_sync, as_row_send}
 use denote.Struct.Field.{row_field}
@@ -13,6 +13,10 @@ use Rattle.mil_terminal.specs.contracts.blocks.Block as block
 use Rattle.mil_terminal.specs.contracts.terminals.Terminal as terminal
 use Rattle.mil_bus.specs.contracts.terminals.Terminals as terminals
 use Rattle.mil_bus.specs.contracts.buses.Bus as bus
+use Rattle.controller_host.specs.contracts.sources.Sources as sources
+use Rattle.bc_machine.specs.contracts.placed.HostAction as host_action
+use Rattle.bc_machine.specs.contracts.agenda.Agenda as agenda
+use Rattle.bc_machine.specs.contracts.agenda.Agenda.TheInside as agenda_inside
 use Rattle.bc_machine.specs.contracts.actions.Actions as actions
 use Rattle.bc_machine.specs.contracts.action_rows.Row as row
 use Rattle.bc_machine.specs.contracts.schedule.Schedule as schedule
@@ -60,11 +64,20 @@ terminals_send = search (terminal_send, sendable, crosses) depth 40 fits 10000
 bus_send : IsSend bus.the_row
 bus_send = search (terminals_send, sendable, crosses) depth 40 fits 10000
 
+host_action_send : IsSend host_action.the_row
+host_action_send = search (sendable, crosses) depth 40 fits 10000
+
+sources_send : IsSend sources.the_row
+sources_send = search (sendable, crosses) depth 40 fits 10000
+
 row_send : IsSend row.the_row
 row_send = search (sendable, crosses) depth 40 fits 10000
 
 schedule_send : IsSend schedule.the_row
-schedule_send = view_send schedule_inside.the_row _ _ _ _ (declared_send schedule_inside.the_type ((search (row_send, sendable, crosses) depth 40 fits 20000), ((search (row_send, sendable, crosses) depth 40 fits 20000), ((search (row_send, sendable, crosses) depth 40 fits 20000), ((search (row_send, sendable, crosses) depth 40 fits 20000), tt)))))
+schedule_send = view_send schedule_inside.the_row _ _ _ _ (declared_send schedule_inside.the_type ((search (row_send, sendable, crosses) depth 40 fits 20000), ((search (host_action_send, sendable, crosses) depth 40 fits 20000), ((search (row_send, sendable, crosses) depth 40 fits 20000), ((search (sendable, crosses) depth 40 fits 20000), ((search (sendable, crosses) depth 40 fits 20000), ((search (sources_send, sendable, crosses) depth 40 fits 20000), tt)))))))
+
+agenda_send : IsSend agenda.the_row
+agenda_send = view_send agenda_inside.the_row _ _ _ _ (declared_send agenda_inside.the_type ((search (schedule_send, sendable, crosses) depth 40 fits 20000), ((search (schedule_send, sendable, crosses) depth 40 fits 20000), ((search (sendable, crosses) depth 40 fits 20000), ((search (sendable, crosses) depth 40 fits 20000), ((search (sendable, crosses) depth 40 fits 20000), ((search (sendable, crosses) depth 40 fits 20000), tt)))))))
 
 -- a stack, where what is in it may go
 stack_send : (T N : RattleType) (given : Ghosts T.Denot) → IsSend T → IsSend (stack.the_row T N given)
@@ -76,10 +89,10 @@ outcome_send : IsSend outcome.the_row
 outcome_send = search (sendable, crosses) depth 40 fits 10000
 
 progress_send : IsSend progress.the_row
-progress_send = declared_send progress.the_type ((search (sendable, crosses) depth 40 fits 20000), ((search (sendable, crosses) depth 40 fits 20000), ((search (stack_send, sendable, crosses) depth 40 fits 20000), ((search (stack_send, sendable, crosses) depth 40 fits 20000), ((search (stack_send, sendable, crosses) depth 40 fits 20000), ((search (sendable, crosses) depth 40 fits 20000), ((search (sendable, crosses) depth 40 fits 20000), ((search (sendable, crosses) depth 40 fits 20000), ((search (sendable, crosses) depth 40 fits 20000), ((search (outcome_send, sendable, crosses) depth 40 fits 20000), tt))))))))))
+progress_send = declared_send progress.the_type ((search (sendable, crosses) depth 40 fits 20000), ((search (sendable, crosses) depth 40 fits 20000), ((search (stack_send, sendable, crosses) depth 40 fits 20000), ((search (stack_send, sendable, crosses) depth 40 fits 20000), ((search (stack_send, sendable, crosses) depth 40 fits 20000), ((search (sendable, crosses) depth 40 fits 20000), ((search (sendable, crosses) depth 40 fits 20000), ((search (sendable, crosses) depth 40 fits 20000), ((search (outcome_send, sendable, crosses) depth 40 fits 20000), ((search (outcome_send, sendable, crosses) depth 40 fits 20000), tt))))))))))
 
 parts_send : IsSend parts.the_row
-parts_send = view_send parts_inside.the_row _ _ _ _ (declared_send parts_inside.the_type ((search (program_send, sendable, crosses) depth 40 fits 20000), ((search (plan_send, sendable, crosses) depth 40 fits 20000), ((search (schedule_send, sendable, crosses) depth 40 fits 20000), ((search (schedule_send, sendable, crosses) depth 40 fits 20000), ((search (sendable, crosses) depth 40 fits 20000), ((search (progress_send, sendable, crosses) depth 40 fits 20000), ((search (bus_send, sendable, crosses) depth 40 fits 20000), ((search (sendable, crosses) depth 40 fits 20000), tt)))))))))
+parts_send = view_send parts_inside.the_row _ _ _ _ (declared_send parts_inside.the_type ((search (program_send, sendable, crosses) depth 40 fits 20000), ((search (plan_send, sendable, crosses) depth 40 fits 20000), ((search (agenda_send, sendable, crosses) depth 40 fits 20000), ((search (sendable, crosses) depth 40 fits 20000), ((search (progress_send, sendable, crosses) depth 40 fits 20000), ((search (bus_send, sendable, crosses) depth 40 fits 20000), ((search (sendable, crosses) depth 40 fits 20000), tt))))))))
 
 pub machine_send : IsSend machine.the_row
 machine_send = search (parts_send, sendable, crosses) depth 40 fits 10000
@@ -87,11 +100,20 @@ machine_send = search (parts_send, sendable, crosses) depth 40 fits 10000
 program_sync : IsSync program.the_row
 program_sync = search (sendable, crosses) depth 40 fits 10000
 
+host_action_sync : IsSync host_action.the_row
+host_action_sync = search (sendable, crosses) depth 40 fits 10000
+
+sources_sync : IsSync sources.the_row
+sources_sync = search (sendable, crosses) depth 40 fits 10000
+
 row_sync : IsSync row.the_row
 row_sync = search (sendable, crosses) depth 40 fits 10000
 
+schedule_sync : IsSync schedule.the_row
+schedule_sync = view_sync schedule_inside.the_row _ _ _ _ (declared_sync schedule_inside.the_type ((search (row_sync, sendable, crosses) depth 40 fits 20000), ((search (host_action_sync, sendable, crosses) depth 40 fits 20000), ((search (row_sync, sendable, crosses) depth 40 fits 20000), ((search (sendable, crosses) depth 40 fits 20000), ((search (sendable, crosses) depth 40 fits 20000), ((search (sources_sync, sendable, crosses) depth 40 fits 20000), tt)))))))
+
 actions_sync : IsSync actions.the_row
-actions_sync = search (row_sync, sendable, crosses) depth 40 fits 10000
+actions_sync = search (schedule_sync, sendable, crosses) depth 40 fits 10000
 
 plan_sync : IsSync plan.the_row
 plan_sync = search (maps.crosses, sendable, crosses) depth 40 fits 10000
@@ -100,7 +122,7 @@ pub job_sync : IsSync job.the_row
 job_sync = search (program_sync, actions_sync, plan_sync, sendable, crosses) depth 40 fits 10000
 
 post_send : IsSend post.the_row
-post_send = search (sendable, crosses) depth 40 fits 10000
+post_send = declared_send post.the_type (search (sendable, crosses) depth 40 fits 10000, (host_action_send, tt))
 
 taker_send : IsSend (taker.the_row post.the_row)
 taker_send = search (post_send, seat.the_send, sendable, crosses) depth 40 fits 10000

@@ -98,7 +98,7 @@ pub last_stage : (trunk : Trunk Entry) (given : Ticket Entry) (index : ℕ) (job
     → RecordsOfferedSoFar trunk (tags_of given) (bounds_of given) index job made t refused → made ≡ length (records_of job)
     → IsTicketOf trunk s → tags_of s ≡ tags_of t → bounds_of s ≡ bounds_of t → sent s ≡ sent t ++ entry.End index ∷ []
     → part.channel ≡ job.channel → part.made ≡ made → part.refused ≡ refused → part.placed ≡ placed_up_to made job.actions
-    → job.channel ≤ 65535 → made ≤ 1000000 → made < most_items job
+    → job.channel ≤ 65535 → made ≤ 1000000 → made < most_items 0 job
     → AllOffered trunk given index job s part
 last_stage trunk given index job made t s refused part st whole ours tags bounds more channel_is made_is refused_is placed_is channel_high made_high within =
     let rs : List Record = records_of job in

@@ -19,13 +19,13 @@ use Rattle.bench_run.specs.Threads.{HasOnly}
 
 -- ---- bounds
 
-one_more : (j : JobState) (jobs : List JobState) → most_in_all (j ∷ jobs) ≡ most_items j + most_in_all jobs
-one_more j jobs = sum_by-cons (λ n. n) (most_items j) (map most_items jobs)
+one_more : (most : ℕ) (j : JobState) (jobs : List JobState) → most_in_all most (j ∷ jobs) ≡ most_items most j + most_in_all most jobs
+one_more most j jobs = sum_by-cons (λ n. n) (most_items most j) (map (most_items most) jobs)
 
-pub bound_at : (jobs : List JobState) (k : ℕ) (job : JobState) → slice_get jobs k ≡ Some job → bound_of (map most_items jobs) k ≡ most_items job
-bound_at [] k job at = absurd cc
-bound_at (j ∷ jobs) zero job at = let is : j ≡ job = cc in ap most_items is
-bound_at (j ∷ jobs) (suc k) job at = bound_at jobs k job at
+pub bound_at : (most : ℕ) (jobs : List JobState) (k : ℕ) (job : JobState) → slice_get jobs k ≡ Some job → bound_of (map (most_items most) jobs) k ≡ most_items most job
+bound_at most [] k job at = absurd cc
+bound_at most (j ∷ jobs) zero job at = let is : j ≡ job = cc in ap (most_items most) is
+bound_at most (j ∷ jobs) (suc k) job at = bound_at most jobs k job at
 
 apart_at : (channel : ℕ) (jobs : List JobState) (k : ℕ) (job : JobState) → AllByRecursion (λ other. other ≢ channel) (channels_of jobs) → slice_get jobs k ≡ Some job → job.channel ≢ channel
 apart_at channel [] k job apart at = absurd cc
@@ -37,25 +37,25 @@ no_other : (channel : ℕ) (jobs : List JobState) → AllByRecursion (λ other. 
 no_other channel [] apart = refl
 no_other channel (j ∷ jobs) apart = rw (ne_eqb j.channel channel apart.0) (ap (λ (l : List JobState). j ∷ l) (no_other channel jobs apart.1))
 
-pub own_and_others : (jobs : List JobState) (k : ℕ) (job : JobState) → AreDistinct (channels_of jobs) → slice_get jobs k ≡ Some job
-    → most_in_all jobs ≡ most_items job + most_in_all (others_than job.channel jobs)
-own_and_others [] k job distinct at = absurd cc
-own_and_others (j ∷ jobs) zero job distinct at =
+pub own_and_others : (most : ℕ) (jobs : List JobState) (k : ℕ) (job : JobState) → AreDistinct (channels_of jobs) → slice_get jobs k ≡ Some job
+    → most_in_all most jobs ≡ most_items most job + most_in_all most (others_than job.channel jobs)
+own_and_others most [] k job distinct at = absurd cc
+own_and_others most (j ∷ jobs) zero job distinct at =
     let is : j ≡ job = cc in
-    one_more j jobs ∙ subst (λ (x : JobState). most_items j + most_in_all jobs ≡ most_items x + most_in_all (others_than x.channel (j ∷ jobs))) is
+    one_more most j jobs ∙ subst (λ (x : JobState). most_items most j + most_in_all most jobs ≡ most_items most x + most_in_all most (others_than x.channel (j ∷ jobs))) is
     (rw (eq-eqb j.channel j.channel refl, no_other j.channel jobs distinct.0) refl)
-own_and_others (j ∷ jobs) (suc k) job distinct at =
-    let rest = own_and_others jobs k job distinct.1 at in
+own_and_others most (j ∷ jobs) (suc k) job distinct at =
+    let rest = own_and_others most jobs k job distinct.1 at in
     let ne : j.channel ≢ job.channel = λ e. apart_at j.channel jobs k job distinct.0 at (sym e) in
-    rw (ne_eqb j.channel job.channel ne) (omega (arith, rest, one_more j jobs, one_more j (others_than job.channel jobs)))
+    rw (ne_eqb j.channel job.channel ne) (omega (arith, rest, one_more most j jobs, one_more most j (others_than job.channel jobs)))
 
 -- for the ticket of one tag the bounds of the others are those of the other channels
-pub others_bounds : (jobs : List JobState) (k tags : ℕ) (job : JobState) → AreDistinct (channels_of jobs) → slice_get jobs k ≡ Some job → HasOnly k tags
-    → bounds_outside tags (map most_items jobs) ≡ most_in_all (others_than job.channel jobs)
-others_bounds jobs k tags job distinct at only =
-    let all = bounds_outside-one k tags (map most_items jobs) only.0 only.1 in
-    let mine = own_and_others jobs k job distinct at in
-    omega (arith, all, mine, bound_at jobs k job at)
+pub others_bounds : (most : ℕ) (jobs : List JobState) (k tags : ℕ) (job : JobState) → AreDistinct (channels_of jobs) → slice_get jobs k ≡ Some job → HasOnly k tags
+    → bounds_outside tags (map (most_items most) jobs) ≡ most_in_all most (others_than job.channel jobs)
+others_bounds most jobs k tags job distinct at only =
+    let all = bounds_outside-one k tags (map (most_items most) jobs) only.0 only.1 in
+    let mine = own_and_others most jobs k job distinct at in
+    omega (arith, all, mine, bound_at most jobs k job at)
 
 -- ---- entries of one index
 

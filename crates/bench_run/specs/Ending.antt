@@ -26,8 +26,9 @@ use Rattle.bench_run.specs.Live.{AreLive, AreInboxesOf, RanLiveOrLeft}
 use Rattle.bench_run.specs.Writer.{IsRunLogged}
 
 -- what the writer received: of each job its records but for the refused, and its end mark, and nothing else
-pub record IsAll (capacity : ℕ) (jobs : List JobState) (parts : List ChannelPart) (got : List Entry) : Type 0 where
-  pub counted : ArePairs (IsCountedIn capacity jobs) jobs parts
+pub record IsAll (capacity most : ℕ) (given jobs : List JobState) (parts : List ChannelPart)
+    (got : List Entry) : Type 0 where
+  pub counted : ArePairs (IsCountedIn capacity most given) jobs parts
   pub own : (k : ℕ) (job : JobState) (part : ChannelPart) → slice_get jobs k ≡ Some job → slice_get parts k ≡ Some part
       → with_tag index_of k got ≡ entries_to_the_end k (kept_records part.refused (records_of job))
   pub others : (t : ℕ) → length jobs ≤ t → with_tag index_of t got ≡ []
@@ -37,7 +38,7 @@ pub record IsAllLive (capacity most : ℕ) (jobs : List JobState) (before after 
     (got : List Entry) : Type 0 where
   pub lives : List JobState
   pub live : AreLive most jobs before after parts lives
-  pub all : IsAll capacity lives parts got
+  pub all : IsAll capacity most jobs lives parts got
 
 -- What a run begins with: a trunk of the queue's capacity with nothing in it, the ticket of all tags and the taker, a
 -- thread's room for each job with its inbox, and the jobs' channels.
@@ -49,9 +50,9 @@ pub record IsReady (capacity : ℕ) (jobs : List JobState) (most : ℕ) (inboxes
   pub unsent : sent own.ticket ≡ []
   pub unreceived : received own.taker ≡ []
   pub tags : (t : ℕ) → t < 64 → has (tags_of own.ticket) t ≡ true
-  pub bounds : bounds_of own.ticket ≡ map most_items jobs
-  pub taker_bounds : bounds_in own.taker ≡ map most_items jobs
-  pub few : most_in_all jobs ≤ 32000032
+  pub bounds : bounds_of own.ticket ≡ map (most_items most) jobs
+  pub taker_bounds : bounds_in own.taker ≡ map (most_items most) jobs
+  pub few : most_in_all most jobs ≤ 34097184
   pub rooms : ArePairs IsRoom jobs own.rooms.items
   pub inboxes_are : map (λ (room : Room). room.posts.inbox) own.rooms.items ≡ inboxes
   pub most_are : AllByRecursion (λ (room : Room). room.posts.left ≡ most) own.rooms.items

@@ -6,7 +6,7 @@ use Rattle.std.specs.Prelude.{Option, Some}
 use Rattle.std.specs.Prelude.{Result, IfOk, IfErr}
 use Rattle.std.specs.Global.{Vec}
 use Rattle.std.specs.List.{AllByRecursion}
-use Rattle.mil_host.specs.declared.actions.Action.{Action}
+use Rattle.bc_machine.specs.declared.placed.HostAction.{HostAction}
 use Rattle.bc_machine.specs.declared.placed.Placed.{Placed}
 use Rattle.job_file.specs.Jobs.{JobState}
 use Rattle.bench_report.specs.Reports.{ChannelPart, RunReport, NeverFalls}
@@ -32,12 +32,12 @@ with_posts job posts = record {
   script = job.script;
 }
 
--- what is asked of which terminal
-abbrev pub asked_by : Post → ℕ × Action
-asked_by p = (p.address, p.action)
+-- what is asked for
+abbrev pub asked_by : Post → HostAction
+asked_by p = p.action
 
-abbrev pub asked_at : Placed → ℕ × Action
-asked_at p = (p.address, p.action)
+abbrev pub asked_at : Placed → HostAction
+asked_at p = p.action
 
 -- What became of the posts of a channel that made so many messages, where at most `most` are taken: those that were
 -- received in the run were placed, in that order and each once, from the first on, all but the last at most, at numbers
@@ -92,7 +92,7 @@ pub record RanLive {S : Type 0} (taken : S → Option (List ℕ)) (most : ℕ) (
     (inboxes : List Inbox) (before : S) (report : RunReport) (back : List Inbox) (after : S) : Type 0 where
   pub lives : List JobState
   pub live : AreLive most jobs inboxes back report.channels lives
-  pub ran : Ran taken lives s before report after
+  pub ran : Ran taken most jobs lives s before report after
 
 -- U3: as of a run, and no inbox comes back
 pub record LeavesNoInbox {S : Type 0} (taken : S → Option (List ℕ)) (jobs : List JobState) (s : Settings)
@@ -108,7 +108,7 @@ pub record LeavesSinkLive {S : Type 0} (taken : S → Option (List ℕ)) (failur
   pub failed : failures before < failures sink
   pub lives : List JobState
   pub live : AreLive most jobs inboxes back report.channels lives
-  pub cut : IsCut taken lives s before report count sink
+  pub cut : IsCut taken most jobs lives s before report count sink
 
 -- What a refusal of what may be run says and leaves: for want of memory no inbox comes back; what was taken from them
 -- before the sink failed stays taken.
@@ -127,7 +127,7 @@ pub record RanLiveOrLeft {S : Type 0} (taken : S → Option (List ℕ)) (failure
     (answer : Result (RunReport × Vec Inbox × S) (LiveError S)) : Type 0 where
   pub ran : IfOk answer (λ r. RanLive taken most jobs s inboxes before r.0 r.1.items r.2)
   pub ends : IfOk answer (λ r. AreInboxesOf boxes r.1.items)
-  pub room : IfOk answer (λ r. RefusesNoneWithRoom jobs s r.0)
+  pub room : IfOk answer (λ r. RefusesNoneWithRoom most jobs s r.0)
   pub refused : IfErr answer (λ e. LeavesLate taken failures most jobs s inboxes before e.fault e.inboxes.items)
   pub back : IfErr answer (λ e. AreInboxesOf boxes e.inboxes.items)
 

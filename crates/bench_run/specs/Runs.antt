@@ -28,9 +28,9 @@ use Rattle.bench_run.specs.declared.error.RunError.TheVariants as fault
 abbrev pub records_of : JobState → List Record
 records_of job = records (job_in job) job.actions
 
--- how many items the jobs offer together at most
-abbrev pub most_in_all : List JobState → ℕ
-most_in_all jobs = sum (map most_items jobs)
+-- how many items the jobs offer together at most, where up to so many actions are posted to each
+abbrev pub most_in_all : ℕ → List JobState → ℕ
+most_in_all posts jobs = sum (map (most_items posts) jobs)
 
 -- the jobs of the other channels
 abbrev pub others_than : ℕ → List JobState → List JobState
@@ -43,8 +43,8 @@ kept_below number refused job = length (kept_records refused (take (number - 1) 
 -- A job and its channel's part of the report: all of its messages were made, and the actions placed at them are the
 -- job's; the items taken of the channel are those messages, in order and once, but for the refused, and its end mark. A
 -- message is refused only where the queue may be full: its capacity is at most what the channel kept before and what
--- the others may have sent.
-pub record IsPartOf (jobs : List JobState) (s : Settings) (items : List Item) (job : JobState)
+-- the others of the jobs that were given may have sent.
+pub record IsPartOf (posts : ℕ) (given : List JobState) (s : Settings) (items : List Item) (job : JobState)
     (part : ChannelPart) : Type 0 where
   pub channel : part.channel ≡ job.channel
   pub made : part.made ≡ length (records_of job)
@@ -52,7 +52,7 @@ pub record IsPartOf (jobs : List JobState) (s : Settings) (items : List Item) (j
   pub rising : Rises 0 part.made part.refused
   pub taken : part_of job.channel items ≡ to_the_end job.channel (kept_records part.refused (records_of job))
   pub full : AllByRecursion (λ n. s.queue
-      ≤ kept_below n part.refused job + most_in_all (others_than job.channel jobs)) part.refused
+      ≤ kept_below n part.refused job + most_in_all posts (others_than job.channel given)) part.refused
 
 -- what the file gives for the channel are these records
 abbrev pub IsReadAs : List Found → JobState → ChannelPart → Type 0
@@ -72,13 +72,15 @@ IsOtherChannel jobs channel = AllByRecursion (λ c. c ≢ channel) (channels_of 
 
 -- A finished run: one list of items was taken, each of them with a channel and a message that fit a packet, none of
 -- them of another channel than the jobs', and the bytes are their file, which is readable and gives each channel's
--- messages, and none of another channel.
-pub record IsRun (jobs : List JobState) (s : Settings) (report : RunReport) (bytes : List ℕ) : Type 0 where
+-- messages, and none of another channel. The jobs are those that were given, with the posts that were placed; how much
+-- of the queue a channel may take hangs on the jobs as they were given.
+pub record IsRun (posts : ℕ) (given jobs : List JobState) (s : Settings) (report : RunReport)
+    (bytes : List ℕ) : Type 0 where
   pub items : List Item
   pub format : IsFormat (format_of s)
   pub sound : AllByRecursion IsItem items
   pub file : bytes ≡ written_file (format_of s) s.prologue.items items
-  pub parts : ArePairs (IsPartOf jobs s items) jobs report.channels
+  pub parts : ArePairs (IsPartOf posts given s items) jobs report.channels
   pub others : (channel : ℕ) → IsOtherChannel jobs channel → part_of channel items ≡ []
   pub packets : report.packets ≡ length (closed_packets (format_of s) items)
   pub found : List Found
@@ -87,14 +89,15 @@ pub record IsRun (jobs : List JobState) (s : Settings) (report : RunReport) (byt
   pub silent : (channel : ℕ) → IsOtherChannel jobs channel → reading found channel ≡ []
 
 -- a queue with room for all that the jobs may send refuses none
-abbrev pub RefusesNoneWithRoom : List JobState → Settings → RunReport → Type 0
-RefusesNoneWithRoom jobs s report = most_in_all jobs ≤ s.queue
+abbrev pub RefusesNoneWithRoom : ℕ → List JobState → Settings → RunReport → Type 0
+RefusesNoneWithRoom posts jobs s report = most_in_all posts jobs ≤ s.queue
     → AllByRecursion (λ part. part.refused ≡ []) report.channels
 
 -- the sink took the file of a finished run
-abbrev pub Ran : {S : Type 0} → (S → Option (List ℕ)) → List JobState → Settings → S → RunReport → S → Type 0
-Ran taken jobs s before report after = (bytes : List ℕ) × Appends (taken before) (taken after) bytes
-    × IsRun jobs s report bytes
+abbrev pub Ran : {S : Type 0} → (S → Option (List ℕ)) → ℕ → List JobState → List JobState → Settings → S → RunReport
+    → S → Type 0
+Ran taken posts given jobs s before report after = (bytes : List ℕ) × Appends (taken before) (taken after) bytes
+    × IsRun posts given jobs s report bytes
 
 -- the sink took the first bytes of the file of some items
 abbrev pub TookPart : {S : Type 0} → (S → Option (List ℕ)) → Settings → List Item → ℕ → S → S → Type 0
@@ -103,12 +106,12 @@ TookPart taken s items count before after = Appends (taken before) (taken after)
 
 -- A run whose sink failed: all items were taken and the report tells of them, with the packets that the sink took
 -- whole. What it took is no longer than the file.
-pub record IsCut {S : Type 0} (taken : S → Option (List ℕ)) (jobs : List JobState) (s : Settings) (before : S)
-    (report : RunReport) (count : ℕ) (after : S) : Type 0 where
+pub record IsCut {S : Type 0} (taken : S → Option (List ℕ)) (posts : ℕ) (given jobs : List JobState) (s : Settings)
+    (before : S) (report : RunReport) (count : ℕ) (after : S) : Type 0 where
   pub items : List Item
   pub bytes : TookPart taken s items count before after
   pub within : count ≤ length (written_file (format_of s) s.prologue.items items)
-  pub parts : ArePairs (IsPartOf jobs s items) jobs report.channels
+  pub parts : ArePairs (IsPartOf posts given s items) jobs report.channels
   pub others : (channel : ℕ) → IsOtherChannel jobs channel → part_of channel items ≡ []
   pub packets : report.packets ≡ whole_packets (count - length s.prologue.items) (closed_packets (format_of s) items)
 
@@ -143,7 +146,7 @@ pub record LeavesSink {S : Type 0} (taken : S → Option (List ℕ)) (failures :
     (s : Settings) (before sink : S) (report : RunReport) (count : ℕ) : Type 0 where
   pub lawful : AreLawful jobs s
   pub failed : failures before < failures sink
-  pub cut : IsCut taken jobs s before report count sink
+  pub cut : IsCut taken 0 jobs jobs s before report count sink
 
 -- What a refusal says and leaves: U2, U1 and U5 put nothing into the sink; U3 and U4 come only where none of these does
 -- and leave a part of a recording there, and U4 stands only where the sink failed.
@@ -161,6 +164,6 @@ LeavesRunInSink taken failures jobs s before (fault.Sink sink report count) =
 pub record RanOrLeft {S : Type 0} (taken : S → Option (List ℕ)) (failures : S → ℕ) (jobs : List JobState) (s : Settings)
     (before : S) (answer : Result (RunReport × S) (RunError S)) : Type 0 where
   pub lawful : OnOk answer (AreLawful jobs s)
-  pub ran : IfOk answer (λ r. Ran taken jobs s before r.0 r.1)
-  pub room : IfOk answer (λ r. RefusesNoneWithRoom jobs s r.0)
+  pub ran : IfOk answer (λ r. Ran taken 0 jobs jobs s before r.0 r.1)
+  pub room : IfOk answer (λ r. RefusesNoneWithRoom 0 jobs s r.0)
   pub refused : IfErr answer (LeavesRunInSink taken failures jobs s before)

@@ -10,9 +10,7 @@ use Rattle.mil_trunk.specs.declared.trunk.Ticket.{Ticket}
 use Rattle.mil_trunk.specs.Tags.{has, bound_of, bounds_outside}
 use Rattle.mil_trunk.specs.Views.{with_tag}
 use Rattle.mil_trunk.specs.Ends.{IsTicketOf, capacity_of, tags_of, bounds_of, sent}
-use Rattle.frame_asm.specs.Shapes.{code_of_tree}
-use Rattle.frame_load.specs.Budget.{worst_messages}
-use Rattle.job_file.specs.Jobs.{JobState, tree_in, job_in}
+use Rattle.job_file.specs.Jobs.{JobState, job_in}
 use Rattle.job_file.specs.Machines.{IsOf}
 use Rattle.ch11_builder.specs.Recorded.{IsRecorded}
 use Rattle.ch11_recording.specs.Items.{numbered}
@@ -42,15 +40,16 @@ pub record IsThreadReport (capacity others : ℕ) (job : JobState) (part : Chann
   pub channel_high : job.channel ≤ 65535
   pub made : part.made ≡ length (records_of job)
   pub made_high : part.made ≤ 1000000
-  pub within : length (records_of job) < most_items job
+  pub within : length (records_of job) < most_items 0 job
   pub placed : part.placed ≡ placed_up_to part.made job.actions
   pub rising : Rises 0 part.made part.refused
   pub full : AllByRecursion (λ n. capacity ≤ kept_below n part.refused job + others) part.refused
   pub recorded : AllByRecursion (λ m. IsRecorded (numbered 0 m)) (records_of job)
 
--- a job of a run and what its thread reports
-abbrev pub IsCountedIn : ℕ → List JobState → JobState → ChannelPart → Type 0
-IsCountedIn capacity jobs job part = IsThreadReport capacity (most_in_all (others_than job.channel jobs)) job part
+-- a job of a run and what its thread reports, where these are the jobs that were given
+abbrev pub IsCountedIn : ℕ → ℕ → List JobState → JobState → ChannelPart → Type 0
+IsCountedIn capacity posts given job part =
+    IsThreadReport capacity (most_in_all posts (others_than job.channel given)) job part
 
 -- Each record of a job was offered once, in order: its ticket sent those that were not refused, and then the end mark.
 -- `given` is the ticket as the thread got it.
@@ -95,7 +94,7 @@ pub record IsRoom (job : JobState) (room : Room) : Type 0 where
   pub machine : IsOf (job_in job) job.actions room.machine
   pub first : room.machine.point.number ≡ 0
   pub empty : room.refused.items ≡ []
-  pub capacity : worst_messages (code_of_tree (tree_in job)).operations ≤ vec_capacity room.refused
+  pub capacity : most_items room.posts.left job ≤ vec_capacity room.refused
   pub ordered : room.posts.ordered.actions ≡ placed_up_to 1000000 job.actions
   pub fit : IsOrdered room.posts.ordered.actions
 
@@ -106,7 +105,7 @@ pub record MayOffer (trunk : Trunk Entry) (ticket : Ticket Entry) (index : ℕ) 
   pub ours : IsTicketOf trunk ticket
   pub unsent : sent ticket ≡ []
   pub tag : has (tags_of ticket) index ≡ true
-  pub bound : bound_of (bounds_of ticket) index ≡ most_items job
+  pub bound : bound_of (bounds_of ticket) index ≡ most_items room.posts.left job
   pub fits : IsRoom job room
   pub inbox : IsInboxOf box room.posts.inbox
 
@@ -167,13 +166,13 @@ AreEnded capacity entries jobs most boxes inboxes joined =
     (k : ℕ) (j : Joined) → slice_get joined k ≡ Some j
     → (job : JobState) (box : Mailbox) (before : Inbox) → slice_get jobs k ≡ Some job → slice_get boxes k ≡ Some box
     → slice_get inboxes k ≡ Some before
-    → IsThreadEnded capacity (most_in_all (others_than job.channel jobs)) k job box most before j
+    → IsThreadEnded capacity (most_in_all most (others_than job.channel jobs)) k job box most before j
     (with_tag index_of k entries)
 
 -- Each job whose thread was joined has the part of it, and the entries of its index are its records but for the
 -- refused, and then its end mark.
-abbrev pub AreJoined : ℕ → List Entry → List JobState → List ChannelPart → Type 0
-AreJoined capacity entries jobs parts =
+abbrev pub AreJoined : ℕ → ℕ → List Entry → List JobState → List JobState → List ChannelPart → Type 0
+AreJoined capacity most entries given jobs parts =
     (k : ℕ) (job : JobState) (part : ChannelPart) → slice_get jobs k ≡ Some job → slice_get parts k ≡ Some part
-    → IsCountedIn capacity jobs job part
+    → IsCountedIn capacity most given job part
     × (with_tag index_of k entries ≡ entries_to_the_end k (kept_records part.refused (records_of job)))

@@ -9,10 +9,9 @@ ghost use Rattle.bench_run.specs.Posted.{IsPosted};
 ghost use Rattle.job_file.specs.Jobs.{JobState};
 ghost use Rattle.std.specs.Prelude.{◌≡◌, ◌<◌, ◌≤◌, ◌+◌, ◌-◌, ◌^◌, min, ◌++◌, ◌∷◌, [], ℕ, List, IsTrue, IsFalse};
 
-use bc_machine::{Machine, Placed, Schedule};
+use bc_machine::{HostAction, Machine, Placed, Schedule};
 use bench_mail::{Inbox, Mailbox, Post};
-use bench_settings::add_action;
-use mil_word::fields::HIGHEST_ADDRESS;
+use bench_settings::{add_action, is_for_place};
 use std::sync::Wait;
 
 /// A channel makes at most so many messages.
@@ -68,28 +67,23 @@ impl Posts {
         ensures ordered { IsOrdered self.new.ordered.actions }
         ensures placed { IsTrue result
             → (machine.new ≡ with_placed machine.old
-            (machine.old.placed ++ at_next machine.old post.address post.action ∷ [])) × IsUnderWay machine.new }
+            (machine.old.placed ++ at_next machine.old post.action ∷ [])) × IsUnderWay machine.new }
         ensures listed { (actions : List Placed) → IsTrue result
             → self.old.ordered.actions ≡ placed_up_to 1000000 actions
             → self.new.ordered.actions
-            ≡ placed_up_to 1000000 (actions ++ at_next machine.old post.address post.action ∷ []) }
+            ≡ placed_up_to 1000000 (actions ++ at_next machine.old post.action ∷ []) }
         ensures same { IsFalse result → (machine.new ≡ machine.old)
             × (self.new.ordered.actions ≡ self.old.ordered.actions) }
     {
-        let Post {
-            address,
-            action,
-            ..
-        } = post;
-        if address > HIGHEST_ADDRESS || self.ordered.len() >= self.ordered.capacity() {
+        let Post { action, .. } = post;
+        if !is_for_place(&action) || self.ordered.len() >= self.ordered.capacity() {
             return false;
         }
         let one = Placed {
             number: machine.number() + 1,
-            address,
             action: action.copy(),
         };
-        match machine.place(address, action) {
+        match machine.place(action) {
             Ok(()) => {
                 add_action(&mut self.ordered, one);
                 true

@@ -1,7 +1,7 @@
 //! What a run needs before its threads start.
-ghost use Rattle.bench_settings.specs.Lawful.{channels_of};
+ghost use Rattle.bench_settings.specs.Lawful.{channels_of, most_posts};
 ghost use Rattle.bench_run.specs.Ending.{IsReady};
-ghost use Rattle.std.specs.Prelude.{◌≡◌, ◌≤◌, length, vec_len, All, IfOk};
+ghost use Rattle.std.specs.Prelude.{◌≡◌, ◌≤◌, length, vec_len, IfOk};
 
 use crate::channel::Room;
 use crate::entry::Entry;
@@ -36,10 +36,11 @@ pub(crate) fn ready(
     inboxes: Vec<Inbox>,
 ) -> Result<(Shared, Own), AllocError>
     requires few { length jobs.now ≤ 32 }
+    requires most { most ≤ most_posts }
     requires inboxes { length jobs.now ≡ vec_len inboxes }
     ensures { IfOk result (λ r. IsReady queue jobs.now most inboxes.items r.0.trunk r.0.channels.items r.1) }
 {
-    let bounds = bounds(alloc, jobs)?;
+    let bounds = bounds(alloc, jobs, most)?;
     let rooms = rooms(alloc, jobs, most, inboxes)?;
     let channels = channels(alloc, jobs)?;
     match Trunk::make(alloc, queue, &bounds) {

@@ -1,10 +1,10 @@
 //! Jobs on threads of their own, and one recording of them all; with posts of hosts, or without.
-ghost use Rattle.bench_settings.specs.Lawful.{AreLawful};
+ghost use Rattle.bench_settings.specs.Lawful.{AreLawful, most_posts};
 ghost use Rattle.bench_mail.specs.Mail.{IsMadeFor};
 ghost use Rattle.bench_mail.specs.declared.mailbox.Mailbox.{Mailbox};
 ghost use Rattle.bench_run.specs.Live.{AreInboxesOf, HaveMail, RanLive, RanLiveOrLeft, LeavesLive};
 ghost use Rattle.bench_run.specs.Runs.{ArePairs, Ran, RefusesNoneWithRoom, LeavesRunInSink};
-ghost use Rattle.std.specs.Prelude.{◌≡◌, ◌-◌, ◌<◌, ◌^◌, length, vec_len, IfOk, IfErr, OnOk, IsTrue};
+ghost use Rattle.std.specs.Prelude.{◌≡◌, ◌-◌, ◌<◌, ◌≤◌, ◌^◌, length, vec_len, IfOk, IfErr, OnOk, IsTrue};
 
 use crate::channel::Context;
 use crate::ending::Before;
@@ -41,6 +41,7 @@ fn run_lawful<'b, R: Threads + Wait + Sync, G: Gate, S: Sink + Drop>(
     sink: S,
 ) -> Result<(Report, Vec<Inbox>, S), LiveError<S>>
     requires lawful { AreLawful jobs.now settings.now }
+    requires most { mail.most ≤ most_posts }
     requires countable { S.failures sink < 2 ^ 64 - 1 }
     requires boxes { length mail.boxes.now ≡ length jobs.now }
     requires inboxes { length jobs.now ≡ vec_len mail.inboxes }
@@ -121,8 +122,8 @@ pub fn run<R: Threads + Wait + Sync, G: Gate, S: Sink + Drop>(
 ) -> Result<(Report, S), RunError<S>>
     requires countable { S.failures sink < 2 ^ 64 - 1 }
     ensures lawful { OnOk result (AreLawful jobs.now settings.now) }
-    ensures ran { IfOk result (λ r. Ran S.taken jobs.now settings.now sink r.0 r.1) }
-    ensures room { IfOk result (λ r. RefusesNoneWithRoom jobs.now settings.now r.0) }
+    ensures ran { IfOk result (λ r. Ran S.taken 0 jobs.now jobs.now settings.now sink r.0 r.1) }
+    ensures room { IfOk result (λ r. RefusesNoneWithRoom 0 jobs.now settings.now r.0) }
     ensures refused { IfErr result (LeavesRunInSink S.taken S.failures jobs.now settings.now sink) }
 {
     match judge(jobs, settings) {
@@ -174,12 +175,12 @@ fn are_for(jobs: &[Job], boxes: &[Mailbox]) -> bool
     true
 }
 
-/// Runs the jobs as `run` does, while hosts post actions for their terminals. Before each message a channel's thread
-/// takes posts from its mailbox until that is empty or `posts` of them were taken in this run; each acts at that
-/// message, behind what the job placed there. One that is taken behind the last message acts nowhere, and the report
-/// leaves it out. It refuses as `run` does, and U2 also stands where there are not a mailbox and an inbox for each job,
-/// in the order of the jobs and made for its channel and terminals. The inboxes come back in their order, but for U3;
-/// after U4 what was taken stays taken. Condition: each inbox was made with the mailbox at its place.
+/// Runs the jobs as `run` does, while hosts post actions, for terminals and controllers. Before each message a
+/// channel's thread takes posts from its mailbox until that is empty or `posts` of them were taken in this run; each
+/// acts at that message, behind what the job placed there. One that is taken behind the last message acts nowhere, and
+/// the report leaves it out. It refuses as `run` does, and U2 also stands where there are not a mailbox and an inbox
+/// for each job, in the order of the jobs and made for its channel and terminals. The inboxes come back in their order,
+/// but for U3; after U4 what was taken stays taken. Condition: each inbox was made with the mailbox at its place.
 ///
 /// A live run is a run of the jobs with the posts that were placed besides their own actions.
 pub fn run_live<R: Threads + Wait + Sync, G: Gate, S: Sink + Drop>(
@@ -198,7 +199,7 @@ pub fn run_live<R: Threads + Wait + Sync, G: Gate, S: Sink + Drop>(
     ensures ran { IfOk result (λ r. RanLive S.taken settings.now.posts jobs.now settings.now inboxes.items sink r.0
         r.1.items r.2) }
     ensures ends { IfOk result (λ r. AreInboxesOf boxes.now r.1.items) }
-    ensures room { IfOk result (λ r. RefusesNoneWithRoom jobs.now settings.now r.0) }
+    ensures room { IfOk result (λ r. RefusesNoneWithRoom settings.now.posts jobs.now settings.now r.0) }
     ensures refused { IfErr result
         (λ e. LeavesLive S.taken S.failures settings.now.posts jobs.now settings.now boxes.now inboxes.items sink
         e.fault e.inboxes.items) }

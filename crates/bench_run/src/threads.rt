@@ -14,7 +14,7 @@ ghost use Rattle.mil_trunk.specs.Tags.{has};
 ghost use Rattle.mil_trunk.specs.Views.{with_tag};
 ghost use Rattle.std.specs.List.{AllByRecursion};
 ghost use Rattle.std.specs.Prelude.{vec_capacity, IfSome, IfOk};
-ghost use Rattle.std.specs.Prelude.{◌≡◌, ◌≢◌, ℕ, ◌<◌, ◌≤◌, ◌||◌, [], true, Some, length, map, vec_len};
+ghost use Rattle.std.specs.Prelude.{◌≡◌, ◌≢◌, ℕ, ◌+◌, ◌<◌, ◌≤◌, ◌||◌, [], true, Some, length, map, vec_len};
 
 use crate::channel::{Context, Ended, Room, channel};
 use crate::ending::Before;
@@ -51,14 +51,15 @@ impl<'a> Promise<Ended> for Offers<'a> {
         p.inbox.value r };
 }
 
-/// How many items each channel may send: its messages, and its end mark.
-pub(crate) fn bounds(alloc: Global, jobs: &[Job]) -> Result<Vec<u64>, AllocError>
-    ensures bounds { IfOk result (λ v. v.items ≡ map most_items jobs.now) }
-    ensures low { IfOk result (λ v. AllByRecursion (λ b. b ≤ 1000001) v.items) }
+/// How many items each channel may send where so many actions may be posted to it: its messages, those that it has
+/// inserted, and its end mark.
+pub(crate) fn bounds(alloc: Global, jobs: &[Job], posts: u32) -> Result<Vec<u64>, AllocError>
+    ensures bounds { IfOk result (λ v. v.items ≡ map (most_items posts) jobs.now) }
+    ensures low { IfOk result (λ v. AllByRecursion (λ b. b ≤ 1000001 + posts) v.items) }
 {
     let mut bounds = Vec::with_capacity(alloc, jobs.len())?;
     for job in jobs {
-        bounds.push_reserved(job.program().worst_messages() + 1);
+        bounds.push_reserved(job.most_items(posts));
     }
     Ok(bounds)
 }
@@ -92,7 +93,7 @@ fn room_for(alloc: Global, job: &Job, most: u32, inbox: Inbox) -> Result<Room, A
 {
     let mut machine = job.machine(alloc, job.actions())?;
     machine.room(most)?;
-    let refused = Vec::with_capacity(alloc, job.program().worst_messages() as usize)?;
+    let refused = Vec::with_capacity(alloc, job.most_items(most) as usize)?;
     let mut ordered = Schedule::of(ordered_actions(job)?);
     ordered.room(most)?;
     Ok(Room {
@@ -169,7 +170,7 @@ pub(crate) fn start_all<'s, E, R: Wait + Sync, G: Gate, S>(
     requires ticket { IsTicketOf context.now.trunk.now rest.old × (sent rest.old ≡ []) }
     requires tags { (t : ℕ) → t < 64 → has (tags_of rest.old) t ≡ true }
     requires few { length before.now.jobs.now ≤ 32 }
-    requires bounds { bounds_of rest.old ≡ map most_items before.now.jobs.now }
+    requires bounds { bounds_of rest.old ≡ map (most_items before.now.most) before.now.jobs.now }
     requires rooms { ArePairs IsRoom before.now.jobs.now rooms.items }
     requires boxes { length before.now.boxes.now ≡ length before.now.jobs.now }
     requires inboxes { AreInboxesOf before.now.boxes.now before.now.inboxes.value.items }
@@ -236,7 +237,7 @@ pub(crate) fn join_all<R: Threads, S>(
     mut joined: Vec<Joined>,
 ) -> Vec<Joined>
     requires ticket { IsTicketOf trunk.now rest.old × (sent rest.old ≡ []) }
-    requires bounds { bounds_of rest.old ≡ map most_items before.now.jobs.now }
+    requires bounds { bounds_of rest.old ≡ map (most_items before.now.most) before.now.jobs.now }
     requires distinct { AreDistinct (channels_of before.now.jobs.now) }
     requires promised { ArePromised trunk.now (bounds_of rest.old) before.now.jobs.now before.now.most
         before.now.boxes.now before.now.inboxes.value.items handles.items }

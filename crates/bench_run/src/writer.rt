@@ -96,7 +96,7 @@ pub(crate) fn write<R: Wait, G: Gate, S: Sink>(
 )
     requires taker { IsTakerOf trunk.now taker.old }
     requires distinct { AreDistinct channels.now }
-    requires bounds { sum (bounds_in taker.old) ≤ 32 * 1000001 }
+    requires bounds { sum (bounds_in taker.old) ≤ 32 * 1065537 }
     requires unfinished { log.old.recorder.writing.finished ≡ false }
     requires few { log.old.recorder.writing.taken < 2 ^ 63 + 524288 * length (received taker.old) }
     ensures taker { IsTakerOf trunk.now taker.new }
@@ -136,7 +136,7 @@ pub(crate) fn settle<R: Wait, G: Gate, S: Sink>(
     requires ends { IsTicketOf trunk.now ticket × IsTakerOf trunk.now taker }
     requires all { (t : ℕ) → t < 64 → has (tags_of ticket) t ≡ true }
     requires distinct { AreDistinct channels.now }
-    requires bounds { sum (bounds_of ticket) ≤ 32 * 1000001 }
+    requires bounds { sum (bounds_of ticket) ≤ 32 * 1065537 }
     requires unfinished { log.old.recorder.writing.finished ≡ false }
     requires few { log.old.recorder.writing.taken < 2 ^ 63 + 524288 * length (received taker) }
     ensures ends { IsTicketOf trunk.now result.0 × IsTakerOf trunk.now result.1 }

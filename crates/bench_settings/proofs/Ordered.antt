@@ -7,7 +7,7 @@ use Rattle.std.proofs.lemmas.Bool.{eqb-true, eq-eqb, ne_eqb}
 use Rattle.bc_machine.specs.declared.placed.Placed.{Placed}
 use Rattle.bc_machine.specs.Controller.{placed_at}
 use Rattle.bench_report.specs.Reports.{NeverFalls}
-use Rattle.bench_settings.specs.Placing.{placed_up_to}
+use Rattle.bc_machine.specs.Hosting.{placed_up_to}
 
 -- each number is within 1 and this one
 abbrev pub AreUpTo : ℕ → List Placed → Type 0

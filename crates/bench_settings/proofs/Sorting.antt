@@ -7,11 +7,13 @@ use Rattle.std.proofs.lemmas.List.Elements.{All-from_recursion, recursion_from_A
 use Rattle.std.proofs.lemmas.List.Sorted.{All-permutation}
 use Rattle.mil_bus.specs.Addresses.{is_fit}
 use Rattle.bc_machine.specs.declared.placed.Placed.{Placed}
+use Rattle.bc_machine.specs.declared.placed.HostAction.{HostAction}
+use Rattle.bc_machine.specs.declared.placed.HostAction.TheVariants.{Terminal, Controller}
 use Rattle.bc_machine.specs.Controller.{placed_at}
 use Rattle.bc_machine.specs.Rising.{IsRising, IsParted}
 use Rattle.bc_machine.proofs.Around.{stop}
-use Rattle.job_file.specs.JobRanges.{may_act}
-use Rattle.bench_report.specs.Reports.{IsPlace, NeverFalls}
+use Rattle.job_file.specs.JobRanges.{is_for, may_act}
+use Rattle.bench_report.specs.Reports.{IsForPlace, IsPlace, NeverFalls}
 use Rattle.bench_settings.specs.Placing.{placed_up_to, IsOrdered}
 use Rattle.bench_settings.proofs.Ordered.{AreUpTo, AreFrom, from_least, up_to_same, up_to_itself, at_up_to}
 
@@ -41,14 +43,18 @@ in_addresses own (a ∷ rest) fit some =
       | inr later ↦ in_addresses own rest parts.1 later
     ]
 
+for_place : (addresses : List ℕ) (action : HostAction) → is_fit addresses ≡ true → is_for addresses action ≡ true → IsForPlace action
+for_place addresses (Terminal address action) fit may = in_addresses address addresses fit may
+for_place addresses (Controller asked) fit may = tt
+
 place : (addresses : List ℕ) (p : Placed) → is_fit addresses ≡ true → may_act addresses p ≡ true → IsPlace p
 place addresses p fit may =
-    let parts = and_parts (nat_le 1 p.number && nat_le p.number 1000000) (list_any (λ a. eqb a p.address) addresses) may in
+    let parts = and_parts (nat_le 1 p.number && nat_le p.number 1000000) (is_for addresses p.action) may in
     let numbers = and_parts (nat_le 1 p.number) (nat_le p.number 1000000) parts.0 in
     record {
       number_low = leb-true 1 p.number numbers.0;
       number_high = leb-true p.number 1000000 numbers.1;
-      address = in_addresses p.address addresses fit parts.1;
+      address = for_place addresses p.action fit parts.1;
     }
 
 places_of : (addresses : List ℕ) (ps : List Placed) → is_fit addresses ≡ true → list_all (may_act addresses) ps ≡ true → AllByRecursion IsPlace ps

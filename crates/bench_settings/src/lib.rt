@@ -14,5 +14,5 @@ mod settings;
 pub use error::WorldError;
 pub use judging::judge;
 pub use parts::channel_report;
-pub use placing::{add_action, ordered_actions};
+pub use placing::{add_action, is_for_place, ordered_actions};
 pub use settings::{DEFAULT_LIMIT, DEFAULT_QUEUE, DEFAULT_VERSION, MOST_POSTS, Settings};

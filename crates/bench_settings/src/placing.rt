@@ -1,13 +1,23 @@
 //! Actions in the order in which a channel's messages meet them.
 ghost use Rattle.bc_machine.specs.declared.placed.Placed.{Placed};
 ghost use Rattle.bench_settings.specs.Placing.{placed_up_to, IsOrdered};
-ghost use Rattle.bench_report.specs.Reports.{IsPlace};
-ghost use Rattle.mil_word.specs.Fields.{highest_address};
-ghost use Rattle.std.specs.Prelude.{◌≡◌, ◌<◌, ◌≤◌, ◌++◌, ◌∷◌, [], List, length, IfOk};
+ghost use Rattle.bench_report.specs.Reports.{IsPlace, IsForPlace};
+ghost use Rattle.std.specs.Prelude.{◌≡◌, ◌↔◌, ◌<◌, ◌++◌, ◌∷◌, [], List, length, IfOk, IsTrue};
 
-use bc_machine::{Actions, Placed, Schedule};
+use bc_machine::{Actions, HostAction, Placed, Schedule};
 use job_file::Job;
+use mil_word::fields::HIGHEST_ADDRESS;
 use std::alloc::AllocError;
+
+/// Whether an action is for the address of a terminal, 0 to 30, or for the controller.
+pub fn is_for_place(action: &HostAction) -> bool
+    ensures { IsTrue result ↔ IsForPlace action.now }
+{
+    match action {
+        HostAction::Terminal { address, .. } => *address <= HIGHEST_ADDRESS,
+        HostAction::Controller(_) => true,
+    }
+}
 
 /// A job's actions by rising number, those at one number in their order. It fails for want of memory alone.
 pub fn ordered_actions(job: &Job) -> Result<Actions, AllocError>

@@ -1,5 +1,6 @@
 use Rattle.std.proofs.Common.{◌≡◌, ◌∙◌, ◌<◌, ◌+◌, refl, sym, subst, [], ◌∷◌, length, arith}
 use Rattle.std.specs.Prelude.{true, false}
+use Rattle.bc_machine.proofs.Next.{few}
 use Rattle.job_file.specs.Jobs.{job_in}
 use Rattle.job_file.specs.Meaning.{records}
 use Rattle.ch11_builder.specs.Recorded.{IsRecorded}
@@ -32,6 +33,9 @@ loop-record-preserved g c =
       of = c.next_record.ensures.of_job job placed c.loop-record.invariant.of;
       stage = subst (λ i. Stage taken failures job placed c.args.version c.args.limit before i c.keep.new.self) number next;
     }
+
+pub end-requires-clause-few : goal.end-requires-clause-few
+end-requires-clause-few g c = omega (arith, few c.loop-record.machine c.loop-record.invariant.of.under_way, c.loop-record.invariant.stage.few)
 
 pub returns-in-Ok-clause-file : goal.returns-in-Ok-clause-file
 returns-in-Ok-clause-file g c =

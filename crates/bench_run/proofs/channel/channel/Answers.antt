@@ -1,16 +1,15 @@
-use Rattle.std.proofs.Common.{arith, ap, sym, ◌∙◌, ◌≡◌, ◌≤◌, ◌-◌, ◌++◌, [], length, subst, refl}
+use Rattle.std.proofs.Common.{arith, ap, sym, ◌∙◌, ◌≡◌, ◌-◌, ◌++◌, [], length, subst, refl}
 use Rattle.std.specs.Prelude.{Some, slice_get}
-use Rattle.frame_asm.specs.Shapes.{code_of_tree}
-use Rattle.frame_load.specs.Budget.{worst_messages}
 use Rattle.mil_trunk.specs.Tags.{has, bound_of}
 use Rattle.mil_trunk.specs.Ends.{tags_of, bounds_of}
-use Rattle.job_file.specs.Jobs.{tree_in, job_in}
+use Rattle.job_file.specs.Jobs.{job_in}
 use Rattle.bench_report.specs.Reports.{Rises}
 use Rattle.bench_run.specs.Live.{with_posts}
 use Rattle.bench_run.specs.Runs.{records_of}
 use Rattle.job_file.specs.Rooms.{most_items}
 use Rattle.bench_run.specs.Threads.{RecordsOfferedSoFar}
 use Rattle.bench_run.proofs.Stages.{first_stage, last_stage, few_sent, by_ticket, by_given}
+use Rattle.bench_run.proofs.Messages.{few_live, few_offered}
 use Rattle.bench_run.proofs.PlacedPosts.{placed_all}
 use Rattle.bench_run.proofs.PlacedStages.{stage_first, so_far_placed, stage_on}
 use Rattle.bench_run.proofs.channel.channel.Goals as goal
@@ -48,9 +47,9 @@ offer_message-requires-clause-bound g c κs within =
     let new = c.next_record.new.machine in
     let posted = c.place_all.ensures.posted room.posts.left room.posts.inbox job c.messages.invariant.stage.posted in
     let of = c.next_record.ensures.of_job (job_in job) (job.actions ++ posted.posts) posted.of in
-    let top : new.point.number ≤ worst_messages (code_of_tree (tree_in job)).operations = subst (λ code. new.point.number ≤ worst_messages code.operations) of.code of.under_way.messages in
-    let bound : bound_of (bounds_of c.messages.ticket) c.args.index ≡ most_items job = ap (λ l. bound_of l c.args.index) c.messages.invariant.stage.so_far.bounds ∙ c.requires.bound in
-    omega (arith, top, bound, c.number-number.ensures.value)
+    let few = few_offered room.posts.left room.posts.inbox job c.place_all.new.machine new c.place_all.new.self posted of in
+    let bound : bound_of (bounds_of c.messages.ticket) c.args.index ≡ most_items room.posts.left job = ap (λ l. bound_of l c.args.index) c.messages.invariant.stage.so_far.bounds ∙ c.requires.bound in
+    omega (arith, few, bound, c.number-number.ensures.value)
 
 pub offer_message-requires-clause-room : goal.offer_message-requires-clause-room
 offer_message-requires-clause-room g c κs within =
@@ -59,8 +58,8 @@ offer_message-requires-clause-room g c κs within =
     let new = c.next_record.new.machine in
     let posted = c.place_all.ensures.posted room.posts.left room.posts.inbox job c.messages.invariant.stage.posted in
     let of = c.next_record.ensures.of_job (job_in job) (job.actions ++ posted.posts) posted.of in
-    let top : new.point.number ≤ worst_messages (code_of_tree (tree_in job)).operations = subst (λ code. new.point.number ≤ worst_messages code.operations) of.code of.under_way.messages in
-    omega (arith, top, c.requires.fits.capacity, c.messages.invariant.room, c.number-number.ensures.value)
+    let few = few_offered room.posts.left room.posts.inbox job c.place_all.new.machine new c.place_all.new.self posted of in
+    omega (arith, few, c.requires.fits.capacity, c.messages.invariant.room, c.number-number.ensures.value)
 
 pub offer_message-requires-clause-recorded : goal.offer_message-requires-clause-recorded
 offer_message-requires-clause-recorded g c κs within = c.record_fits.ensures 0
@@ -103,12 +102,12 @@ offer_end-requires-clause-bound g c κs within =
     let job = c.args.job.now in
     let n = c.messages.machine.point.number in
     let stage = c.messages.invariant.stage in
-    let of = stage.posted.of in
     let st = stage.so_far in
-    let top : n ≤ worst_messages (code_of_tree (tree_in job)).operations = subst (λ code. n ≤ worst_messages code.operations) of.code of.under_way.messages in
-    let bound : bound_of (bounds_of c.messages.ticket) c.args.index ≡ most_items job = ap (λ l. bound_of l c.args.index) st.bounds ∙ c.requires.bound in
+    let room = c.args.room in
+    let made = few_offered room.posts.left room.posts.inbox job c.messages.machine c.messages.machine c.messages.posts stage.posted stage.posted.of in
+    let bound : bound_of (bounds_of c.messages.ticket) c.args.index ≡ most_items room.posts.left job = ap (λ l. bound_of l c.args.index) st.bounds ∙ c.requires.bound in
     let few = few_sent c.args.context.now.trunk.now (tags_of c.args.ticket) (bounds_of c.args.ticket) c.args.index (with_posts job stage.posted.posts) n c.messages.ticket c.messages.refused.items st in
-    omega (arith, top, bound, few)
+    omega (arith, made, bound, few)
 
 pub channel_report-requires-clause-refused : goal.channel_report-requires-clause-refused
 channel_report-requires-clause-refused g c =
@@ -125,10 +124,9 @@ returns g c =
     let st = so_far_placed c.args.context.now.trunk.now (tags_of c.args.ticket) (bounds_of c.args.ticket) c.args.index room.posts.left room.posts.inbox job c.messages.machine m c.messages.ticket c.messages.refused.items c.messages.posts c.place_all.new.self
     (λ placed m of. c.job_runs.ensures.so_far (job_in job) placed m c.program-sound.ensures.sound of) c.place_all.ensures.point c.messages.invariant.stage posted in
     let live = with_posts job posted.posts in
-    let of = posted.of in
     let whole : n ≡ length (records_of live) = c.in_default.ensures.all (job_in job) (job.actions ++ posted.posts) c.program-sound.ensures.sound posted.of in
     let made : c.number-2.result ≡ n = c.number-2.ensures.value ∙ c.in_default.ensures.same in
-    let top : n ≤ worst_messages (code_of_tree (tree_in job)).operations = subst (λ code. n ≤ worst_messages code.operations) of.code of.under_way.messages in
+    let within = few_live job posted.posts m posted.of in
     let end = c.offer_end.ensures in
     let part = c.channel_report.ensures in
     record {
@@ -138,5 +136,5 @@ returns g c =
       offered = last_stage c.args.context.now.trunk.now c.args.ticket c.args.index live c.number-2.result c.messages.ticket c.offer_end.new.ticket c.messages.refused.items c.channel_report.result
           (subst (λ k. RecordsOfferedSoFar c.args.context.now.trunk.now (tags_of c.args.ticket) (bounds_of c.args.ticket) c.args.index live k c.messages.ticket c.messages.refused.items) (sym made) st) (made ∙ whole) end.ticket end.tags end.bounds end.sent
           (part.channel ∙ c.channel-3.ensures.value) part.made part.refused (part.placed live.actions (c.of-ordered.ensures ∙ posted.ordered))
-          (omega (arith, c.channel-3.ensures.value)) (omega (arith, c.number-2.ensures.range)) (omega (arith, made, top));
+          (omega (arith, c.channel-3.ensures.value)) (omega (arith, c.number-2.ensures.range)) (omega (arith, made, within));
     }

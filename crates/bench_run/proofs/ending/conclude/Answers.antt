@@ -1,13 +1,13 @@
-use Rattle.std.proofs.Common.{◌≡◌, List, ◌<◌, ◌≤◌, refl, sym, ap, ◌∙◌, subst, arith, false}
+use Rattle.std.proofs.Common.{◌≡◌, List, ◌<◌, refl, sym, ap, ◌∙◌, subst, arith, false}
 use Rattle.mil_trunk.specs.Ends.{received}
 use Rattle.bench_report.specs.Reports.{ChannelPart, RunReport}
 use Rattle.bench_settings.specs.Lawful.{channels_of, format_of}
-use Rattle.bench_run.specs.Runs.{Ran, IsCut, most_in_all}
+use Rattle.bench_run.specs.Runs.{Ran, IsCut}
 use Rattle.bench_run.specs.Writer.{IsLogged}
 use Rattle.bench_run.specs.Live.{AreLive}
 use Rattle.bench_run.proofs.Endings.{none_refused}
 use Rattle.bench_run.proofs.Concluding.{of_all, count_fits, ran, cut, rose}
-use Rattle.bench_run.proofs.Lives.{lives_channels, lives_lawful, lives_most}
+use Rattle.bench_run.proofs.Lives.{lives_channels, lives_lawful, lives_given}
 use Rattle.bench_run.proofs.ending.conclude.Goals as goal
 
 pub make-report-requires : goal.make-report-requires
@@ -30,9 +30,9 @@ make-report-requires g c =
     let all = c.requires.all.all in
     let lawful = lives_lawful most jobs olds news parts lives live s c.requires.lawful in
     let logged = subst (λ cs. IsLogged taken failures (format_of s) s.prologue.items before cs got old whole) (sym (lives_channels most jobs olds news parts lives live)) c.requires.logged in
-    let of = of_all taken failures lives s before parts got old whole lawful c.version_fits.ensures all logged r
+    let of = of_all taken failures most jobs lives s before parts got old whole lawful c.version_fits.ensures all logged r
     (c.finish-ended.ensures.same (format_of s) s.prologue.items (taken before) (channels_of lives) logged.items logged.recording) in
-    let fits = count_fits taken failures lives s before parts got old whole lawful c.version_fits.ensures all logged r of in
+    let fits = count_fits taken failures most jobs lives s before parts got old whole lawful c.version_fits.ensures all logged r of in
     omega (arith, fits, c.packets.ensures)
 
 pub returns-in-Ok : goal.returns-in-Ok
@@ -55,21 +55,20 @@ returns-in-Ok g c =
     let all = c.requires.all.all in
     let lawful = lives_lawful most jobs olds news parts lives live s c.requires.lawful in
     let logged = subst (λ cs. IsLogged taken failures (format_of s) s.prologue.items before cs got old whole) (sym (lives_channels most jobs olds news parts lives live)) c.requires.logged in
-    let of = of_all taken failures lives s before parts got old whole lawful c.version_fits.ensures all logged r
+    let of = of_all taken failures most jobs lives s before parts got old whole lawful c.version_fits.ensures all logged r
     (c.finish-ended.ensures.same (format_of s) s.prologue.items (taken before) (channels_of lives) logged.items logged.recording) in
-    let done = ran taken failures lives s before parts got old whole lawful c.version_fits.ensures all logged
+    let done = ran taken failures most jobs lives s before parts got old whole lawful c.version_fits.ensures all logged
     c.recording_is_read_again.ensures.read c.recording_is_read_again.ensures.kept c.recording_is_read_again.ensures.ended c.file_is_packets.ensures.file c.file_is_packets.ensures.whole r of (c.in-Ok.ensures.ok.0 refl) in
     let report : c.make-report.result ≡ record { channels = parts; packets = r.packets } = c.make-report.ensures ∙ ap (λ n. record { channels = parts; packets = n }) c.packets.ensures in
     record {
       ran = record {
         lives = lives;
         live = subst (λ (ps : List ChannelPart). AreLive most jobs olds news ps lives) (ap (λ (z : RunReport). z.channels) (sym report)) live;
-        ran = subst (λ (z : RunReport × _). Ran taken lives s before z.0 z.1) (λ i. (sym report i, sym c.into_sink-sink.ensures i)) done;
+        ran = subst (λ (z : RunReport × _). Ran taken most jobs lives s before z.0 z.1) (λ i. (sym report i, sym c.into_sink-sink.ensures i)) done;
       };
       ends = c.requires.ends;
       room = λ room.
-          let fits : most_in_all lives ≤ s.queue = subst (λ n. n ≤ s.queue) (sym (lives_most most jobs olds news parts lives live)) room in
-          rw c.make-report.ensures (none_refused s.queue lives parts lawful.distinct c.requires.all.all.counted fits);
+          rw c.make-report.ensures (none_refused s.queue most jobs lives parts c.requires.lawful.distinct (lives_given most jobs olds news parts lives live) all.counted room);
       refused = tt;
       back = tt;
     }
@@ -94,10 +93,10 @@ returns g c =
     let all = c.requires.all.all in
     let lawful = lives_lawful most jobs olds news parts lives live s c.requires.lawful in
     let logged = subst (λ cs. IsLogged taken failures (format_of s) s.prologue.items before cs got old whole) (sym (lives_channels most jobs olds news parts lives live)) c.requires.logged in
-    let of = of_all taken failures lives s before parts got old whole lawful c.version_fits.ensures all logged r
+    let of = of_all taken failures most jobs lives s before parts got old whole lawful c.version_fits.ensures all logged r
     (c.finish-ended.ensures.same (format_of s) s.prologue.items (taken before) (channels_of lives) logged.items logged.recording) in
-    let part = cut taken failures lives s before parts got old whole lawful c.version_fits.ensures all logged r c.in-Err.fault.taken of c.in-Err.ensures.fault in
-    let up = rose taken failures lives s before parts got old whole lawful c.version_fits.ensures all logged false (failures old.writing.sink) (failures r.writing.sink) c.in-Err.ensures.failures refl refl in
+    let part = cut taken failures most jobs lives s before parts got old whole lawful c.version_fits.ensures all logged r c.in-Err.fault.taken of c.in-Err.ensures.fault in
+    let up = rose taken failures most jobs lives s before parts got old whole lawful c.version_fits.ensures all logged false (failures old.writing.sink) (failures r.writing.sink) c.in-Err.ensures.failures refl refl in
     let report : c.make-report.result ≡ record { channels = parts; packets = r.packets } = c.make-report.ensures ∙ ap (λ n. record { channels = parts; packets = n }) c.packets.ensures in
     record {
       ran = tt;
@@ -108,7 +107,7 @@ returns g c =
         failed = subst (λ x. failures before < failures x) (sym c.into_sink-sink.ensures) up;
         lives = lives;
         live = subst (λ (ps : List ChannelPart). AreLive most jobs olds news ps lives) (ap (λ (z : RunReport). z.channels) (sym report)) live;
-        cut = subst (λ (z : RunReport × _). IsCut taken lives s before z.0 c.in-Err.fault.taken z.1) (λ i. (sym report i, sym c.into_sink-sink.ensures i)) part;
+        cut = subst (λ (z : RunReport × _). IsCut taken most jobs lives s before z.0 c.in-Err.fault.taken z.1) (λ i. (sym report i, sym c.into_sink-sink.ensures i)) part;
       };
       back = c.requires.ends;
     }

@@ -77,9 +77,9 @@ loop-handle-preserved g c =
     ∙ ap (λ l. with_tag index_of t old ++ l) (other_entries n t rs ne) ∙ append-nil (with_tag index_of t old) in
     let own : with_tag index_of n now ≡ mine = ap (with_tag index_of n) grown ∙ with_tag-append index_of n old mine
     ∙ ap (λ l. l ++ with_tag index_of n mine) (was.later n (omega arith)) ∙ own_entries n rs in
-    let others : bounds_outside (tags_of p.ticket.value) (bounds_of p.ticket.value) ≡ most_in_all (others_than p.job.now.channel jobs) =
-    ap (bounds_outside (tags_of p.ticket.value)) (here.bounds_are ∙ c.requires.bounds) ∙ others_bounds jobs n (tags_of p.ticket.value) p.job.now c.requires.distinct here.job_is here.tags in
-    let mine_ended : IsThreadEnded capacity (most_in_all (others_than p.job.now.channel jobs)) n p.job.now p.mailbox.now most p.inbox.value new (with_tag index_of n now) = record {
+    let others : bounds_outside (tags_of p.ticket.value) (bounds_of p.ticket.value) ≡ most_in_all most (others_than p.job.now.channel jobs) =
+    ap (bounds_outside (tags_of p.ticket.value)) (here.bounds_are ∙ c.requires.bounds) ∙ others_bounds most jobs n (tags_of p.ticket.value) p.job.now c.requires.distinct here.job_is here.tags in
+    let mine_ended : IsThreadEnded capacity (most_in_all most (others_than p.job.now.channel jobs)) n p.job.now p.mailbox.now most p.inbox.value new (with_tag index_of n now) = record {
       posts = e.posts;
       inbox = e.inbox;
       placed = subst (λ m. ArePlaced m new.part.made p.inbox.value new.inbox e.posts) here.most_is e.placed;
@@ -97,16 +97,16 @@ loop-handle-preserved g c =
           let more : n + suc k ≡ vec_len c.push_reserved.new.self + k = omega (arith, pushed.len) in subst (λ m. IsPromised c.args.trunk.now bounds jobs most boxes inboxes m h.promise) more next;
       ended = row_push
           (λ i y. (job : JobState) (box : Mailbox) (before : Inbox) → slice_get jobs i ≡ Some job → slice_get boxes i ≡ Some box → slice_get inboxes i ≡ Some before
-          → IsThreadEnded capacity (most_in_all (others_than job.channel jobs)) i job box most before y (with_tag index_of i now))
+          → IsThreadEnded capacity (most_in_all most (others_than job.channel jobs)) i job box most before y (with_tag index_of i now))
           n c.loop-handle.joined.items c.push_reserved.new.self.items new long pushed.items
           (λ i y at_y job box before at_job at_box at_before.
           let low = place_below c.loop-handle.joined.items i y at_y in
-          subst (λ es. IsThreadEnded capacity (most_in_all (others_than job.channel jobs)) i job box most before y es) (sym (apart i (λ same. absurd (omega (arith, low, long, same)))))
+          subst (λ es. IsThreadEnded capacity (most_in_all most (others_than job.channel jobs)) i job box most before y es) (sym (apart i (λ same. absurd (omega (arith, low, long, same)))))
           (was.ended i y at_y job box before at_job at_box at_before))
           (λ job box before at_job at_box at_before.
           let job_is : p.job.now ≡ job = same_some (sym here.job_is ∙ at_job) in
           let box_is : p.mailbox.now ≡ box = same_some (sym here.box_is ∙ at_box) in
           let before_is : p.inbox.value ≡ before = same_some (sym here.inbox_is ∙ at_before) in
-          subst (λ (z : JobState × Mailbox × Inbox). IsThreadEnded capacity (most_in_all (others_than z.0.channel jobs)) n z.0 z.1 most z.2 new (with_tag index_of n now)) (λ i. (job_is i, box_is i, before_is i)) mine_ended);
+          subst (λ (z : JobState × Mailbox × Inbox). IsThreadEnded capacity (most_in_all most (others_than z.0.channel jobs)) n z.0 z.1 most z.2 new (with_tag index_of n now)) (λ i. (job_is i, box_is i, before_is i)) mine_ended);
       later = λ t top. apart t (λ e. absurd (omega (arith, pushed.len, e, top))) ∙ was.later t (omega (arith, pushed.len, top));
     }

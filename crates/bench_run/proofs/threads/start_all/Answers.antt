@@ -5,6 +5,7 @@ use Rattle.mil_trunk.specs.Tags.{bound_of}
 use Rattle.mil_trunk.specs.Ends.{bounds_of, tags_of}
 use Rattle.mil_trunk.specs.declared.trunk.Ticket.{Ticket}
 use Rattle.job_file.specs.Jobs.{JobState}
+use Rattle.job_file.specs.Rooms.{most_items}
 use Rattle.bench_run.specs.declared.entry.Entry.{Entry}
 use Rattle.bench_mail.specs.declared.mailbox.Mailbox.{Mailbox}
 use Rattle.bench_mail.specs.declared.mailbox.Inbox.{Inbox}
@@ -57,7 +58,8 @@ start-requires-clause-begins g c κs within =
       ours = part.tickets.1;
       unsent = part.sent.1;
       tag = part.tags.0;
-      bound = ap (λ l. bound_of l i) (part.bounds.1 ∙ c.loop-room.invariant.ours.2 ∙ c.requires.bounds) ∙ bound_at jobs i c.index-jobs-index.result at;
+      bound = ap (λ l. bound_of l i) (part.bounds.1 ∙ c.loop-room.invariant.ours.2 ∙ c.requires.bounds) ∙ bound_at c.args.before.now.most jobs i c.index-jobs-index.result at
+          ∙ ap (λ most. most_items most c.index-jobs-index.result) (sym inbox.1);
       fits = room c.index-jobs-index.result (subst (λ m. slice_get jobs m ≡ Some c.index-jobs-index.result) (sym place) at);
       inbox = c.requires.inboxes i c.index-boxes-index.result c.in-Some.room.posts.inbox at_box (subst (λ k. slice_get inboxes k ≡ Some c.in-Some.room.posts.inbox) place inbox.0);
     }

@@ -5,9 +5,22 @@ use Rattle.job_file.specs.Jobs.{job_in}
 use Rattle.job_file.specs.Meaning.{records}
 use Rattle.bench_settings.specs.Placing.{placed_up_to}
 use Rattle.bench_core.specs.Bench.{LaneState}
-use Rattle.bench_core.specs.Channels.{lane_in, after_next, queued_next, next_in}
-use Rattle.bench_core.proofs.Offers.{past_end, recorded_next, still_of, recorded_on, ended_lane, ended_item, message_lane, message_item, rises_message}
+use Rattle.bench_core.specs.Channels.{lane_in, after_next, queued_next, next_in, IsMade}
+use Rattle.bc_machine.proofs.Next.{few}
+use Rattle.bench_core.proofs.Offers.{next_none, next_some, ended_stays, ended_gives, past_end, recorded_next, still_of, recorded_on, ended_lane, ended_item, message_lane, message_item, rises_message}
 use Rattle.bench_core.proofs.lane.Lane.advance.Goals as goal
+
+pub returns-then-self-clause-lane : goal.returns-then-self-clause-lane
+returns-then-self-clause-lane c =
+    sym c.self.view_is ∙ ended_stays (lane_in c.self.inside) c.args.room c.if-self.true ∙ ap (λ (k : LaneState). after_next k (next_in k) c.args.room) c.self.view_is
+
+pub returns-then-self-clause-item : goal.returns-then-self-clause-item
+returns-then-self-clause-item c =
+    ended_gives (lane_in c.self.inside) c.args.room c.if-self.true ∙ ap (λ (k : LaneState). queued_next k (next_in k) c.args.room) c.self.view_is
+
+pub returns-then-self-clause-made : goal.returns-then-self-clause-made
+returns-then-self-clause-made c =
+    subst IsMade c.self.view_is (record { recorded = c.self.invariant.recorded; few = few c.self.inside.machine c.self.invariant.controller.under_way })
 
 pub invariant_of-self-in_default : goal.invariant_of-self-in_default
 invariant_of-self-in_default c =
@@ -32,7 +45,7 @@ returns-in_default-clause-lane c =
     let l = c.self.inside in
     let job = job_in l.job.value in
     let of = c.next_record-next.ensures.of_job job l.machine.placed c.self.invariant.controller in
-    let none = past_end (records job l.machine.placed) l.machine.point.number (c.in_default.ensures.all job l.machine.placed c.self.invariant.sound c.self.invariant.controller) in
+    let none = next_none (lane_in l) (past_end (records job l.machine.placed) l.machine.point.number (c.in_default.ensures.all job l.machine.placed c.self.invariant.sound c.self.invariant.controller)) in
     ended_lane (lane_in l) c.args.room _ _ _ _ none of.actions c.in_default.ensures.same c.reserve.ensures.items c.end_mark.ensures.ended
     ∙ ap (λ (k : LaneState). after_next k (next_in k) c.args.room) c.self.view_is
 
@@ -40,7 +53,7 @@ pub returns-in_default-clause-item : goal.returns-in_default-clause-item
 returns-in_default-clause-item c =
     let l = c.self.inside in
     let job = job_in l.job.value in
-    let none = past_end (records job l.machine.placed) l.machine.point.number (c.in_default.ensures.all job l.machine.placed c.self.invariant.sound c.self.invariant.controller) in
+    let none = next_none (lane_in l) (past_end (records job l.machine.placed) l.machine.point.number (c.in_default.ensures.all job l.machine.placed c.self.invariant.sound c.self.invariant.controller)) in
     c.end_mark.ensures.item ∙ ended_item (lane_in l) c.args.room none
     ∙ ap (λ (k : LaneState). queued_next k (next_in k) c.args.room) c.self.view_is
 
@@ -81,14 +94,16 @@ returns-clause-lane c =
     let job = job_in l.job.value in
     let of = c.next_record-next.ensures.of_job job l.machine.placed c.self.invariant.controller in
     let at = c.in-Some.ensures.record job l.machine.placed c.self.invariant.sound c.self.invariant.controller in
-    message_lane (lane_in l) c.in-Some.made c.args.room _ _ _ _ _ at of.actions c.in-Some.ensures.number c.number-number.ensures.value c.reserve.ensures.items c.message.ensures.refused
+    let next = next_some (lane_in l) c.in-Some.made c.if-self.false at in
+    message_lane (lane_in l) c.in-Some.made c.args.room _ _ _ _ _ next of.actions c.in-Some.ensures.number c.number-number.ensures.value c.reserve.ensures.items c.message.ensures.refused
     ∙ ap (λ (k : LaneState). after_next k (next_in k) c.args.room) c.self.view_is
 
 pub returns-clause-item : goal.returns-clause-item
 returns-clause-item c =
     let l = c.self.inside in
     let at = c.in-Some.ensures.record (job_in l.job.value) l.machine.placed c.self.invariant.sound c.self.invariant.controller in
-    c.message.ensures.item ∙ message_item (lane_in l) c.in-Some.made c.args.room _ at (c.number-number.ensures.value ∙ c.in-Some.ensures.number)
+    let next = next_some (lane_in l) c.in-Some.made c.if-self.false at in
+    c.message.ensures.item ∙ message_item (lane_in l) c.in-Some.made c.args.room _ next (c.number-number.ensures.value ∙ c.in-Some.ensures.number)
     ∙ ap (λ (k : LaneState). queued_next k (next_in k) c.args.room) c.self.view_is
 
 pub returns-clause-made : goal.returns-clause-made
