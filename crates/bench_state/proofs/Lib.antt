@@ -1,2 +1,4 @@
 pub mod Appending
 pub mod Listing
+pub mod SourceLines
+pub mod SourceRows

@@ -1,6 +1,6 @@
 -- The text of the ramps of a terminal (own choice): a line for each subaddress that has one, with the place of each,
 -- its word in the next reply, and what is added.
-use Rattle.std.specs.Prelude.{ℕ, ◌+◌, Bool, true, false, not, List, [], ◌∷◌, ◌++◌, Option, Some, None, codes}
+use Rattle.std.specs.Prelude.{ℕ, ◌+◌, Bool, true, false, not, [], ◌∷◌, ◌++◌, Option, Some, None, codes}
 use Rattle.std.specs.Prelude.{decimal, slice_index_or}
 use Rattle.std.proofs.Common.{zero, suc}
 use Rattle.text_lines.specs.Words.{Text}

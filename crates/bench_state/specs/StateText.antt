@@ -12,6 +12,9 @@ use Rattle.mil_terminal.specs.Status.{status}
 use Rattle.mil_terminal.specs.Registers.{last_command, vector, bit_word, sync_word, is_transmitter_on}
 use Rattle.mil_bus.specs.Actions.{station_of}
 use Rattle.mil_bus.specs.Exchange.{BusState}
+use Rattle.bc_machine.specs.declared.placed.Placed.{Placed}
+use Rattle.bc_machine.specs.MadeMessages.{MadeMessage}
+use Rattle.bench_state.specs.ControllerText.{controller_state}
 use Rattle.bench_state.specs.declared.details.Detail.{Detail}
 use Rattle.bench_state.specs.declared.details.Detail.TheVariants.{Registers, Host, Data}
 use Rattle.bench_state.specs.Marks.{marks_line, kinds_line}
@@ -81,6 +84,13 @@ unfoldable pub channel_line : ℕ → ℕ → Text
 channel_line channel number = codes "channel "
     ++ (decimal channel ++ (codes " number " ++ (decimal number ++ codes "\n")))
 
--- a channel behind the message of a number
-abbrev pub channel_text : Detail → ℕ → ℕ → BusState → Text
-channel_text detail channel number bus = channel_line channel number ++ terminal_lines detail bus
+-- what the host of the controller has asked for, where what hosts set is asked for
+abbrev pub host_state : Detail → List Placed → List MadeMessage → Text
+host_state Host placed made = controller_state placed made
+host_state _ placed made = []
+
+-- a channel behind the message of a number, whose controller made these messages, where these actions of hosts were
+-- placed
+abbrev pub channel_text : Detail → ℕ → ℕ → List Placed → BusState → List MadeMessage → Text
+channel_text detail channel number placed bus made =
+    channel_line channel number ++ (terminal_lines detail bus ++ host_state detail placed made)

@@ -2,7 +2,7 @@
 ghost use Rattle.bench_state.specs.DataText.{data_line, data_lines, data_shown};
 ghost use Rattle.mil_word.specs.Fields.{highest_subaddress};
 ghost use Rattle.std.specs.Io.KnownBytes.{Appends};
-ghost use Rattle.std.specs.Prelude.{◌≡◌, ◌≤◌, OnOk};
+ghost use Rattle.std.specs.Prelude.{◌≤◌, OnOk};
 
 use crate::printing::print_words;
 use mil_terminal::Terminal;

@@ -1,7 +1,7 @@
 //! Words as they are printed.
 ghost use Rattle.bench_state.specs.DataText.{words_text};
 ghost use Rattle.std.specs.Io.KnownBytes.{Appends};
-ghost use Rattle.std.specs.Prelude.{◌≡◌, OnOk};
+ghost use Rattle.std.specs.Prelude.{OnOk};
 
 use mil_host::DataWords;
 use std::io;

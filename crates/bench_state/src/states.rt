@@ -1,13 +1,16 @@
 //! What the terminals of a channel hold, as lines.
-ghost use Rattle.bench_state.specs.StateText.{channel_text, field, host_line, lines_text, off_text, set_lines};
-ghost use Rattle.bench_state.specs.StateText.{terminal_line, terminal_lines, terminal_text};
+ghost use Rattle.bench_state.specs.StateText.{channel_line, channel_text, field, host_line, host_state};
+ghost use Rattle.bench_state.specs.StateText.{lines_text, off_text, set_lines, terminal_line, terminal_lines};
+ghost use Rattle.bench_state.specs.StateText.{terminal_text};
 ghost use Rattle.std.specs.Io.KnownBytes.{Appends};
 ghost use Rattle.std.specs.Prelude.{◌≡◌, ◌++◌, OnOk, codes};
 
+use crate::controller::print_controller;
 use crate::data::print_data;
 use crate::details::Detail;
 use crate::marks::{print_kinds, print_marks};
 use crate::ramps::print_ramps;
+use bc_machine::Machine;
 use mil_bus::Bus;
 use mil_host::DataWord;
 use mil_terminal::Terminal;
@@ -113,19 +116,39 @@ fn print_terminals<W: Write>(out: &mut W, detail: Detail, bus: &Bus) -> io::Resu
     Ok(())
 }
 
-/// Prints what the terminals of a channel hold: a line for the channel, with the number of the last message that its
-/// bus has met, and behind it what the detail shows of each terminal. It takes no memory.
+/// Prints what the host of the controller has asked for, where what hosts set is to be shown.
+fn print_asked<W: Write>(out: &mut W, detail: Detail, machine: &Machine) -> io::Result<()>
+    ensures { OnOk result (Appends (W.contents out.old) (W.contents out.new)
+        (host_state detail machine.now.placed machine.now.made)) }
+{
+    match detail {
+        Detail::Host => print_controller(out, machine.queued(), machine.sources().rows()),
+        Detail::Registers | Detail::Data { .. } => Ok(()),
+    }
+}
+
+/// Prints the line of a channel, with the number of the last message that its bus has met.
 #[tactic(auto, unfolding(crate::specs::StateText::channel_line))]
+fn print_number<W: Write>(out: &mut W, channel: u16, number: u32) -> io::Result<()>
+    ensures { OnOk result (Appends (W.contents out.old) (W.contents out.new) (channel_line channel number)) }
+{
+    writeln!(out, "channel {channel} number {number}")
+}
+
+/// Prints what the terminals of a channel hold: a line for the channel, with the number of the last message that its
+/// bus has met, and behind it what the detail shows of each terminal; with what hosts set also what the host of the
+/// controller has asked for. It takes no memory.
 pub fn print_channel<W: Write>(
     out: &mut W,
     detail: Detail,
     channel: u16,
     number: u32,
-    bus: &Bus,
+    machine: &Machine,
 ) -> io::Result<()>
     ensures { OnOk result (Appends (W.contents out.old) (W.contents out.new)
-        (channel_text detail channel number bus.now)) }
+        (channel_text detail channel number machine.now.placed machine.now.point.state machine.now.made)) }
 {
-    writeln!(out, "channel {channel} number {number}")?;
-    print_terminals(out, detail, bus)
+    print_number(out, channel, number)?;
+    print_terminals(out, detail, machine.bus())?;
+    print_asked(out, detail, machine)
 }

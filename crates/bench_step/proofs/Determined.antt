@@ -11,7 +11,6 @@ use Rattle.bench_places.specs.declared.sought.Sought.TheVariants.{Later, Command
 use Rattle.bench_state.specs.declared.details.Detail.{Detail}
 use Rattle.bench_step.specs.Commands.{Asked, forward, back, go, go_time, seek, find, find_back, select, select_back, state, show, show_at, help, quit, no_condition, unknown, asked}
 use Rattle.bench_step.specs.Session.{Replies, IsMoveTo, RepliesPlaceFound, HasMessageNumbered, IsAbsent, after_reply, is_memory, AreReplies, any_memory, RepliesAreDetermined}
-use Rattle.bench_step.specs.declared.manners.Manner.{Manner}
 use Rattle.bench_step.specs.declared.replies.Reply.{Reply}
 use Rattle.bench_step.specs.declared.replies.Reply.TheVariants as reply
 

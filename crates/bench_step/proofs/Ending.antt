@@ -1,5 +1,5 @@
 -- The line that ends a session.
-use Rattle.std.proofs.Common.{◌≡◌, ◌⊎◌, List, [], ◌∷◌, ◌++◌, refl, ap, ◌∙◌, inl, inr}
+use Rattle.std.proofs.Common.{◌≡◌, List, [], ◌∷◌, ◌++◌, refl, ap}
 use Rattle.std.specs.Prelude.{Bool, true, false, ◌||◌}
 use Rattle.text_lines.specs.Words.{Text}
 use Rattle.replay.specs.Moves.{ReplayState}

@@ -13,7 +13,7 @@ use Rattle.text_lines.specs.Lines.{is_line_end, text_lines}
 use Rattle.text_lines.proofs.LineLemmas.{text_lines-none}
 use Rattle.replay.specs.Moves.{ReplayState}
 use Rattle.bench_step.specs.Commands.{asked}
-use Rattle.bench_step.specs.Session.{Replies, after_reply, reply_text, is_memory, is_end, MayTell, AreReplies, after_replies, AreMessagesTold, session_text, any_memory}
+use Rattle.bench_step.specs.Session.{Replies, after_reply, reply_text, is_memory, MayTell, AreReplies, after_replies, AreMessagesTold, session_text, any_memory}
 use Rattle.bench_step.specs.Answering.{IsLineAnswered, IsSession, IsAllRead, MayBeDebugged, IsThrough, IsEnded, IsReaders, IsCutShort, is_quit, up_to_quit, any_quit, opened_on}
 use Rattle.bench_step.specs.declared.manners.Manner.{Manner}
 use Rattle.bench_step.specs.declared.replies.Reply.{Reply}

@@ -1,5 +1,5 @@
 -- What is replied to a move.
-use Rattle.std.proofs.Common.{◌≡◌, ℕ, ◌+◌, ◌-◌, ◌<◌, ◌≤◌, List, Option, Some, None, refl, ap, sym, subst, ◌∙◌, inl, inr, arith}
+use Rattle.std.proofs.Common.{◌≡◌, ℕ, ◌+◌, ◌-◌, ◌≤◌, List, Option, Some, None, refl, ap, sym, subst, ◌∙◌, inl, inr, arith}
 use Rattle.replay.specs.Moves.{ReplayState, total_of}
 use Rattle.bench_places.specs.declared.sought.Sought.{Sought}
 use Rattle.bench_places.specs.Places.{place_of}

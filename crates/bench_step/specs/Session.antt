@@ -5,7 +5,7 @@ use Rattle.std.specs.Prelude.{Option, None, Some, codes, decimal}
 use Rattle.std.specs.List.{flat_map, zip, list_any}
 use Rattle.text_lines.specs.Words.{Text}
 use Rattle.job_file.specs.Jobs.{JobState, job_in}
-use Rattle.job_file.specs.Meaning.{bus_after}
+use Rattle.job_file.specs.Meaning.{bus_after, made_after}
 use Rattle.judge_rules.specs.declared.rules.Selector.{Selector}
 use Rattle.ch11_reader.specs.Recording.{Found}
 use Rattle.ch11_reader.specs.Contents.{message_numbered}
@@ -35,7 +35,8 @@ use Rattle.bench_step.specs.declared.replies.Reply.TheVariants as reply
 abbrev pub job_text : Detail → ReplayState → JobState → ChannelPart → Text
 job_text detail s job part =
     let number = latest_kept_number s.found s.place job part in
-    channel_text detail job.channel number (bus_after (job_in job) part.placed number)
+    channel_text detail job.channel number part.placed (bus_after (job_in job) part.placed number)
+    (made_after (job_in job) part.placed number)
 
 -- the lines of all channels, in the order of the jobs
 unfoldable pub state_text : Detail → ReplayState → Text

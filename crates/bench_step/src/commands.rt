@@ -1,6 +1,6 @@
 //! What a line of a session asks.
-ghost use Rattle.bench_step.specs.Commands.{Asked, asked, asked_of, asked_by, alone, finding_in, finding_to};
-ghost use Rattle.bench_step.specs.Commands.{forward, back, go, show_at, going, holding, condition_asked, number_up_to};
+ghost use Rattle.bench_step.specs.Commands.{asked, asked_of, asked_by, alone, finding_in, finding_to};
+ghost use Rattle.bench_step.specs.Commands.{forward, back, go, going, holding, condition_asked, number_up_to};
 ghost use Rattle.bench_step.specs.Commands.{of_channel, only_number, only_time, plain, selecting, selects};
 ghost use Rattle.bench_step.specs.Commands.{showing, steps, telling, two_words, with_number, TakesMemory};
 ghost use Rattle.frame_tree.specs.Tree.{condition_in};

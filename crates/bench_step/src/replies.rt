@@ -104,7 +104,7 @@ fn print_job<W: Write>(
         detail,
         replay.channel(index),
         machine.number(),
-        machine.bus(),
+        machine,
     )
 }
 

@@ -1,8 +1,6 @@
 //! The lines of a session, one after the other.
 ghost use Rattle.bench_step.specs.Answering.{IsAllRead, IsCutShort, IsWholeSession, Ends};
-ghost use Rattle.std.specs.List.{before_first, position_or_len};
-ghost use Rattle.std.specs.Prelude.{◌≡◌, ◌≤◌, length, IfOk, IfErr, OnOk};
-ghost use Rattle.text_lines.specs.Lines.{is_line_end};
+ghost use Rattle.std.specs.Prelude.{IfOk, IfErr, OnOk};
 
 use crate::fault::StepFault;
 use crate::manners::Manner;

@@ -14,10 +14,11 @@ use Rattle.mil_bus.specs.Exchange.{BusState}
 use Rattle.frame_tree.specs.Tree.{Condition, asked, negated, both, either}
 use Rattle.frame_tree.specs.Meaning.{condition_meaning}
 use Rattle.bc_machine.specs.declared.placed.Placed.{Placed}
-use Rattle.bc_machine.specs.Controller.{world_of}
-use Rattle.bc_machine.specs.Running.{MachineState}
+use Rattle.frame_asm.specs.Shapes.{code_of_tree}
+use Rattle.bc_machine.specs.Controller.{BusRun, world_of}
+use Rattle.bc_machine.specs.Running.{MachineState, most_inserted}
 use Rattle.bc_machine.specs.Outcomes as outcomes
-use Rattle.job_file.specs.Jobs.{JobState}
+use Rattle.job_file.specs.Jobs.{JobState, tree_in}
 use Rattle.job_file.specs.Machines.{latest_outcome}
 use Rattle.ch11_recording.specs.Items.{last_number}
 use Rattle.ch11_reader.specs.Recording.{Found}
@@ -33,23 +34,25 @@ use Rattle.replay.proofs.KeptLists.{in_front, at_seam}
 
 -- ---- what a condition says
 
-pub asks_is : (plan : List Planned) (placed : List Placed) (k : OutcomeTest) (p : Point BusState Outcome) → asks (world_of plan placed) k p ≡ outcomes.test_of k p.last
-asks_is plan placed k p = by_case p.last
+pub asks_is : (plan : List Planned) (placed : List Placed) (most : ℕ) (k : OutcomeTest) (p : Point BusRun Outcome) → asks (world_of plan placed most) k p ≡ outcomes.test_of k p.last
+asks_is plan placed most k p = by_case p.last
   where
-    by_case : (last : Option Outcome) → asks (world_of plan placed) k (record { state = p.state; number = p.number; gap = p.gap; last = last }) ≡ outcomes.test_of k last
+    by_case : (last : Option Outcome) → asks (world_of plan placed most) k (record { state = p.state; number = p.number; gap = p.gap; last = last }) ≡ outcomes.test_of k last
     by_case None = refl
     by_case (Some o) = refl
 
-pub meaning_is : (plan : List Planned) (placed : List Placed) (t : Condition) (p : Point BusState Outcome) → condition_meaning (world_of plan placed) t p ≡ answer_of t p.last
-meaning_is plan placed (asked t) p = asks_is plan placed t p
-meaning_is plan placed (negated c) p = ap not (meaning_is plan placed c p)
-meaning_is plan placed (both a b) p = ap (λ x. x && condition_meaning (world_of plan placed) b p) (meaning_is plan placed a p) ∙ ap (λ x. answer_of a p.last && x) (meaning_is plan placed b p)
-meaning_is plan placed (either a b) p = ap (λ x. x || condition_meaning (world_of plan placed) b p) (meaning_is plan placed a p) ∙ ap (λ x. answer_of a p.last || x) (meaning_is plan placed b p)
+pub meaning_is : (plan : List Planned) (placed : List Placed) (most : ℕ) (t : Condition) (p : Point BusRun Outcome) → condition_meaning (world_of plan placed most) t p ≡ answer_of t p.last
+meaning_is plan placed most (asked t) p = asks_is plan placed most t p
+meaning_is plan placed most (negated c) p = ap not (meaning_is plan placed most c p)
+meaning_is plan placed most (both a b) p =
+    ap (λ x. x && condition_meaning (world_of plan placed most) b p) (meaning_is plan placed most a p) ∙ ap (λ x. answer_of a p.last && x) (meaning_is plan placed most b p)
+meaning_is plan placed most (either a b) p =
+    ap (λ x. x || condition_meaning (world_of plan placed most) b p) (meaning_is plan placed most a p) ∙ ap (λ x. answer_of a p.last || x) (meaning_is plan placed most b p)
 
-pub says_is : (test : Condition) (job : JobState) (part : ChannelPart) (number : ℕ) (m : MachineState) (last : Option Outcome) (b : Bool) → IsAfter job part number m → last ≡ m.point.last
+pub says_is : (test : Condition) (job : JobState) (part : ChannelPart) (number : ℕ) (m : MachineState) (last : Option Outcome) (b : Bool) → IsAfter job part number m → last ≡ m.latest
     → b ≡ answer_of test last → says test job part number ≡ b
 says_is test job part number m last b is same told =
-    meaning_is job.plan part.placed test (point_after job part number)
+    meaning_is job.plan part.placed (most_inserted (code_of_tree (tree_in job))) test (point_after job part number)
     ∙ ap (λ (s : BusState). answer_of test (latest_outcome s.talks)) (sym is.bus)
     ∙ ap (answer_of test) (sym is.told ∙ sym same)
     ∙ sym told
@@ -68,7 +71,7 @@ module _ (channels : List ℕ) (test : Condition) (p : Pair) (before : ℕ) wher
       is ∙ sym (count_by_more_no (λ c. eqb c p.job.channel) channels before 0 less (ne_eqb (get_or channels before 0) p.job.channel (λ e. other (e ∙ sym own))))
 
   pub says_there : (heard channel : ℕ) (m : MachineState) (last : Option Outcome) (b : Bool) → before < length channels → heard ≡ count_to channels before p.job.channel → channel ≡ p.job.channel
-      → get_or channels before 0 ≡ channel → IsAfter p.job p.part (last_number (take (heard + 1) (kept_in p.job p.part))) m → last ≡ m.point.last → b ≡ answer_of test last
+      → get_or channels before 0 ≡ channel → IsAfter p.job p.part (last_number (take (heard + 1) (kept_in p.job p.part))) m → last ≡ m.latest → b ≡ answer_of test last
       → says test p.job p.part (last_number (take (count_to channels (before + 1) p.job.channel) (kept_in p.job p.part))) ≡ b
   says_there heard channel m last b less is own here after same told =
       subst (λ (n : ℕ). says test p.job p.part (last_number (take n (kept_in p.job p.part))) ≡ b) (counts_more heard channel less is own here)

@@ -9,6 +9,7 @@ pub mod Channels
 pub mod FirstMet
 pub mod LatestMet
 pub mod Finds
+pub mod AlikeWorlds
 pub mod PlacedLists
 pub mod Lists
 pub mod Standing

@@ -66,7 +66,7 @@ module _ (found : List Found) (job : JobState) (part : ChannelPart) where
   one_mark mark is (suc k) other at = absurd cc
 
   pub played_begins : (channels : List ℕ) (s : Standing) (hs : List Message) (mark : Mark) (marks : List Mark) (due next : Due) (old new : List Stop) → s.heard ≡ 0 → IsThere job part 0 s.machine
-      → hs ≡ reading found job.channel → mark.number ≡ s.machine.point.number → mark.last ≡ s.machine.point.last → marks ≡ mark ∷ [] → due.stop ≡ 0 → due.channel ≡ job.channel → length new ≡ length old
+      → hs ≡ reading found job.channel → mark.number ≡ s.machine.point.number → mark.last ≡ s.machine.latest → marks ≡ mark ∷ [] → due.stop ≡ 0 → due.channel ≡ job.channel → length new ≡ length old
       → IsDue channels due.channel (s.heard + 1) (length new) next → KeepsMoreStates due.channel channels s due.stop old next.stop new → IsPlayed found job part channels 0 s hs marks next old new
   played_begins channels s hs mark marks due next old new none there heard number last pushed first channel count is keeps = record {
     playing = record {
@@ -90,7 +90,7 @@ module _ (found : List Found) (job : JobState) (part : ChannelPart) where
       behind = subst (λ (n : ℕ). IsThere job part (last_number (take n (kept_in job part))) s.machine) (sym none) there
 
   pub plays_kept : (channels : List ℕ) (n : ℕ) (s : Standing) (next : MachineState) (mark : Mark) (hs rest : List Message) (marks others : List Mark) (due later : Due) (old new newer : List Stop)
-      → IsPlayed found job part channels n s hs marks due old new → IsNextRecorded job part s.machine.point.number next hs rest → mark.number ≡ next.point.number → mark.last ≡ next.point.last
+      → IsPlayed found job part channels n s hs marks due old new → IsNextRecorded job part s.machine.point.number next hs rest → mark.number ≡ next.point.number → mark.last ≡ next.latest
       → others ≡ marks ++ mark ∷ [] → length newer ≡ length new → IsDue channels due.channel (s.heard + 1 + 1) (length newer) later
       → KeepsMoreStates due.channel channels (record { heard = s.heard + 1; machine = next }) due.stop new later.stop newer
       → IsPlayed found job part channels (n + 1) (record { heard = s.heard + 1; machine = next }) rest others later old newer

@@ -168,7 +168,7 @@ module _ (found : List Found) (job : JobState) (part : ChannelPart) where
   -- ---- as the code meets them
 
   pub keeps_at : (n : ℕ) (m next : MachineState) (mark : Mark) (hs rest : List Message) (states others : List Mark) → IsPlaying found job part n m hs states
-      → IsNextRecorded job part m.point.number next hs rest → mark.number ≡ next.point.number → mark.last ≡ next.point.last → others ≡ states ++ mark ∷ []
+      → IsNextRecorded job part m.point.number next hs rest → mark.number ≡ next.point.number → mark.last ≡ next.latest → others ≡ states ++ mark ∷ []
       → IsPlaying found job part (n + 1) next rest others
   keeps_at n m next mark hs rest states others is kept_records number last pushed =
       let here : IsNextRecorded job part n next hs rest = subst (λ (k : ℕ). IsNextRecorded job part k next hs rest) is.there.number_is kept_records in

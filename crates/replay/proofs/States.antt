@@ -6,8 +6,8 @@ use Rattle.bc_machine.specs.Running.{MachineState}
 use Rattle.frame_tree.specs.Bounds.{IsSound}
 use Rattle.job_file.specs.Machines.{IsLatestOutcome}
 use Rattle.job_file.specs.Jobs.{JobState, tree_in, job_in}
-use Rattle.job_file.specs.Meaning.{bus_after}
-use Rattle.job_file.specs.Machines.{BusSoFar}
+use Rattle.job_file.specs.Meaning.{bus_after, made_after}
+use Rattle.job_file.specs.Machines.{BusSoFar, MadeSoFar}
 use Rattle.ch11_recording.specs.Items.{last_number}
 use Rattle.ch11_reader.specs.Recording.{Found}
 use Rattle.bench_report.specs.Reports.{ChannelPart}
@@ -25,11 +25,12 @@ use Rattle.replay.proofs.Counting.{is_of, room}
 -- ---- one job
 
 -- a controller of a job that stands behind a message is the job's after it
-pub after : BusSoFar → (job : JobState) (part : ChannelPart) (number : ℕ) (m : MachineState) → IsSound (tree_in job) → IsThere job part number m → IsAfter job part number m
-after law job part number m sound there = record {
+pub after : BusSoFar → MadeSoFar → (job : JobState) (part : ChannelPart) (number : ℕ) (m : MachineState) → IsSound (tree_in job) → IsThere job part number m → IsAfter job part number m
+after law made_law job part number m sound there = record {
   of_job = there.of_job;
   number_is = there.number_is;
   bus = law (job_in job) part.placed m sound there.of_job ∙ ap (bus_after (job_in job) part.placed) there.number_is;
+  made = made_law (job_in job) part.placed m sound there.of_job ∙ ap (made_after (job_in job) part.placed) there.number_is;
   told = there.told;
 }
 
@@ -51,10 +52,10 @@ module _ (job : JobState) (part : ChannelPart) (channel : ℕ) (marks : List Mar
   sound_of : IsSound (tree_in p.job)
   sound_of = sound_pair job part p track.sound same
 
-  pub last_of : BusSoFar → IsLast p.job p.part (last_number (take k (kept_in p.job p.part))) mark.last
-  last_of law = record {
+  pub last_of : BusSoFar → MadeSoFar → IsLast p.job p.part (last_number (take k (kept_in p.job p.part))) mark.last
+  last_of law made_law = record {
     machine = marked.machine;
-    after = after law p.job p.part (last_number (take k (kept_in p.job p.part))) marked.machine sound_of marked.there;
+    after = after law made_law p.job p.part (last_number (take k (kept_in p.job p.part))) marked.machine sound_of marked.there;
     told = marked.last_is;
   }
 

@@ -84,7 +84,7 @@ pub record IsUnplayed (job : JobState) (part : ChannelPart) (p : Playing) : Type
   pub due : p.due ≡ record { channel = job.channel; stop = 0; heard = 0 }
   pub mark : Mark
   pub number : mark.number ≡ p.standing.machine.point.number
-  pub last : mark.last ≡ p.standing.machine.point.last
+  pub last : mark.last ≡ p.standing.machine.latest
   pub marks : p.marks.items ≡ mark ∷ []
 
 -- whatever the file is of which so much is left, and whatever states were kept at first: one message more is played

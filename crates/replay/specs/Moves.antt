@@ -3,9 +3,10 @@ use Rattle.std.specs.Prelude.{◌≡◌, ℕ, suc, ◌+◌, ◌%◌, ◌<◌, �
 use Rattle.mil_word.specs.Timing.{least_gap}
 use Rattle.mil_message.specs.World.{Point}
 use Rattle.mil_bus.specs.declared.outcomes.Outcome.{Outcome}
-use Rattle.mil_bus.specs.Exchange.{BusState}
 use Rattle.frame_tree.specs.Tree.{Condition}
 use Rattle.frame_tree.specs.Meaning.{condition_meaning}
+use Rattle.bc_machine.specs.Controller.{BusRun}
+use Rattle.bc_machine.specs.Running.{unplayed}
 use Rattle.job_file.specs.Jobs.{JobState, job_in}
 use Rattle.job_file.specs.Meaning.{world_at, bus_after}
 use Rattle.job_file.specs.Machines.{latest_outcome}
@@ -75,10 +76,10 @@ OfJob s index P = (job : JobState) (part : ChannelPart) → slice_get s.jobs ind
 -- ---- conditions
 
 -- where a job is after so many messages; a condition looks at the last outcome alone
-abbrev pub point_after : JobState → ChannelPart → ℕ → Point BusState Outcome
+abbrev pub point_after : JobState → ChannelPart → ℕ → Point BusRun Outcome
 point_after job part number =
     let bus = bus_after (job_in job) part.placed number in
-    record { state = bus; number = number; gap = least_gap; last = latest_outcome bus.talks }
+    record { state = unplayed bus; number = number; gap = least_gap; last = latest_outcome bus.talks }
 
 -- what a test says of the outcome of that message
 abbrev pub says : Condition → JobState → ChannelPart → ℕ → Bool

@@ -3,7 +3,7 @@ use Rattle.std.specs.Prelude.{◌≡◌, ℕ, ◌==◌, List, map, take, count_b
 use Rattle.mil_bus.specs.Exchange.{played}
 use Rattle.bc_machine.specs.Running.{MachineState}
 use Rattle.job_file.specs.Jobs.{JobState, job_in}
-use Rattle.job_file.specs.Meaning.{bus_after}
+use Rattle.job_file.specs.Meaning.{bus_after, made_after}
 use Rattle.job_file.specs.Machines.{IsOf, IsLatestOutcome}
 use Rattle.ch11_f1.specs.BodyReading.{Message}
 use Rattle.ch11_recording.specs.Items.{last_number}
@@ -31,4 +31,5 @@ pub record IsAfter (job : JobState) (part : ChannelPart) (number : ℕ) (m : Mac
   pub of_job : IsOf (job_in job) part.placed m
   pub number_is : m.point.number ≡ number
   pub bus : played m.point.state ≡ bus_after (job_in job) part.placed number
+  pub made : m.made ≡ made_after (job_in job) part.placed number
   pub told : IsLatestOutcome m

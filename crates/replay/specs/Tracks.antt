@@ -34,7 +34,7 @@ pub record IsMarked (job : JobState) (part : ChannelPart) (number : ℕ) (mark :
   pub machine : MachineState
   pub there : IsThere job part number machine
   pub number_is : mark.number ≡ machine.point.number
-  pub last_is : mark.last ≡ machine.point.last
+  pub last_is : mark.last ≡ machine.latest
 
 -- one mark before all messages, and one behind each of these records
 pub record AreMarks (job : JobState) (part : ChannelPart) (ns : List Numbered) (marks : List Mark) : Type 0 where
@@ -50,4 +50,4 @@ pub record IsTrack (job : JobState) (part : ChannelPart) (channel : ℕ) (marks 
 pub record IsLast (job : JobState) (part : ChannelPart) (number : ℕ) (last : Option Outcome) : Type 0 where
   pub machine : MachineState
   pub after : IsAfter job part number machine
-  pub told : last ≡ machine.point.last
+  pub told : last ≡ machine.latest

@@ -81,11 +81,11 @@ fn is_over(
 /// What is kept of the message that a controller stands behind.
 fn mark(machine: &Machine) -> Mark
     ensures number { result.number ≡ machine.now.point.number }
-    ensures last { result.last ≡ machine.now.point.last }
+    ensures last { result.last ≡ machine.now.latest }
 {
     Mark {
         number: machine.number(),
-        last: machine.last_outcome(),
+        last: machine.latest_outcome(),
     }
 }
 

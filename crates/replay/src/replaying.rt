@@ -2,7 +2,7 @@
 ghost use Rattle.frame_tree.specs.Tree.{condition_in};
 ghost use Rattle.job_file.specs.Jobs.{JobState, job_in};
 ghost use Rattle.job_file.specs.Machines.{IsOf, IsLatestOutcome};
-ghost use Rattle.job_file.specs.Meaning.{bus_after};
+ghost use Rattle.job_file.specs.Meaning.{bus_after, made_after};
 ghost use Rattle.mil_bus.specs.Exchange.{played};
 ghost use Rattle.replay.specs.Accord.{Agrees};
 ghost use Rattle.replay.specs.Moves.{OpensNot, PastWhere, StartWhere, IsMemory, IsMove};
@@ -271,6 +271,10 @@ impl<'a> Replay<'a> {
         ensures bus { OfJob self.now.state index
             (λ job part. played result.now.point.state
             ≡ bus_after (job_in job) part.placed
+            (latest_kept_number self.now.state.found self.now.state.place job part)) }
+        ensures made { OfJob self.now.state index
+            (λ job part. result.now.made
+            ≡ made_after (job_in job) part.placed
             (latest_kept_number self.now.state.found self.now.state.place job part)) }
         ensures outcome { IsLatestOutcome result.now }
     {

@@ -1,4 +1,4 @@
-use Rattle.std.proofs.Common.{◌≡◌, ◌++◌, ◌||◌, Bool, not, true, false, ap, refl}
+use Rattle.std.proofs.Common.{◌≡◌, ◌++◌, ◌||◌, not, true, false, ap, refl}
 use Rattle.std.specs.Prelude.{codes}
 use Rattle.mil_word.specs.Fields.{field_values}
 use Rattle.mil_terminal.specs.declared.readers.HostConditions.{HostConditions}

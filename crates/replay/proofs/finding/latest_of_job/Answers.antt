@@ -1,4 +1,4 @@
-use Rattle.std.proofs.Common.{ℕ, ◌+◌, ◌<◌, ◌∙◌, List, Option, length, sym, subst, arith}
+use Rattle.std.proofs.Common.{◌+◌, ◌<◌, ◌∙◌, length, sym, subst, arith}
 use Rattle.frame_tree.specs.Tree.{condition_in}
 use Rattle.replay.specs.Finding.{IsMetBy, FindsBack}
 use Rattle.replay.proofs.FirstMet.{counts_more, counts_same, says_there, met_here, not_true, not_own}

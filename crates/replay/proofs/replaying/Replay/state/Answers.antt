@@ -27,6 +27,9 @@ returns-clause-number c job part j q = (is_after c job part j q).number_is
 pub returns-clause-bus : goal.returns-clause-bus
 returns-clause-bus c job part j q = (is_after c job part j q).bus
 
+pub returns-clause-made : goal.returns-clause-made
+returns-clause-made c job part j q = (is_after c job part j q).made
+
 pub returns-clause-outcome : goal.returns-clause-outcome
 returns-clause-outcome c =
     let many : length c.args.self.now.state.jobs ≡ length c.self.inside.timeline.tracks.items =
