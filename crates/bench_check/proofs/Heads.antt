@@ -11,7 +11,7 @@ use Rattle.frame_text.specs.Frames.{tree_of_text}
 use Rattle.frame_text.specs.declared.faults.Cause.{Cause}
 use Rattle.job_file.specs.Options.{◌>>=◌}
 use Rattle.job_file.specs.Numbers.{number_of, number_within, start_of}
-use Rattle.job_file.specs.Lines.{Said, blank, said, said_in, of_keyword, fault_word_of, fault_of, first, one, four, front, span_of, series_of, channel_in, start_in, terminal_in, action_in, fault_in, faults_in, series_in}
+use Rattle.job_file.specs.Lines.{Said, blank, action, control, said, said_in, of_keyword, is_controller, fault_word_of, fault_of, first, one, four, front, span_of, series_of, channel_in, start_in, terminal_in, action_in, fault_in, faults_in, series_in}
 use Rattle.job_file.specs.HeadLines.{Head, head_of}
 use Rattle.job_file.specs.Spelled.{ChannelJob, joined_lines, is_script, parted, all_said, lawful, first_of, job_with, job_of, spelled}
 use Rattle.text_lines.specs.Lines.{is_line_end, lines_of}
@@ -97,6 +97,11 @@ never : {X : Type 0} (o : Option X) (f : X → Option Said) → ((x : X) → is_
 never None f h = refl
 never (Some x) f h = h x
 
+by_host : (b : Bool) (number : ℕ) (host : Text) (ws : List Text)
+    → is_script (if b then Some (control number ws) else (number_within 0 30 host >>= (λ address. Some (action number address ws)))) ≡ false
+by_host true number host ws = refl
+by_host false number host ws = never (number_within 0 30 host) _ (λ address. refl)
+
 of_other : (k : Keyword) (ws : List Text) → (k ≡ keyword.Script → ⊥) → is_script (of_keyword k ws) ≡ false
 unfolding of_keyword channel_in start_in terminal_in action_in fault_in faults_in series_in
 of_other keyword.Channel ws h = never (one ws) _ (λ w. never (number_within 1 65535 w) _ (λ n. refl))
@@ -104,7 +109,7 @@ of_other keyword.Start ws h = never (one ws) _ (λ w. never (start_of w) _ (λ n
 of_other keyword.Terminal ws h = never (one ws) _ (λ w. never (number_within 0 30 w) _ (λ n. refl))
 of_other keyword.At ws h =
     never (first ws) _ (λ n. never (first n.1) _ (λ a. never (first a.1) _ (λ more.
-    never (number_within 1 1000000 n.0) _ (λ number. never (number_within 0 30 a.0) _ (λ address. refl)))))
+    never (number_within 1 1000000 n.0) _ (λ number. by_host (is_controller a.0) number a.0 a.1))))
 of_other keyword.Fault ws h =
     never (first ws) _ (λ n. never (first n.1) _ (λ k. never (fault_word_of k.0) _ (λ kind. never (fault_of kind k.1) _ (λ f.
     never (number_of n.0) _ (λ number. refl)))))

@@ -7,5 +7,6 @@ pub mod Noted
 pub mod Overruns
 pub mod Pieces
 pub mod Played
+pub mod Steps
 pub mod Told
 pub mod Tried

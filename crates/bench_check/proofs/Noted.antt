@@ -1,31 +1,42 @@
 -- What one message adds to the faults that met nothing.
-use Rattle.std.proofs.Common.{◌≡◌, ℕ, suc, ◌+◌, ◌-◌, List, ◌∷◌, [], ◌++◌, refl, ap, ap₂, ◌∙◌, sym, add-one}
-use Rattle.std.specs.Prelude.{not}
+use Rattle.std.proofs.Common.{◌≡◌, ℕ, suc, ◌+◌, ◌-◌, List, ◌∷◌, [], ◌++◌, length, refl, ap, ap₂, ◌∙◌, sym, add-one}
+use Rattle.std.specs.Prelude.{not, Option, Some, None}
 use Rattle.std.specs.List.{filter}
 use Rattle.mil_line.specs.Plans.{Planned, faults_of}
 use Rattle.mil_bus.specs.Exchange.{BusState, played}
-use Rattle.mil_bus.specs.Actions.{acted}
 use Rattle.mil_bus.specs.declared.talks.Talk.{Talk}
 use Rattle.mil_line.specs.declared.faults.Fault.{Fault}
 use Rattle.frame_tree.specs.Bounds.{IsSound}
 use Rattle.bc_machine.specs.declared.upcoming.Upcoming.{Upcoming}
 use Rattle.bc_machine.specs.declared.placed.Placed.{Placed}
-use Rattle.bc_machine.specs.Controller.{placed_at, all_acted, ready}
-use Rattle.bc_machine.specs.Running.{MachineState, stepped}
-use Rattle.bc_machine.specs.Coming.{IsComing, IsStill}
+use Rattle.bc_machine.specs.declared.placed.HostAction.{HostAction}
+use Rattle.bc_machine.specs.declared.placed.HostAction.TheVariants.{Terminal, Controller}
+use Rattle.controller_host.specs.Values.{InsertionValue}
+use Rattle.bc_machine.specs.Controller.{placed_at, host_acted, all_acted, ready}
+use Rattle.bc_machine.specs.Running.{MachineState, waiting, stepped}
+use Rattle.bc_machine.specs.Coming.{IsComing, IsStill, bus_before}
 use Rattle.job_file.specs.Jobs.{JobState, tree_in, job_in}
 use Rattle.job_file.specs.Machines.{IsOf, BusSoFar}
 use Rattle.bench_check.specs.Meeting.{meets_something, sent_under}
 use Rattle.bench_check.specs.Unmet.{bus_at, met_behind, unmet_of, unmet_behind, unmet_up_to, numbered, planned_behind, made, unmet}
 
 -- the actions of hosts leave the least start of a bus alone, and have nothing to do with it
+host_played : (x : HostAction) (b : BusState) → host_acted (played b) x ≡ played (host_acted b x)
+host_played (Terminal address action) b = refl
+host_played (Controller asked) b = refl
+
 all_played : (ps : List Placed) (b : BusState) → all_acted (played b) ps ≡ played (all_acted b ps)
 all_played [] b = refl
-all_played (p ∷ ps) b = all_played ps (acted b p.address p.action)
+all_played (p ∷ ps) b = ap (λ (v : BusState). all_acted v ps) (host_played p.action b) ∙ all_played ps (host_acted b p.action)
 
 ready_played : (ps : List Placed) (n : ℕ) (b : BusState) → ready ps n (played b) ≡ played (ready ps n b)
 unfolding ready
 ready_played ps n b = all_played (placed_at n ps) b
+
+-- nor does the tick that an inserted message waits for
+before_played : (m : MachineState) (o : Option InsertionValue) → m.point.number ≡ length m.made → played (bus_before m o) ≡ ready m.placed (m.point.number + 1) (played m.point.state)
+before_played m None counts = ap (λ n. played (ready m.placed (n + 1) m.point.state)) (sym counts) ∙ sym (ready_played m.placed (m.point.number + 1) m.point.state)
+before_played m (Some x) counts = ap (λ n. played (ready m.placed (n + 1) m.point.state)) (sym counts) ∙ sym (ready_played m.placed (m.point.number + 1) m.point.state)
 
 -- so it has none to do with what faults meet
 unmet_played : (b : BusState) (ts : List Talk) (faults : List Fault) → unmet_of (played b) ts faults ≡ unmet_of b ts faults
@@ -44,7 +55,7 @@ coming_is so_far job m n u sound of next is h =
     let number : n.point.number ≡ k + 1 = ap (λ (z : MachineState). z.point.number) is ∙ h.number in
     let then : played n.point.state ≡ bus_at job (k + 1) = so_far (job_in job) job.actions n sound next ∙ ap (bus_at job) number in
     let met : met_behind job k ≡ played u.bus =
-    sym (ap played h.bus ∙ sym (ready_played m.placed (k + 1) m.point.state) ∙ ap₂ (λ ps b. ready ps (k + 1) b) of.actions here) in
+    sym (ap played h.bus ∙ before_played m (waiting m) of.under_way.number ∙ ap₂ (λ ps b. ready ps (k + 1) b) of.actions here) in
     let talks : (bus_at job (k + 1)).talks ≡ u.talk ∷ m.point.state.talks = ap (λ (b : BusState). b.talks) (sym then) ∙ ap (λ (z : MachineState). z.point.state.talks) is ∙ h.talks in
     ap (numbered (k + 1)) (ap₂ (λ b ts. unmet_of b ts faults) met talks ∙ unmet_played u.bus (u.talk ∷ m.point.state.talks) faults)
 

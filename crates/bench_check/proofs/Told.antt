@@ -5,8 +5,7 @@ use Rattle.std.specs.Io.KnownBytes.{Appends}
 use Rattle.std.proofs.lemmas.Bool.{lt-ltb}
 use Rattle.std.proofs.KnownBytes.{Appends-nil, Appends-trans}
 use Rattle.text_lines.specs.Words.{Text}
-use Rattle.frame_code.specs.Table.{halted}
-use Rattle.bc_machine.specs.Running.{MachineState, stepped, turn_of}
+use Rattle.bc_machine.specs.Running.{MachineState, HasEnded, stepped}
 use Rattle.job_file.specs.Jobs.{JobState}
 use Rattle.bench_check.specs.FrameLines.{frame_line_at}
 use Rattle.bench_check.specs.Listing.{said_at, listing, behind, HasTold, IsTold}
@@ -58,16 +57,16 @@ pub told_still : (job : JobState) (m n : MachineState) (a b c : Option Text) →
 told_still job m n a b c h is frame =
     told_on job m n a b c c [] h is frame (subst (Appends c c) (sym (said_none m)) (Appends-nil c))
 
--- where the controller has halted all is told
-pub told_all : (job : JobState) (m : MachineState) (a b c : Option Text) → HasTold job m a b → turn_of m ≡ halted → Appends b c (frame_line_at m) → IsTold job a c
-told_all job m a b c h halts frame = record {
+-- where the controller has ended all is told
+pub told_all : (job : JobState) (m : MachineState) (a b c : Option Text) → HasTold job m a b → HasEnded m → Appends b c (frame_line_at m) → IsTold job a c
+told_all job m a b c h ended frame = record {
   last = m;
-  halts = halts;
+  ended = ended;
   told = record {
     texts = h.texts;
     at = h.at;
     told =
-        subst (Appends a c) (ap (λ xs. listing (beginning_of job) h.texts ++ xs) (line_at_none m halts) ∙ append-nil (listing (beginning_of job) h.texts))
+        subst (Appends a c) (ap (λ xs. listing (beginning_of job) h.texts ++ xs) (line_at_none m ended.halts) ∙ append-nil (listing (beginning_of job) h.texts))
         (Appends-trans a b c _ _ h.told frame);
   };
 }

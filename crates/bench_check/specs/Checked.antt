@@ -20,7 +20,7 @@ pub record AreMistakesOf (is_all : Bool) (job : JobState) (f : Findings) (ms : L
   pub made : f.made ≡ made job
   pub unmet : f.unmet.items ≡ unmet job
   pub overruns : f.overruns.items ≡ overruns job
-  pub room : f.room ≡ most_items job
+  pub room : f.room ≡ most_items 0 job
   pub all : ms ≡ mistakes is_all job f (tight_frames (tree_in job))
 
 -- all that is probably a mistake in a job
@@ -43,7 +43,7 @@ pub record IsChecked (way : Way) (job : JobState) (old new : Option Text) (c : C
   pub found : Findings
   pub ms : List Mistake
   pub of : AreMistakesOf (way.summary || way.strict) job found ms
-  pub room : c.room ≡ most_items job
+  pub room : c.room ≡ most_items 0 job
   pub suspicious : c.is_suspicious ≡ is_any ms
   pub between : Option Text
   pub listed : ListsMessages way.summary job old between

@@ -7,6 +7,8 @@ use Rattle.mil_word.specs.Fields.{field_values}
 use Rattle.mil_host.specs.declared.actions.Action.{Action}
 use Rattle.mil_host.specs.declared.actions.Action.TheVariants.{Transmit, Ramp}
 use Rattle.bc_machine.specs.declared.placed.Placed.{Placed}
+use Rattle.bc_machine.specs.declared.placed.HostAction.{HostAction}
+use Rattle.bc_machine.specs.declared.placed.HostAction.TheVariants.{Terminal, Controller}
 
 -- the subaddress at which an action puts words up, if it puts any up
 abbrev pub put_up_at : Action → Option ℕ
@@ -22,9 +24,14 @@ is_there sub (Some at) = at == sub
 abbrev pub puts_up : ℕ → Action → Bool
 puts_up sub action = is_there sub (put_up_at action)
 
--- it is done at this terminal, before or at the message of a number
+-- it is done at this terminal
+abbrev pub fills_at : ℕ → ℕ → HostAction → Bool
+fills_at address sub (Terminal own action) = own == address && puts_up sub action
+fills_at address sub (Controller asked) = false
+
+-- before or at the message of a number
 abbrev pub fills : ℕ → ℕ → ℕ → Placed → Bool
-fills number address sub p = nat_le p.number number && (p.address == address && puts_up sub p.action)
+fills number address sub p = nat_le p.number number && fills_at address sub p.action
 
 abbrev pub is_filled : ℕ → ℕ → ℕ → List Placed → Bool
 is_filled number address sub actions = list_any (fills number address sub) actions

@@ -3,8 +3,7 @@
 use Rattle.std.specs.Prelude.{◌≡◌, nat_lt, if◌then◌else◌, List, [], ◌∷◌, ◌++◌, Option}
 use Rattle.std.specs.Io.KnownBytes.{Appends}
 use Rattle.text_lines.specs.Words.{Text}
-use Rattle.frame_code.specs.Table.{halted}
-use Rattle.bc_machine.specs.Running.{MachineState, stepped, turn_of}
+use Rattle.bc_machine.specs.Running.{MachineState, HasEnded, stepped}
 use Rattle.job_file.specs.Jobs.{JobState}
 use Rattle.bench_check.specs.FrameLines.{frame_line_at}
 use Rattle.bench_check.specs.Overruns.{beginning_of}
@@ -29,8 +28,8 @@ pub record HasTold (job : JobState) (m : MachineState) (old new : Option Text) :
   pub at : behind (beginning_of job) texts ≡ m
   pub told : Appends old new (listing (beginning_of job) texts)
 
--- the same once all is told of a job, whose controller has halted
+-- the same once all is told of a job, whose controller has ended
 pub record IsTold (job : JobState) (old new : Option Text) : Type 0 where
   pub last : MachineState
-  pub halts : turn_of last ≡ halted
+  pub ended : HasEnded last
   pub told : HasTold job last old new

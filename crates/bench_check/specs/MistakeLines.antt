@@ -12,6 +12,9 @@ use Rattle.mil_line.specs.declared.faults.Fault.TheVariants.{Pause, Babble}
 use Rattle.mil_word.specs.declared.Sync.{Sync}
 use Rattle.mil_word.specs.declared.Sync.TheVariants.{CommandSync, DataSync}
 use Rattle.bc_machine.specs.declared.placed.Placed.{Placed}
+use Rattle.bc_machine.specs.declared.placed.HostAction.{HostAction}
+use Rattle.bc_machine.specs.declared.placed.HostAction.TheVariants.{Terminal, Controller}
+use Rattle.controller_text.specs.Printing.{control_text}
 use Rattle.bench_check.specs.declared.findings.Findings.{Findings}
 use Rattle.bench_check.specs.declared.fitting.Tight.{Tight}
 use Rattle.bench_check.specs.declared.frames.Overrun.{Overrun}
@@ -46,9 +49,12 @@ abbrev pub planned_text : ℕ → Fault → Text
 planned_text number fault = codes "fault " ++ (decimal number ++ (codes " " ++ fault_text fault))
 
 -- a placed action as it stands in a job
+abbrev pub host_text : HostAction → Text
+host_text (Terminal address action) = decimal address ++ (codes " " ++ action_text action)
+host_text (Controller asked) = codes "bc " ++ control_text asked
+
 abbrev pub placed_text : Placed → Text
-placed_text p = codes "at " ++ (decimal p.number ++ (codes " "
-    ++ (decimal p.address ++ (codes " " ++ action_text p.action))))
+placed_text p = codes "at " ++ (decimal p.number ++ (codes " " ++ host_text p.action))
 
 abbrev pub unsent_line : ℕ → Fault → Text
 unsent_line number fault = codes "  " ++ (planned_text number fault
@@ -83,6 +89,10 @@ abbrev pub undone_line : Placed → Text
 undone_line p = codes "  " ++ (placed_text p
     ++ (codes " is never done: message " ++ (decimal p.number ++ codes " is never sent\n")))
 
+abbrev pub uncarried_line : Placed → Text
+uncarried_line p = codes "  " ++ (placed_text p
+    ++ codes " changes nothing: no message of the script carries such a word\n")
+
 abbrev pub stranger_line : ℕ → ℕ → ℕ → Text
 stranger_line address first count = codes "  terminal " ++ (decimal address
     ++ (codes " is not there, and message " ++ (decimal first
@@ -108,6 +118,7 @@ mistake_line (kinds.Tight t) = tight_line t
 mistake_line (kinds.MoreTight more) = more_line more
 mistake_line (kinds.Late o) = overrun_line o
 mistake_line (kinds.Undone p) = undone_line p
+mistake_line (kinds.Uncarried p) = uncarried_line p
 mistake_line (kinds.Stranger address first count) = stranger_line address first count
 mistake_line (kinds.Uncalled address) = uncalled_line address
 mistake_line (kinds.Unfilled address sub first) = unfilled_line address sub first

@@ -64,6 +64,10 @@ late_of overruns = map kinds.Late overruns
 abbrev pub undone_at : ℕ → Placed → List Mistake
 undone_at made p = if nat_lt made p.number then kinds.Undone p ∷ [] else []
 
+-- what no message of the script carries
+abbrev pub uncarried_of : List Placed → List Mistake
+uncarried_of uncarried = map kinds.Uncarried uncarried
+
 -- a terminal that is called and is not there
 abbrev pub stranger_at : List ℕ → Calls → ℕ → List Mistake
 stranger_at addresses calls address =
@@ -113,5 +117,6 @@ mistakes is_all job f tight =
     ++ (tight_of tight
     ++ (late_of f.overruns.items
     ++ (flat_map (undone_at f.made) job.actions
+    ++ (uncarried_of f.uncarried.items
     ++ (strangers_below job.addresses f.calls 31
-    ++ (flat_map (uncalled_at f.calls) job.addresses ++ further is_all job.addresses f.oddities)))))
+    ++ (flat_map (uncalled_at f.calls) job.addresses ++ further is_all job.addresses f.oddities))))))

@@ -3,11 +3,12 @@
 use Rattle.std.specs.Prelude.{ℕ, zero, suc, ◌+◌, ◌-◌, ◌*◌, nat_lt, if◌then◌else◌, List, [], ◌∷◌, ◌++◌, Option, Some}
 use Rattle.std.specs.Prelude.{None}
 use Rattle.mil_bus.specs.Exchange.{clock_of}
+use Rattle.frame_code.specs.Table.{Code}
 use Rattle.frame_asm.specs.Shapes.{code_of_tree}
 use Rattle.frame_load.specs.Budget.{budget}
 use Rattle.bc_machine.specs.declared.frames.Closing.{Closing}
 use Rattle.bc_machine.specs.Frames.{closing_of}
-use Rattle.bc_machine.specs.Running.{MachineState, started, stepped}
+use Rattle.bc_machine.specs.Running.{MachineState, most_inserted, started, stepped}
 use Rattle.job_file.specs.Jobs.{JobState, tree_in, job_in}
 use Rattle.job_file.specs.Meaning.{bus_of}
 use Rattle.bench_check.specs.declared.frames.Overrun.{Overrun}
@@ -37,6 +38,10 @@ overruns_in (suc n) m = overruns_at m ++ overruns_in n (stepped m)
 abbrev pub beginning_of : JobState → MachineState
 beginning_of job = started (code_of_tree (tree_in job)) (bus_of (job_in job)) job.plan job.actions
 
--- those of all steps: behind a Halt the controller stands still
+-- how many steps a controller makes at most: those of its code, and one for each message that its host may insert
+abbrev pub most_steps : Code → ℕ
+most_steps code = budget code.operations + most_inserted code
+
+-- those of all steps: where it has ended, the controller stands still
 abbrev pub overruns : JobState → List Overrun
-overruns job = overruns_in (budget (code_of_tree (tree_in job)).operations) (beginning_of job)
+overruns job = overruns_in (most_steps (code_of_tree (tree_in job))) (beginning_of job)

@@ -1,16 +1,17 @@
 -- A job that is tried step by step.
-use Rattle.std.specs.Prelude.{◌≡◌, ℕ, ◌-◌, ◌<◌, ◌++◌}
+use Rattle.std.specs.Prelude.{◌≡◌, ℕ, ◌+◌, ◌-◌, ◌<◌, ◌++◌}
 use Rattle.frame_load.specs.Budget.{budget}
-use Rattle.bc_machine.specs.Running.{MachineState}
+use Rattle.bc_machine.specs.Hosting.{inserted_in}
+use Rattle.bc_machine.specs.Running.{MachineState, most_inserted}
 use Rattle.job_file.specs.Jobs.{JobState, job_in}
 use Rattle.job_file.specs.Machines.{IsOf}
 use Rattle.bench_check.specs.declared.trying.Trial.{Trial}
 use Rattle.bench_check.specs.Overruns.{overruns, overruns_in}
 use Rattle.bench_check.specs.Unmet.{made, unmet_up_to}
 
--- how many steps are left of the budget of a controller's code
+-- how many steps are left of a controller's: of the budget of its code, and of the messages that may be inserted
 abbrev pub steps_left : MachineState → ℕ
-steps_left m = budget m.code.operations - m.taken
+steps_left m = (budget m.code.operations - m.taken) + (most_inserted m.code - inserted_in m.made)
 
 -- the controller is the job's; of the messages so far the faults that met nothing are kept, and of the steps so far the
 -- frames that took too long
@@ -24,7 +25,7 @@ pub record StepsOn (job : JobState) (old new : Trial) : Type 0 where
   pub tried : IsTried job new
   pub smaller : steps_left new.machine < steps_left old.machine
 
--- its controller has halted
+-- its controller has ended
 pub record HasEnded (job : JobState) (t : Trial) : Type 0 where
   pub sent : t.machine.point.number ≡ made job
   pub unmet : t.unmet.items ≡ unmet_up_to job (made job)

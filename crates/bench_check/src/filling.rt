@@ -4,7 +4,7 @@ ghost use Rattle.bench_check.specs.Filling as spec;
 ghost use Rattle.mil_word.specs.Fields.{field_values};
 ghost use Rattle.std.specs.Prelude.{◌≡◌, ◌+◌, ◌*◌, ◌<◌, ◌++◌, ◌∷◌, [], ℕ, List, nat_le, ◌||◌, IfSome};
 
-use bc_machine::{Actions, Placed};
+use bc_machine::{Actions, HostAction, Placed};
 use mil_host::Action;
 use mil_word::fields::FIELD_VALUES;
 use std::marker::Model;
@@ -104,9 +104,12 @@ fn note(firsts: &mut [Option<u32>; PAIRS], one: &Placed)
     ensures { (before : List PlacedAction) → spec.AreFirsts firsts.old before
         → spec.AreFirsts firsts.new (before ++ one.now ∷ []) }
 {
-    if let Some(sub) = put_up_at(&one.action) {
-        if usize::from(one.address) < FIELD_VALUES {
-            let place = pair(one.address, sub);
+    let HostAction::Terminal { address, action } = &one.action else {
+        return;
+    };
+    if let Some(sub) = put_up_at(action) {
+        if usize::from(*address) < FIELD_VALUES {
+            let place = pair(*address, sub);
             firsts[place] = Some(earlier(firsts[place], one.number));
         }
     }

@@ -9,6 +9,7 @@ use crate::frames::Overrun;
 use crate::mistake_lines::put_mistake;
 use crate::mistakes::Mistake;
 use crate::oddities::Oddities;
+use bc_machine::Placed;
 use mil_line::Fault;
 use std::alloc::Global;
 use std::io;
@@ -29,8 +30,10 @@ pub struct Findings {
     pub overruns: Vec<Overrun>,
     /// What else is odd.
     pub oddities: Oddities,
-    /// How many items of the queue the job may take: one for each message that its script may send, and one for its
-    /// end.
+    /// What the host of the controller sets and no message of the script carries, in the order of the numbers.
+    pub uncarried: Vec<Placed>,
+    /// How many items of the queue the job may take: one for each message that its script may send or that it has
+    /// inserted, and one for its end.
     pub room: u64,
 }
 

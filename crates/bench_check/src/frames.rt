@@ -1,6 +1,6 @@
 //! Frames with a period: what time was left of each, and which took longer.
-ghost use Rattle.bench_check.specs.FrameLines.{end_text, frame_line_at, head_text, late_text, left_text, period};
-ghost use Rattle.bench_check.specs.Overruns.{overruns_at, late_of};
+ghost use Rattle.bench_check.specs.FrameLines.{frame_line_at, head_text, late_text, left_text, period};
+ghost use Rattle.bench_check.specs.Overruns.{overruns_at};
 ghost use Rattle.std.specs.Prelude.{◌≡◌, ◌++◌, ◌/◌, ◌%◌, OnOk, string_bytes};
 
 use bc_machine::{Closing, Machine};

@@ -1,12 +1,13 @@
-//! The command `bench check`: a job tried without a recording, message by message, and what is probably a mistake
-//! in it, such as a planned fault that meets nothing.
+//! The command `bench check`: a job tried without a recording, message by message, and what is probably a mistake in
+//! it, such as a planned fault that meets nothing.
 //!
-//! It may know: words, mode codes, status bits, messages, host actions, gaps and planned faults, the bus, scripts
-//! from their text to the loader, the controller, jobs, words of a text. Its tests: `command_tests`. Its wrong
-//! bodies: `edits/`.
+//! It may know: words, mode codes, status bits, messages, host actions, what the host of a controller asks for, as
+//! values and as text, gaps and planned faults, the bus, scripts from their text to the loader, the controller, jobs,
+//! words of a text. Its tests: `command_tests`. Its wrong bodies: `edits/`.
 #![tactic(auto)]
 
 mod calls;
+mod carried;
 mod checked;
 mod filling;
 mod findings;

@@ -3,8 +3,9 @@ ghost use Rattle.bc_machine.specs.Rising.{IsRising};
 ghost use Rattle.bench_check.specs.MistakeLines.{placed_text};
 ghost use Rattle.std.specs.Prelude.{◌≡◌, ◌++◌, OnOk, string_bytes};
 
-use bc_machine::{Actions, Placed};
+use bc_machine::{Actions, HostAction, Placed, Upcoming};
 use bitflags::Flags;
+use controller_text::ControlText;
 use frame_text::print;
 use frame_tree::Frame;
 use mil_bus::Talk;
@@ -32,15 +33,18 @@ fn words_of(alloc: Global, talk: &Talk) -> Result<String, AllocError> {
     print::<Global>(alloc, &frame)
 }
 
-/// Puts the line of a message: its number, its time, and its line and form in a script's words.
+/// Puts the line of a message: its number, its time, whether it was inserted, and its line and form in a script's
+/// words.
 pub(crate) fn put_message(
     alloc: Global,
     text: &mut String,
     number: u32,
-    talk: &Talk,
+    coming: &Upcoming,
 ) -> Result<(), AllocError> {
+    let talk = &coming.talk;
     let (whole, part) = (talk.start / 10, talk.start % 10);
-    write!(text, "message {number} at {whole}.{part} us: ")?;
+    let mark = if coming.inserted { ", inserted" } else { "" };
+    write!(text, "message {number} at {whole}.{part} us{mark}: ")?;
     let words = words_of(alloc, talk)?;
     text.push_str(words.as_str())
 }
@@ -65,9 +69,14 @@ pub(crate) fn put_actions(
 pub(crate) fn put_action(text: &mut String, one: &Placed) -> Result<(), AllocError>
     ensures { OnOk result (string_bytes text.new ≡ string_bytes text.old ++ placed_text one.now) }
 {
-    let (number, address) = (one.number, one.address);
-    let action = &one.action;
-    write!(text, "at {number} {address} {action}")
+    let number = one.number;
+    match &one.action {
+        HostAction::Terminal { address, action } => write!(text, "at {number} {address} {action}"),
+        HostAction::Controller(control) => {
+            let control = ControlText(control);
+            write!(text, "at {number} bc {control}")
+        }
+    }
 }
 
 /// Puts the names of the bits of a status word that are set, each behind a space.

@@ -1,5 +1,5 @@
 //! What is probably a mistake, as lines.
-ghost use Rattle.bench_check.specs.FrameLines.{period, tenths_text};
+ghost use Rattle.bench_check.specs.FrameLines.{period};
 ghost use Rattle.bench_check.specs.MistakeLines as spec;
 ghost use Rattle.std.specs.Prelude.{◌≡◌, ◌++◌, OnOk, string_bytes};
 
@@ -24,6 +24,7 @@ pub(crate) fn put_mistake(text: &mut String, mistake: &Mistake) -> Result<(), Al
         Mistake::MoreTight(more) => put_more(text, *more),
         Mistake::Late(overrun) => put_overrun(text, overrun),
         Mistake::Undone(one) => put_undone(text, one),
+        Mistake::Uncarried(one) => put_uncarried(text, one),
         Mistake::Stranger {
             address,
             first,
@@ -122,6 +123,16 @@ fn put_undone(text: &mut String, one: &Placed) -> Result<(), AllocError>
     text.push_str("  ")?;
     put_action(text, one)?;
     write!(text, " is never done: message {number} is never sent\n")
+}
+
+/// Puts the line of what no message of the script carries.
+fn put_uncarried(text: &mut String, one: &Placed) -> Result<(), AllocError>
+    ensures { OnOk result (string_bytes text.new ≡ string_bytes text.old ++ spec.uncarried_line one.now) }
+{
+    text.push_str("  ")?;
+    put_action(text, one)?;
+    text.push_str(" changes nothing: no message of the script carries such a word\n")?;
+    Ok(())
 }
 
 /// Puts the line of a terminal that is called and is not there.

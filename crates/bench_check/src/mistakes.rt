@@ -36,6 +36,8 @@ pub enum Mistake {
     Late(Overrun),
     /// An action is placed at a message that is never sent.
     Undone(Placed),
+    /// What the host of the controller sets is carried by no message of the script.
+    Uncarried(Placed),
     /// A terminal is called and is not there: the number of the first message that calls it, and how many commands do.
     Stranger { address: u8, first: u32, count: u32 },
     /// A terminal is there and never called, also not by a message to all.
@@ -64,6 +66,7 @@ pub fn mistakes_of(
     add_tight(&mut found, tight)?;
     add_late(&mut found, findings.overruns.as_slice())?;
     add_undone(&mut found, made, job.actions())?;
+    add_uncarried(&mut found, findings.uncarried.as_slice())?;
     add_strangers(&mut found, addresses, &findings.calls)?;
     add_uncalled(&mut found, addresses, &findings.calls)?;
     add_further(&mut found, addresses, &findings.oddities, is_all)?;
@@ -165,6 +168,19 @@ fn add_undone(found: &mut Vec<Mistake>, made: u32, actions: &Actions) -> Result<
 {
     for place in 0..actions.len() {
         note_undone(found, made, actions.get(place))?;
+    }
+    Ok(())
+}
+
+/// Adds what no message of the script carries.
+fn add_uncarried(found: &mut Vec<Mistake>, uncarried: &[Placed]) -> Result<(), AllocError>
+    ensures { OnOk result (found.new.items ≡ found.old.items ++ spec.uncarried_of uncarried.now) }
+{
+    for one in uncarried {
+        found.push(Mistake::Uncarried(Placed {
+            number: one.number,
+            action: one.action.copy(),
+        }))?;
     }
     Ok(())
 }

@@ -3,9 +3,7 @@ ghost use Rattle.bench_check.specs.Fitting as spec;
 ghost use Rattle.bench_check.specs.Scripts.{script_in};
 ghost use Rattle.job_file.specs.Lines.{said};
 ghost use Rattle.job_file.specs.Spelled.{ChannelJob, spelled, is_script as is_script_line};
-ghost use Rattle.std.specs.List.{position_or_len, before_first, after_first};
-ghost use Rattle.std.specs.Prelude.{◌≡◌, ◌≤◌, None, Some, MatchOption, IfOk, length};
-ghost use Rattle.text_lines.specs.Lines.{is_line_end};
+ghost use Rattle.std.specs.Prelude.{◌≡◌, None, Some, MatchOption, IfOk};
 
 use crate::fitting::{Tight, tight_frames};
 use bumpalo::Bump;

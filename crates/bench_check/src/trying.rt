@@ -16,6 +16,7 @@ ghost use Rattle.std.specs.Prelude.{◌≡◌, ◌++◌, ◌+◌, ◌-◌, ◌<�
 ghost use Rattle.std.specs.Prelude.{List, Option, ℕ};
 
 use crate::calls::Calls;
+use crate::carried::Carried;
 use crate::filling::Filled;
 use crate::findings::Findings;
 use crate::frames::{Overrun, note_frame};
@@ -44,6 +45,7 @@ struct Trial {
     machine: Machine,
     unmet: Vec<(u32, Fault)>,
     overruns: Vec<Overrun>,
+    carried: Carried,
     told: Told,
 }
 
@@ -122,7 +124,7 @@ fn note(
         (faults_of number job.now.plan))) }
 {
     let mut text = String::new(alloc);
-    put_message(alloc, &mut text, number, &coming.talk)?;
+    put_message(alloc, &mut text, number, coming)?;
     put_actions(&mut text, number, filled.actions())?;
     let faults = job.plan().faults(number);
     note_faults(alloc, &mut text, unmet, number, coming, faults.as_slice())?;
@@ -159,13 +161,14 @@ fn close<W: Write>(
 
 impl Trial {
     /// A job before any message.
-    fn begin(alloc: Global, job: &Job, bits: Bits) -> Result<Trial, AllocError>
+    fn begin(alloc: Global, job: &Job, filled: &Filled, bits: Bits) -> Result<Trial, AllocError>
         ensures tried { IfOk result (λ t. IsTried job.now t) }
         ensures told { IfOk result (λ t. (got : Option (List ℕ)) → HasTold job.now t.machine got got) }
     {
         let machine = job.machine(alloc, job.actions())?;
         let unmet = Vec::new(alloc);
         let overruns = Vec::new(alloc);
+        let carried = Carried::none(alloc, filled.actions())?;
         let told = Told {
             bits,
             calls: Calls::none(),
@@ -175,6 +178,7 @@ impl Trial {
             machine,
             unmet,
             overruns,
+            carried,
             told,
         })
     }
@@ -206,6 +210,7 @@ impl Trial {
         match self.machine.upcoming()? {
             Some(coming) => {
                 let number = self.machine.number() + 1;
+                self.carried.note_coming(filled.actions(), number, &coming)?;
                 let text = note(
                     alloc,
                     job,
@@ -224,6 +229,7 @@ impl Trial {
                 Stepped::Halted => Ok(false),
                 Stepped::Ran => Ok(true),
                 Stepped::Sent(_) => Ok(true),
+                Stepped::Inserted(_) => Ok(true),
             },
         }
     }
@@ -267,20 +273,23 @@ pub fn try_job<W: Write>(
 ) -> Result<Findings, WriteFault>
     ensures made { IfOk result (λ f. f.made ≡ spec.made job.now) }
     ensures unmet { IfOk result (λ f. f.unmet.items ≡ spec.unmet job.now) }
-    ensures room { IfOk result (λ f. f.room ≡ most_items job.now) }
+    ensures room { IfOk result (λ f. f.room ≡ most_items 0 job.now) }
     ensures overruns { IfOk result (λ f. f.overruns.items ≡ overruns job.now) }
     ensures told { OnOk result (IsTold job.now (W.contents out.old) (W.contents out.new)) }
 {
-    let room = job.most_items();
+    let room = job.most_items(0);
     let filled = filled_by(job)?;
-    let mut trial = Trial::begin(alloc, job, bits)?;
+    let mut trial = Trial::begin(alloc, job, &filled, bits)?;
     trial.run(alloc, job, &filled, out)?;
+    let made = trial.machine.number();
+    let uncarried = trial.carried.uncarried(alloc, filled.actions(), made)?;
     Ok(Findings {
-        made: trial.machine.number(),
+        made,
         unmet: trial.unmet,
         overruns: trial.overruns,
         calls: trial.told.calls,
         oddities: trial.told.oddities,
+        uncarried,
         room,
     })
 }
