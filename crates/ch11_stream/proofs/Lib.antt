@@ -6,3 +6,4 @@ pub mod Readings
 pub mod Skips
 pub mod Slices
 pub mod WholeSkips
+pub mod Wholes

@@ -8,4 +8,5 @@ pub mod Reading
 pub mod Stretches
 pub mod Taking
 pub mod Whole
+pub mod WholePackets
 pub mod WholeStretches
