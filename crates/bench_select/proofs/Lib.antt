@@ -1,2 +1,1 @@
-pub mod Products
 pub mod Stamping

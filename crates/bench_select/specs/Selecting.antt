@@ -8,6 +8,7 @@ use Rattle.ch11_layout.specs.declared.stamps.StampKind.{StampKind}
 use Rattle.ch11_layout.specs.declared.stamps.StampKind.TheVariants.{Counter, TimeOfDay, Unknown}
 use Rattle.ch11_layout.specs.BlockStatus.{has_error}
 use Rattle.judge_rules.specs.declared.rules.Selector.{Selector}
+use Rattle.judge_rules.specs.declared.rules.Span.{Span}
 use Rattle.bench_select.specs.declared.bounds.Bound.{Bound}
 use Rattle.bench_select.specs.declared.bounds.Bound.TheVariants.{Number, Time}
 use Rattle.bench_select.specs.declared.selection.Selection.{Selection}
@@ -46,6 +47,16 @@ abbrev pub is_up_to : Option Bound → ℕ → ℕ → Option ℕ → Bool
 is_up_to None origin number time = true
 is_up_to (Some (Number last)) origin number time = nat_le number last
 is_up_to (Some (Time last)) origin number time = is_before (origin + last) time
+
+-- in a span of time
+abbrev pub at_time : Option ℕ → Option Bound
+at_time None = None
+at_time (Some tick) = Some (Time tick)
+
+abbrev pub is_in_span : Span → List (Option ℕ) → ℕ → Recorded → Bool
+is_in_span span origins channel m =
+    is_from (at_time span.from) (origin_by m.kind origins channel) 0 (time_of m)
+    && is_up_to (at_time span.to) (origin_by m.kind origins channel) 0 (time_of m)
 
 -- of the commands that a selector asks for
 abbrev pub is_about : Option Selector → Recorded → Bool

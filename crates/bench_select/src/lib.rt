@@ -13,6 +13,6 @@ mod stamps;
 
 pub use bounds::{Bound, read_bound};
 pub use channels::{CHANNELS, mark_channel, no_channels};
-pub use selection::Selection;
+pub use selection::{Selection, is_in_span};
 pub use selectors::{is_of, is_on, selects_commands};
 pub use stamps::{Stamps, read_stamps};

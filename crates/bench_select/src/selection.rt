@@ -5,7 +5,7 @@ ghost use Rattle.std.specs.Prelude.{◌≡◌, ◌+◌, true};
 use crate::bounds::Bound;
 use crate::selectors::{is_of, is_on, selects_commands};
 use ch11_layout::{StampKind, View};
-use judge_rules::Selector;
+use judge_rules::{Selector, Span};
 use mil_word::Line;
 
 /// Which messages of a recording are chosen: those that meet all that is said here.
@@ -161,6 +161,27 @@ fn is_up_to(bound: Option<Bound>, origin: u64, number: u64, time: Option<u64>) -
         Some(Bound::Number(last)) => number <= last,
         Some(Bound::Time(last)) => is_before(origin, last, time),
     }
+}
+
+/// The bound that a time is, where there is one.
+fn at_time(tick: Option<u64>) -> Option<Bound>
+    ensures { result ≡ spec.at_time tick }
+{
+    match tick {
+        Some(tick) => Some(Bound::Time(tick)),
+        None => None,
+    }
+}
+
+/// Whether a message of a channel began in a span of time. Times count as those of a selection do: from the first time
+/// of day of the channel, as `read_stamps` finds it, where stamps are times of day. A message whose time is not known
+/// is in no span that has a first or a last time.
+pub fn is_in_span(span: Span, origins: &[Option<u64>], channel: u16, view: &View<'_>) -> bool
+    ensures { result ≡ spec.is_in_span span origins.now channel view.now }
+{
+    let origin = origin_by(view.kind(), origins, channel);
+    is_from(at_time(span.from), origin, 0, view.time())
+        && is_up_to(at_time(span.to), origin, 0, view.time())
 }
 
 /// Whether a selector, where there is one, is about a message.

@@ -1,2 +1,4 @@
+mod Products
 mod Prefixes
 mod Ranges
+mod Spelling

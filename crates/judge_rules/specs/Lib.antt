@@ -1,10 +1,13 @@
 pub mod Faults
 pub mod Codes
 pub mod Values
+pub mod Times
+pub mod Ranges
+pub mod Spans
 pub mod Selectors
+pub mod Kinds
 pub mod Checks
 pub mod Lines
 pub mod Rules
 pub mod Standard
-pub mod Ranges
 pub mod Parts

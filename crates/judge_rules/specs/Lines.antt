@@ -1,18 +1,23 @@
--- The rule of a line (own choice): `expect`, perhaps a channel, perhaps a line of the bus, a selector and a check.
-use Rattle.std.specs.Prelude.{ℕ, Bool, true, List, [], ◌∷◌, drop, Ok, Err, Option, Some, None, codes}
+-- The rule of a line (own choice): `expect`, perhaps a channel, perhaps a line of the bus, perhaps times, a selector
+-- and a check.
+use Rattle.std.specs.Prelude.{ℕ, Bool, true, false, not, ◌&&◌, List, [], ◌∷◌, drop, Ok, Err, Option, Some, None, codes}
 use Rattle.std.specs.Prelude.{if◌then◌else◌}
 use Rattle.std.specs.Str.{bytes_eq}
 use Rattle.judge_rules.specs.declared.fault.RuleFault.TheVariants.{Word}
 use Rattle.mil_word.specs.declared.Line.{Line}
 use Rattle.mil_word.specs.declared.Line.TheVariants as line
 use Rattle.judge_rules.specs.declared.rules.Selector.{Selector}
+use Rattle.judge_rules.specs.declared.rules.Selector.TheVariants.{Any}
+use Rattle.judge_rules.specs.declared.rules.Span.{Span}
 use Rattle.judge_rules.specs.declared.rules.Check.{Check}
+use Rattle.judge_rules.specs.declared.rules.Check.TheVariants.{Whole}
 use Rattle.judge_rules.specs.Faults.{Read, both, made}
 use Rattle.judge_rules.specs.Parts.{Parts, of_these}
 use Rattle.judge_rules.specs.Values.{number_in}
 use Rattle.text_lines.specs.Words.{Text, words, begins_with, is_comment}
 use Rattle.judge_rules.specs.Selectors.{selector_in, behind_selector}
 use Rattle.judge_rules.specs.Checks.{check_in}
+use Rattle.judge_rules.specs.Spans.{span_in, behind_span}
 
 -- the channel, where the words begin with one
 abbrev pub channel_in : List Text → Read (Option ℕ)
@@ -38,20 +43,67 @@ bus_in rest = if begins_with (codes "line") rest then first_bus (drop 1 rest) el
 abbrev pub behind_bus : List Text → List Text
 behind_bus rest = if begins_with (codes "line") rest then drop 2 rest else rest
 
--- a channel and a line of the bus, a selector and a check
+-- nothing is read that leaves a message out
+abbrev pub is_any_bus : Read (Option Line) → Bool
+is_any_bus (Ok None) = true
+is_any_bus (Ok (Some bus)) = false
+is_any_bus (Err f) = false
+
+abbrev pub is_none : Option ℕ → Bool
+is_none None = true
+is_none (Some tick) = false
+
+abbrev pub is_any_time : Read Span → Bool
+is_any_time (Ok span) = is_none span.from && is_none span.to
+is_any_time (Err f) = false
+
+abbrev pub is_any : Selector → Bool
+is_any Any = true
+is_any _ = false
+
+abbrev pub is_any_message : Read Selector → Bool
+is_any_message (Ok selector) = is_any selector
+is_any_message (Err f) = false
+
+abbrev pub asks_whole : Check → Bool
+asks_whole Whole = true
+asks_whole _ = false
+
+abbrev pub is_whole : Read Check → Bool
+is_whole (Ok check) = asks_whole check
+is_whole (Err f) = false
+
+-- `whole` stands behind `any`, without a line of the bus and without times
+abbrev pub fitting : Read (Option Line) → Read Span → Read Selector → Read Check → Read Check
+fitting bus span selector check =
+    if is_whole check && not (is_any_bus bus && is_any_time span && is_any_message selector) then Err Word else check
+
+-- a channel, a line of the bus and times, a selector and a check
 abbrev pub Expected : Type 0
-Expected = (Option ℕ × Option Line) × (Selector × Check)
+Expected = ((Option ℕ × Option Line) × Span) × (Selector × Check)
+
+-- what follows the line of the bus, and what the times
+abbrev pub from_times : List Text → List Text
+from_times rest = behind_bus (behind_channel rest)
+
+abbrev pub from_selector : List Text → List Text
+from_selector rest = behind_span (from_times rest)
+
+-- the check, where it may stand
+abbrev pub fitting_in : List Text → Read Check
+fitting_in rest =
+    fitting (bus_in (behind_channel rest)) (span_in (from_times rest)) (selector_in (from_selector rest))
+    (check_in (behind_selector (from_selector rest)))
 
 -- what the words behind `expect` spell
 unfoldable pub expected_in : List Text → Read Expected
 expected_in rest =
-    let behind = behind_bus (behind_channel rest) in
-    both (both (channel_in rest) (bus_in (behind_channel rest)))
-    (both (selector_in behind) (check_in (behind_selector behind)))
+    both (both (both (channel_in rest) (bus_in (behind_channel rest))) (span_in (from_times rest)))
+    (both (selector_in (from_selector rest)) (fitting_in rest))
 
 -- the parts of the rule of a line of this number
 abbrev pub with_line : ℕ → Expected → Parts
-with_line line ((channel, bus), (selector, check)) = of_these line channel bus selector check
+with_line line (((channel, bus), span), (selector, check)) = of_these line channel bus span selector check
 
 abbrev pub rule_behind : ℕ → List Text → Read Parts
 rule_behind line rest = made (with_line line) (expected_in rest)

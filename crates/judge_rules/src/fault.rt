@@ -10,9 +10,10 @@ use std::fmt::{self, Display, Formatter, Write};
 pub enum RuleFault {
     /// I1: a word that does not stand there, is missing or is left over; or there is no rule.
     Word,
-    /// I2: not a number of one to seven digits, or not four hexadecimal digits.
+    /// I2: not a number of one to seven digits, not four hexadecimal digits, or not a time with its unit.
     Number,
-    /// I3: out of range, a least number above the greatest, more than 32 data words, or more than 10,000 rules.
+    /// I3: out of range, a least number above the greatest, a first time behind the last, more than 32 data words, or
+    /// more than 10,000 rules.
     Range,
     /// I4: memory was refused. The text has no fault.
     Memory,

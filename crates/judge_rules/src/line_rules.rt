@@ -8,13 +8,14 @@ ghost use Rattle.std.specs.Prelude.{◌≡◌, IfOk, IfSome, option_map};
 use crate::channels::{read_bus, read_channel};
 use crate::checks::read_check;
 use crate::fault::{RuleFault, both};
-use crate::rules::{Check, Rule, Selector};
+use crate::rules::{Check, Rule, Selector, Span};
 use crate::selectors::read_selector;
+use crate::spans::read_span;
 use mil_word::Line;
 use text_lines::{Words, is_comment, next_word};
 
-/// A channel and a line of the bus, a selector and a check.
-type Expected = ((Option<u16>, Option<Line>), (Selector, Check));
+/// A channel, a line of the bus and times, a selector and a check.
+type Expected = (((Option<u16>, Option<Line>), Span), (Selector, Check));
 
 /// Whether a line is passed over: it has no words, or its first begins with `#`.
 fn is_passed_over(text: &[u8]) -> bool
@@ -31,31 +32,90 @@ fn rule_of(
     line: u64,
     channel: Option<u16>,
     bus: Option<Line>,
+    span: Span,
     selector: Selector,
     check: Check,
 ) -> Rule
-    requires { AreInRange channel selector check }
-    ensures { parts_of result ≡ of_these line channel bus selector check }
+    requires { AreInRange channel span selector check }
+    ensures { parts_of result ≡ of_these line channel bus span selector check }
 {
     Rule {
         line,
         channel,
         bus,
+        span,
         selector,
         check,
     }
 }
 
-/// The channel and the line of the bus, the selector and the check that the words behind `expect` spell.
+/// Whether no line of the bus is named, and none was to be.
+fn is_any_bus(bus: &Result<Option<Line>, RuleFault>) -> bool
+    ensures { result ≡ spec.is_any_bus bus.now }
+{
+    match bus {
+        Ok(None) => true,
+        Ok(Some(_)) | Err(_) => false,
+    }
+}
+
+/// Whether no time is named, and none was to be.
+fn is_any_time(span: &Result<Span, RuleFault>) -> bool
+    ensures { result ≡ spec.is_any_time span.now }
+{
+    match span {
+        Ok(span) => span.from.is_none() && span.to.is_none(),
+        Err(_) => false,
+    }
+}
+
+/// Whether a selector is that of all messages.
+fn is_any_message(selector: &Result<Selector, RuleFault>) -> bool
+    ensures { result ≡ spec.is_any_message selector.now }
+{
+    match selector {
+        Ok(selector) => matches!(selector, Selector::Any),
+        Err(_) => false,
+    }
+}
+
+/// Whether a check is the one of whole packets.
+fn is_whole(check: &Result<Check, RuleFault>) -> bool
+    ensures { result ≡ spec.is_whole check.now }
+{
+    match check {
+        Ok(check) => matches!(check, Check::Whole),
+        Err(_) => false,
+    }
+}
+
+/// A check where it may stand: that of whole packets has nothing in front of it but a channel and `any`.
+fn fitting(
+    bus: &Result<Option<Line>, RuleFault>,
+    span: &Result<Span, RuleFault>,
+    selector: &Result<Selector, RuleFault>,
+    check: Result<Check, RuleFault>,
+) -> Result<Check, RuleFault>
+    ensures { result ≡ spec.fitting bus.now span.now selector.now check }
+{
+    if is_whole(&check) && !(is_any_bus(bus) && is_any_time(span) && is_any_message(selector)) {
+        return Err(RuleFault::Word);
+    }
+    check
+}
+
+/// The channel, the line of the bus and the times, the selector and the check that the words behind `expect` spell.
 #[tactic(auto, unfolding(crate::specs::Lines::expected_in))]
 fn read_expected(words: &mut Words<'_>) -> Result<Expected, RuleFault>
     ensures { result ≡ spec.expected_in words.old }
 {
     let channel = read_channel(words);
     let bus = read_bus(words);
+    let span = read_span(words);
     let selector = read_selector(words);
     let check = read_check(words);
-    both(both(channel, bus), both(selector, check))
+    let check = fitting(&bus, &span, &selector, check);
+    both(both(both(channel, bus), span), both(selector, check))
 }
 
 /// The rule of a line's words.
@@ -67,8 +127,8 @@ fn read_words(line: u64, words: &mut Words<'_>) -> Result<Rule, RuleFault>
     if !words.takes(b"expect") {
         return Err(RuleFault::Word);
     }
-    let ((channel, bus), (selector, check)) = read_expected(words)?;
-    Ok(rule_of(line, channel, bus, selector, check))
+    let (((channel, bus), span), (selector, check)) = read_expected(words)?;
+    Ok(rule_of(line, channel, bus, span, selector, check))
 }
 
 /// The rule that a line spells, with this number; `None` where the line is passed over.

@@ -63,6 +63,50 @@ pub struct Bounds {
     pub high: u32,
 }
 
+/// The values that a data word may have: from the least to the greatest, which is not below it.
+#[derive(Clone, Copy, Debug, PartialEq, Eq)]
+pub struct WordRange {
+    /// Which of the data words it is, counted from 1: at most 32.
+    pub place: u8,
+    pub low: u16,
+    pub high: u16,
+}
+
+/// Which of the messages that a rule selects are counted.
+#[derive(Clone, Copy, Debug, PartialEq, Eq)]
+pub enum Kind {
+    /// Those without an error: block status bit 12 is clear.
+    Sound,
+    /// Those with an error.
+    Failed,
+    /// Those that are as the standard has them.
+    Clean,
+    /// Those with the response timeout bit (9) that no terminal replied to at all.
+    Silent,
+    /// Those with block status bit 12.
+    MessageError,
+    /// Those with block status bit 11.
+    TerminalToTerminal,
+    /// Those with block status bit 10.
+    FormatError,
+    /// Those with block status bit 9.
+    ResponseTimeout,
+    /// Those with block status bit 5.
+    WordCountError,
+    /// Those with block status bit 4.
+    SyncTypeError,
+    /// Those with block status bit 3.
+    InvalidWordError,
+}
+
+/// When the messages that a rule is about began, in ticks of 0.1 µs: at the first of two times or later, and at the
+/// last or earlier. Each is at most 2^47, and the first is not behind the last.
+#[derive(Clone, Copy, Debug, PartialEq, Eq)]
+pub struct Span {
+    pub from: Option<u64>,
+    pub to: Option<u64>,
+}
+
 /// What is asked of the messages that a rule selects.
 #[derive(Debug, Drop, PartialEq, Eq)]
 pub enum Check {
@@ -82,6 +126,15 @@ pub enum Check {
     Period(Bounds),
     /// They are so many, at most 9,999,999.
     Count(Bounds),
+    /// So many of them are of a kind, at most 9,999,999.
+    CountOf { bounds: Bounds, kind: Kind },
+    /// One of the data words of each has a value in the range.
+    DataWord(WordRange),
+    /// From one to the next in a channel one of the data words grows by a number in the range, modulo 65,536.
+    DataStep(WordRange),
+    /// No packet of messages in a channel has the overflow flag, and each sequence number follows that of the channel's
+    /// packet before.
+    Whole,
 }
 
 /// A rule. None is made whose numbers are out of their ranges.
@@ -93,8 +146,10 @@ pub struct Rule {
     pub channel: Option<u16>,
     /// The line of the bus that it is about; `None` for both.
     pub bus: Option<Line>,
+    /// When the messages that it is about began.
+    pub span: Span,
     pub selector: Selector,
     pub check: Check,
-    /// The numbers of the channel, the selector and the check are in their ranges.
-    pub ghost in_range: { AreInRange channel selector check } by { AreInRange-prop channel selector check },
+    /// The numbers of the channel, the times, the selector and the check are in their ranges.
+    pub ghost in_range: { AreInRange channel span selector check } by { AreInRange-prop channel span selector check },
 }

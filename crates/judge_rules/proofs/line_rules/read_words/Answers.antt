@@ -11,7 +11,7 @@ use Rattle.judge_rules.proofs.line_rules.read_words.Goals as goal
 pub rule_of-requires : goal.rule_of-requires
 rule_of-requires c =
     let arm = c.in_ok-channel in
-    made_in_range c.takes.new.self arm.channel arm.bus arm.selector arm.check (sym c.in_ok-channel.ensures)
+    made_in_range c.takes.new.self arm.channel arm.bus arm.span arm.selector arm.check (sym c.in_ok-channel.ensures)
 
 pub returns-clause-value : goal.returns-clause-value
 unfolding rule_in

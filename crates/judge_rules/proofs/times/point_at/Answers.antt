@@ -1,7 +1,7 @@
 use Rattle.std.proofs.Common.{refl, sym, arith, length}
 use Rattle.std.proofs.lemmas.List.Sums.{position_or_len_is}
-use Rattle.bench_select.specs.Bounds.{is_point}
-use Rattle.bench_select.proofs.bounds.point_at.Goals as goal
+use Rattle.judge_rules.specs.Times.{is_point}
+use Rattle.judge_rules.proofs.times.point_at.Goals as goal
 
 pub returns-then-byte-eq46-clause-value : goal.returns-then-byte-eq46-clause-value
 returns-then-byte-eq46-clause-value c = sym (position_or_len_is is_point c.args.text.now c.loop-i.i 0 (omega arith) c.loop-i.invariant (λ lt. rw c.if-byte-eq46.true refl))

@@ -1,7 +1,7 @@
 use Rattle.std.proofs.Common.{◌≡◌, ℕ, ◌<◌, get_or}
 use Rattle.std.specs.Prelude.{false}
-use Rattle.bench_select.specs.Bounds.{is_point}
-use Rattle.bench_select.proofs.bounds.point_at.Given as goal
+use Rattle.judge_rules.specs.Times.{is_point}
+use Rattle.judge_rules.proofs.times.point_at.Given as goal
 
 abbrev pub invariant-loop-i : goal.invariant-loop-i
 invariant-loop-i l = (k : ℕ) → k < l.i → is_point (get_or l.text k 0) ≡ false

@@ -1,6 +1,6 @@
 use Rattle.std.proofs.Common.{arith}
-use Rattle.bench_select.proofs.Products.{decimal_product}
-use Rattle.bench_select.proofs.bounds.decimal_ticks.Goals as goal
+use Rattle.judge_rules.proofs.Products.{decimal_product}
+use Rattle.judge_rules.proofs.times.decimal_ticks.Goals as goal
 
 pub overflow_mul-result : goal.overflow_mul-result
 overflow_mul-result c = omega (arith, decimal_product c.in_ok-number.number c.args.places c.scale.result c.requires c.in_ok-number.ensures.small c.scale.ensures.small)
