@@ -1,10 +1,12 @@
 mod Forms
 mod Moments
+mod Holding
+mod Latest
 mod Passing
 mod Whole
 mod Tallying
 mod Writing
-mod Finding
+mod FirstTold
 mod Streamed
 mod Rereading
 mod Showing
@@ -12,3 +14,4 @@ mod Named
 mod Cases
 mod Putting
 mod Losing
+mod Missing

@@ -28,7 +28,7 @@ at_most_one false = omega arith
 not_capped : (n m : ℕ) → n < 2 ^ 64 - 1 → m ≤ 1 → capped (n + m) ≡ n + m
 not_capped n m few one = omega (arith, few, one)
 
-one_counted : (p : Packet → Bool) (xs : List Packet) (x : Packet) (n : ℕ) → length xs < 2 ^ 64 - 1 → n ≡ length (filter p xs) → capped (n + cond (p x) 1 0) ≡ length (filter p (xs ++ x ∷ []))
+pub one_counted : (p : Packet → Bool) (xs : List Packet) (x : Packet) (n : ℕ) → length xs < 2 ^ 64 - 1 → n ≡ length (filter p xs) → capped (n + cond (p x) 1 0) ≡ length (filter p (xs ++ x ∷ []))
 one_counted p xs x n few is = not_capped n (cond (p x) 1 0) fewer (at_most_one (p x)) ∙ ap (λ (k : ℕ). k + cond (p x) 1 0) is ∙ sym (one_more p xs x)
   where
     fewer : n < 2 ^ 64 - 1

@@ -1,12 +1,9 @@
--- Messages that are passed, rule by rule and packet by packet.
+-- Tallies of rules that are changed, rule by rule.
 use Rattle.std.proofs.Common.{◌≡◌, ℕ, zero, suc, ◌+◌, ◌<◌, ◌≤◌, List, [], ◌∷◌, length, set, length-set, refl, ap, sym, ◌∙◌, subst, inl, inr, arith}
 use Rattle.std.specs.Prelude.{Some, slice_get}
 use Rattle.std.proofs.lemmas.Bool.{cases_eq}
 use Rattle.std.proofs.lemmas.Option.{slice_get_within}
 use Rattle.judge_rules.specs.declared.rules.Rule.{Rule}
-use Rattle.bench_judge.specs.declared.tallies.Tally.{Tally}
-use Rattle.bench_select.specs.Viewed.{Viewed}
-use Rattle.bench_judge.specs.Tallies.{IsTally, AreTallies}
 
 get_set_same : {X : Type 0} (xs : List X) (i : ℕ) (a : X) → i < length xs → slice_get (set xs i a) i ≡ Some a
 get_set_same [] i a within = absurd (omega arith)
@@ -23,34 +20,33 @@ get_set_other (x ∷ xs) (suc i) (suc k) a other = get_set_other xs i k a (λ e.
 some_same : {X : Type 0} (x y : X) → Some x ≡ Some y → x ≡ y
 some_same x y is = cc
 
--- the tallies of the first rules count a message more
-pub record IsNoting (rules : List Rule) (h : Viewed) (history : List Viewed) (tallies : List Tally) (i : ℕ) : Type 0 where
+-- what is known of the tallies of the first rules, and of the others
+pub record IsNoting {T : Type 0} (before after : Rule → T → Type 0) (rules : List Rule) (tallies : List T) (i : ℕ) : Type 0 where
   pub many : length tallies ≡ length rules
-  pub noted : (k : ℕ) (rule : Rule) (tally : Tally) → k < i → slice_get rules k ≡ Some rule → slice_get tallies k ≡ Some tally → IsTally rule (h ∷ history) tally
-  pub rest : (k : ℕ) (rule : Rule) (tally : Tally) → i ≤ k → slice_get rules k ≡ Some rule → slice_get tallies k ≡ Some tally → IsTally rule history tally
+  pub noted : (k : ℕ) (rule : Rule) (tally : T) → k < i → slice_get rules k ≡ Some rule → slice_get tallies k ≡ Some tally → after rule tally
+  pub rest : (k : ℕ) (rule : Rule) (tally : T) → i ≤ k → slice_get rules k ≡ Some rule → slice_get tallies k ≡ Some tally → before rule tally
 
-pub noting-none : (rules : List Rule) (h : Viewed) (history : List Viewed) (tallies : List Tally) → AreTallies rules history tallies → IsNoting rules h history tallies 0
-noting-none rules h history tallies are = record {
-  many = are.many;
+pub noting-none : {T : Type 0} (before after : Rule → T → Type 0) (rules : List Rule) (tallies : List T) → length tallies ≡ length rules
+    → ((k : ℕ) (rule : Rule) (tally : T) → slice_get rules k ≡ Some rule → slice_get tallies k ≡ Some tally → before rule tally) → IsNoting before after rules tallies 0
+noting-none before after rules tallies many each = record {
+  many = many;
   noted = λ k rule tally below. absurd (omega arith);
-  rest = λ k rule tally above. are.each k rule tally;
+  rest = λ k rule tally above. each k rule tally;
 }
 
-pub noting-all : (rules : List Rule) (h : Viewed) (history : List Viewed) (tallies : List Tally) (i : ℕ) → length rules ≤ i → IsNoting rules h history tallies i → AreTallies rules (h ∷ history) tallies
-noting-all rules h history tallies i past is = record {
-  many = is.many;
-  each = λ k rule tally there. is.noted k rule tally (let within : k < length rules = slice_get_within rules k rule there in omega arith) there;
-}
+pub noting-all : {T : Type 0} (before after : Rule → T → Type 0) (rules : List Rule) (tallies : List T) (i : ℕ) → length rules ≤ i → IsNoting before after rules tallies i → (k : ℕ) (rule : Rule) (tally : T) → slice_get rules k ≡ Some rule
+    → slice_get tallies k ≡ Some tally → after rule tally
+noting-all before after rules tallies i past is k rule tally there = is.noted k rule tally (let within : k < length rules = slice_get_within rules k rule there in omega arith) there
 
-pub noting-more : (rules : List Rule) (h : Viewed) (history : List Viewed) (tallies : List Tally) (i : ℕ) (rule : Rule) (tally : Tally) → IsNoting rules h history tallies i → slice_get rules i ≡ Some rule
-    → IsTally rule (h ∷ history) tally → IsNoting rules h history (set tallies i tally) (i + 1)
-noting-more rules h history tallies i rule tally is there one = record {
+pub noting-more : {T : Type 0} (before after : Rule → T → Type 0) (rules : List Rule) (tallies : List T) (i : ℕ) (rule : Rule) (tally : T) → IsNoting before after rules tallies i → slice_get rules i ≡ Some rule → after rule tally
+    → IsNoting before after rules (set tallies i tally) (i + 1)
+noting-more before after rules tallies i rule tally is there one = record {
   many = length-set tallies i tally ∙ is.many;
   noted = λ k other found below has got. elim (cases_eq k i) [
     | inl e ↦
         let same_rule : rule ≡ other = some_same rule other (sym there ∙ ap (slice_get rules) (sym e) ∙ has) in
         let same_tally : tally ≡ found = some_same tally found (sym (get_set_same tallies i tally within) ∙ ap (slice_get (set tallies i tally)) (sym e) ∙ got) in
-        subst (λ (r : Rule). IsTally r (h ∷ history) found) same_rule (subst (λ (t : Tally). IsTally rule (h ∷ history) t) same_tally one)
+        subst (λ (r : Rule). after r found) same_rule (subst (after rule) same_tally one)
     | inr n ↦ is.noted k other found (omega (arith, below, n)) has (sym (get_set_other tallies i k tally n) ∙ got)
   ];
   rest = λ k other found above has got.

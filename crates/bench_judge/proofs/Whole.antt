@@ -1,7 +1,6 @@
 -- A recording that is passed: no message, the messages of a packet, the packets, and the verdicts at the end.
-use Rattle.std.proofs.Common.{◌≡◌, ℕ, zero, suc, ◌+◌, ◌<◌, ◌≤◌, List, [], ◌∷◌, ◌++◌, length, take, refl, ap, sym, ◌∙◌, subst, arith, append_assoc, append-nil, reverse, length-append}
-use Rattle.std.specs.Prelude.{Option, Some, None, slice_get, map}
-use Rattle.std.proofs.lemmas.Option.{slice_get_within}
+use Rattle.std.proofs.Common.{◌≡◌, ℕ, zero, suc, ◌+◌, ◌<◌, List, [], ◌∷◌, ◌++◌, length, take, refl, ap, sym, ◌∙◌, subst, arith, append_assoc, append-nil, reverse, length-append}
+use Rattle.std.specs.Prelude.{Some, slice_get, map}
 use Rattle.std.proofs.lemmas.List.{reverse-append, map-append, length-map, length-reverse}
 use Rattle.ch11_f1.specs.BodyReading.{Message}
 use Rattle.ch11_layout.specs.Stamps.{recorded, kind_of}
@@ -12,8 +11,10 @@ use Rattle.bench_select.specs.Viewed.{viewed_of, viewed_in, Viewed}
 use Rattle.judge_rules.specs.declared.rules.Rule.{Rule}
 use Rattle.bench_judge.specs.declared.tallies.Tally.{Tally}
 use Rattle.bench_judge.specs.declared.verdicts.RuleVerdict.{RuleVerdict}
-use Rattle.bench_judge.specs.Verdicts.{IsVerdict, IsVerdictWith, AreVerdicts}
-use Rattle.bench_judge.specs.Tallies.{IsTally, AreTallies, viewed_on}
+use Rattle.bench_judge.specs.declared.packets.PacketTally.{PacketTally}
+use Rattle.bench_judge.specs.Packets.{IsPacketTally}
+use Rattle.bench_judge.specs.Verdicts.{IsVerdict, IsVerdictWith, AreVerdicts, Passed, of_these}
+use Rattle.bench_judge.specs.Tallies.{IsTally, viewed_on}
 
 -- an element of a list with one more: one of the list, or the last
 pub data Place (X : Type 0) (xs : List X) (x : X) (k : ℕ) (y : X) : Type 0 where
@@ -30,22 +31,19 @@ place_of [] x (suc k) y is = absurd cc
 place_of (z ∷ zs) x zero y is = Earlier (omega arith) is
 place_of (z ∷ zs) x (suc k) y is = later z zs x k y (place_of zs x k y is)
 
--- each tally is of no messages
-pub record AreNew (tallies : List Tally) : Type 0 where
-  pub each : (k : ℕ) (tally : Tally) → slice_get tallies k ≡ Some tally → (rule : Rule) → IsTally rule [] tally
+-- each tally is one of a kind
+pub record AreNew {T : Type 0} (new : Rule → T → Type 0) (tallies : List T) : Type 0 where
+  pub each : (k : ℕ) (tally : T) → slice_get tallies k ≡ Some tally → (rule : Rule) → new rule tally
 
-pub new-none : AreNew []
-new-none = record { each = λ k tally there. absurd cc }
+pub new-none : {T : Type 0} (new : Rule → T → Type 0) → AreNew new []
+new-none new = record { each = λ k tally there. absurd cc }
 
-pub new-more : (tallies : List Tally) (tally : Tally) → AreNew tallies → ((rule : Rule) → IsTally rule [] tally) → AreNew (tallies ++ tally ∷ [])
-new-more tallies tally are one = record { each = λ k other there rule. go k other rule (place_of tallies tally k other there) }
+pub new-more : {T : Type 0} (new : Rule → T → Type 0) (tallies : List T) (tally : T) → AreNew new tallies → ((rule : Rule) → new rule tally) → AreNew new (tallies ++ tally ∷ [])
+new-more {T} new tallies tally are one = record { each = λ k other there rule. go k other rule (place_of tallies tally k other there) }
   where
-    go : (k : ℕ) (other : Tally) (rule : Rule) → Place Tally tallies tally k other → IsTally rule [] other
+    go : (k : ℕ) (other : T) (rule : Rule) → Place T tallies tally k other → new rule other
     go k other rule (Earlier within there) = are.each k other there rule
-    go k other rule (Last at is) = subst (λ (t : Tally). IsTally rule [] t) is (one rule)
-
-pub new-all : (rules : List Rule) (tallies : List Tally) → length tallies ≡ length rules → AreNew tallies → AreTallies rules [] tallies
-new-all rules tallies many are = record { many = many; each = λ k rule tally there got. are.each k tally got rule }
+    go k other rule (Last at is) = subst (new rule) is (one rule)
 
 abbrev pub with_channel : StampKind → ℕ → Message → Viewed
 with_channel kind channel = λ (m : Message). (channel, recorded kind m)
@@ -91,61 +89,34 @@ pub length-heard : (ps : List Found) → length (viewed_in ps) ≡ total_in ps
 length-heard [] = refl
 length-heard (p ∷ ps) = omega (arith, length-append (viewed_of p) (viewed_in ps), length-map p.messages (with_channel (kind_of p.header) p.header.channel), length-heard ps)
 
--- the tallies so far have their verdicts
-pub record IsJudging (rules : List Rule) (all rest : List Tally) (verdicts : List RuleVerdict) : Type 0 where
-  pub done : List Tally
-  pub split : done ++ rest ≡ all
-  pub many : length verdicts ≡ length done
-  pub each : (k : ℕ) (rule : Rule) (tally : Tally) (verdict : RuleVerdict) → slice_get rules k ≡ Some rule → slice_get done k ≡ Some tally → slice_get verdicts k ≡ Some verdict → IsVerdictWith rule tally.selected tally.missed verdict
+-- the rules so far have their verdicts
+pub record IsJudging (rules : List Rule) (p : Passed) (verdicts : List RuleVerdict) (place : ℕ) : Type 0 where
+  pub many : length verdicts ≡ place
+  pub each : (k : ℕ) (rule : Rule) (verdict : RuleVerdict) → slice_get rules k ≡ Some rule → slice_get verdicts k ≡ Some verdict → IsVerdict rule p verdict
 
-pub judging-none : (rules : List Rule) (all : List Tally) → IsJudging rules all all []
-judging-none rules all = record { done = []; split = refl; many = refl; each = λ k rule tally verdict there got has. absurd cc }
+pub judging-none : (rules : List Rule) (p : Passed) → IsJudging rules p [] 0
+judging-none rules p = record { many = refl; each = λ k rule verdict there has. absurd cc }
 
 some_same : {X : Type 0} (x y : X) → Some x ≡ Some y → x ≡ y
 some_same x y is = cc
 
-pub judging-within : (rules : List Rule) (all rest others : List Tally) (tally : Tally) (verdicts : List RuleVerdict) → IsJudging rules all rest verdicts → length all ≡ length rules → rest ≡ tally ∷ others → length verdicts < length rules
-judging-within rules all rest others tally verdicts j many is = omega (arith, j.many, many, ap length j.split, length-append j.done rest, ap length is)
-
-pub judging-more : (rules : List Rule) (all rest others : List Tally) (tally : Tally) (verdicts : List RuleVerdict) (rule : Rule) (verdict : RuleVerdict) → IsJudging rules all rest verdicts → rest ≡ tally ∷ others → slice_get rules (length verdicts) ≡ Some rule
-    → IsVerdictWith rule tally.selected tally.missed verdict → IsJudging rules all others (verdicts ++ verdict ∷ [])
-judging-more rules all rest others tally verdicts rule verdict j is there one = record {
-  done = j.done ++ tally ∷ [];
-  split = append_assoc j.done (tally ∷ []) others ∙ ap (λ (ts : List Tally). j.done ++ ts) (sym is) ∙ j.split;
-  many = omega (arith, length-append verdicts (verdict ∷ []), length-append j.done (tally ∷ []), j.many);
-  each = λ k r t v asked got has. go k r t v asked (place_of j.done tally k t got) (place_of verdicts verdict k v has);
+pub judging-more : (rules : List Rule) (p : Passed) (verdicts : List RuleVerdict) (place : ℕ) (rule : Rule) (verdict : RuleVerdict) → IsJudging rules p verdicts place → slice_get rules place ≡ Some rule → IsVerdict rule p verdict
+    → IsJudging rules p (verdicts ++ verdict ∷ []) (place + 1)
+judging-more rules p verdicts place rule verdict j there one = record {
+  many = omega (arith, length-append verdicts (verdict ∷ []), j.many);
+  each = λ k r v asked has. go k r v asked (place_of verdicts verdict k v has);
 }
   where
-    go : (k : ℕ) (r : Rule) (t : Tally) (v : RuleVerdict) → slice_get rules k ≡ Some r → Place Tally j.done tally k t → Place RuleVerdict verdicts verdict k v → IsVerdictWith r t.selected t.missed v
-    go k r t v asked (Earlier a got) (Earlier b has) = j.each k r t v asked got has
-    go k r t v asked (Earlier a got) (Last b has) = absurd (omega (arith, a, b, j.many))
-    go k r t v asked (Last a got) (Earlier b has) = absurd (omega (arith, a, b, j.many))
-    go k r t v asked (Last a got) (Last b has) =
-        let same : rule ≡ r = some_same rule r (sym there ∙ ap (slice_get rules) (sym b) ∙ asked) in
-        subst (λ (x : Rule). IsVerdictWith x t.selected t.missed v) same
-        (subst (λ (x : Tally). IsVerdictWith rule x.selected x.missed v) got (subst (λ (x : RuleVerdict). IsVerdictWith rule tally.selected tally.missed x) has one))
+    go : (k : ℕ) (r : Rule) (v : RuleVerdict) → slice_get rules k ≡ Some r → Place RuleVerdict verdicts verdict k v → IsVerdict r p v
+    go k r v asked (Earlier within has) = j.each k r v asked has
+    go k r v asked (Last at is) =
+        let same : rule ≡ r = some_same rule r (sym there ∙ ap (slice_get rules) (sym j.many ∙ sym at) ∙ asked) in
+        subst (λ (x : Rule). IsVerdict x p v) same (subst (IsVerdict rule p) is one)
 
-verdict_with : (rule : Rule) (history : List Viewed) (tally : Tally) (verdict : RuleVerdict) → IsTally rule history tally → IsVerdictWith rule tally.selected tally.missed verdict → IsVerdict rule history verdict
-verdict_with rule history tally verdict is with = rw (is.selected, is.missed) at with
+pub judging-all : (rules : List Rule) (p : Passed) (verdicts : List RuleVerdict) (place : ℕ) → place ≡ length rules → IsJudging rules p verdicts place → AreVerdicts rules p verdicts
+judging-all rules p verdicts place whole j = record { many = j.many ∙ whole; each = j.each }
 
-pub judging-all : (rules : List Rule) (all rest : List Tally) (verdicts : List RuleVerdict) (history : List Viewed) → IsJudging rules all rest verdicts → rest ≡ [] → AreTallies rules history all → AreVerdicts rules history verdicts
-judging-all rules all rest verdicts history j none are = record {
-  many = omega (arith, j.many, are.many, ap length whole);
-  each = λ k rule verdict asked has. go k rule verdict asked has (slice_get j.done k) refl;
-}
-  where
-    whole : j.done ≡ all
-    whole = sym (append-nil j.done) ∙ ap (λ (ts : List Tally). j.done ++ ts) (sym none) ∙ j.split
-
-    missing : (k : ℕ) → slice_get j.done k ≡ None → length j.done ≤ k
-    missing k is = past j.done k is
-      where
-        past : {X : Type 0} (xs : List X) (k : ℕ) → slice_get xs k ≡ None → length xs ≤ k
-        past [] k is = omega arith
-        past (x ∷ xs) zero is = absurd cc
-        past (x ∷ xs) (suc k) is = omega (arith, past xs k is)
-
-    go : (k : ℕ) (rule : Rule) (verdict : RuleVerdict) → slice_get rules k ≡ Some rule → slice_get verdicts k ≡ Some verdict → (found : Option Tally) → slice_get j.done k ≡ found → IsVerdict rule history verdict
-    go k rule verdict asked has None is = absurd (omega (arith, missing k is, j.many, slice_get_within verdicts k verdict has))
-    go k rule verdict asked has (Some tally) is =
-        verdict_with rule history tally verdict (are.each k rule tally asked (ap (λ (ts : List Tally). slice_get ts k) (sym whole) ∙ is)) (j.each k rule tally verdict asked is has)
+-- the verdict that tallies come to
+pub verdict_on : (rule : Rule) (p : Passed) (messages : Tally) (packets : PacketTally) (verdict : RuleVerdict) → IsTally rule p.origins p.messages messages → IsPacketTally rule p.packets packets
+    → IsVerdictWith rule (of_these rule messages.selected packets.selected) messages.counted (of_these rule messages.missed packets.missed) verdict → IsVerdict rule p verdict
+verdict_on rule p messages packets verdict m t with = rw (m.selected, m.counted, m.missed, t.selected, t.missed) at with

@@ -10,10 +10,10 @@ use Rattle.judge_rules.specs.declared.rules.Rule.{Rule}
 use Rattle.bench_judge.specs.declared.tallies.Tally.{Tally}
 use Rattle.bench_judge.specs.declared.verdicts.Miss.{Miss}
 use Rattle.bench_judge.specs.declared.verdicts.RuleVerdict.{RuleVerdict}
-use Rattle.bench_judge.specs.Selection.{selects}
+use Rattle.bench_judge.specs.Selection.{Origins, selects}
 use Rattle.bench_judge.specs.Checks.{meets}
 use Rattle.bench_select.specs.Viewed.{Viewed}
-use Rattle.bench_judge.specs.Verdicts.{latest_stamp, misses, miss_of, AreVerdicts, not_held, rules_not_held, holds}
+use Rattle.bench_judge.specs.Verdicts.{latest, misses, miss_of, AreVerdicts, Passed, not_held, rules_not_held, holds}
 use Rattle.bench_judge.specs.Lines.{miss_line, verdict_lines, rules_lines, last_line, verdict_text}
 use Rattle.bench_judge.specs.Tallies.{IsTally, IsWriting, misses_next, miss_lines}
 use Rattle.bench_judge.proofs.Moments.{moment, misses-skip, misses-met, misses-more}
@@ -21,76 +21,76 @@ use Rattle.bench_judge.proofs.Tallying.{next-skip, next-met, next-missed}
 use Rattle.bench_judge.proofs.Whole.{take_more}
 
 -- the next message does not miss the rule, or it does
-pub misses-stay : (rule : Rule) (h : Viewed) (history : List Viewed) → false ≡ misses_next rule history h → misses rule (h ∷ history) ≡ misses rule history
-misses-stay rule h history stays = go (selects rule h.0 h.1) refl (meets rule.check (latest_stamp rule h.0 history) h.1) refl
+pub misses-stay : (rule : Rule) (origins : Origins) (h : Viewed) (history : List Viewed) → false ≡ misses_next rule origins history h → misses rule origins (h ∷ history) ≡ misses rule origins history
+misses-stay rule origins h history stays = go (selects rule origins h.0 h.1) refl (meets rule.check (latest rule origins h.0 history) h.1) refl
   where
-    go : (s : Bool) → selects rule h.0 h.1 ≡ s → (m : Bool) → meets rule.check (latest_stamp rule h.0 history) h.1 ≡ m → misses rule (h ∷ history) ≡ misses rule history
-    go false is m met = misses-skip rule h history is
-    go true is true met = misses-met rule h history is met
-    go true is false met = let bad : false ≡ true = stays ∙ sym (next-missed rule h history is met) in absurd cc
+    go : (s : Bool) → selects rule origins h.0 h.1 ≡ s → (m : Bool) → meets rule.check (latest rule origins h.0 history) h.1 ≡ m → misses rule origins (h ∷ history) ≡ misses rule origins history
+    go false is m met = misses-skip rule origins h history is
+    go true is true met = misses-met rule origins h history is met
+    go true is false met = let bad : false ≡ true = stays ∙ sym (next-missed rule origins h history is met) in absurd cc
 
-pub misses-grow : (rule : Rule) (h : Viewed) (history : List Viewed) → true ≡ misses_next rule history h → misses rule (h ∷ history) ≡ misses rule history ++ miss_of (moment h history) ∷ []
-misses-grow rule h history grows = go (selects rule h.0 h.1) refl (meets rule.check (latest_stamp rule h.0 history) h.1) refl
+pub misses-grow : (rule : Rule) (origins : Origins) (h : Viewed) (history : List Viewed) → true ≡ misses_next rule origins history h → misses rule origins (h ∷ history) ≡ misses rule origins history ++ miss_of (moment h history) ∷ []
+misses-grow rule origins h history grows = go (selects rule origins h.0 h.1) refl (meets rule.check (latest rule origins h.0 history) h.1) refl
   where
-    go : (s : Bool) → selects rule h.0 h.1 ≡ s → (m : Bool) → meets rule.check (latest_stamp rule h.0 history) h.1 ≡ m → misses rule (h ∷ history) ≡ misses rule history ++ miss_of (moment h history) ∷ []
-    go false is m met = let bad : true ≡ false = grows ∙ sym (next-skip rule h history is) in absurd cc
-    go true is true met = let bad : true ≡ false = grows ∙ sym (next-met rule h history is met) in absurd cc
-    go true is false met = misses-more rule h history is met
+    go : (s : Bool) → selects rule origins h.0 h.1 ≡ s → (m : Bool) → meets rule.check (latest rule origins h.0 history) h.1 ≡ m → misses rule origins (h ∷ history) ≡ misses rule origins history ++ miss_of (moment h history) ∷ []
+    go false is m met = let bad : true ≡ false = grows ∙ sym (next-skip rule origins h history is) in absurd cc
+    go true is true met = let bad : true ≡ false = grows ∙ sym (next-met rule origins h history is met) in absurd cc
+    go true is false met = misses-more rule origins h history is met
 
-pub writing-none : (rule : Rule) (got : Option (List ℕ)) (tally : Tally) → IsTally rule [] tally → IsWriting rule got [] got tally
-writing-none rule got tally is = record { tallied = is; written = appends_nothing got }
+pub writing-none : (rule : Rule) (origins : Origins) (got : Option (List ℕ)) (tally : Tally) → IsTally rule origins [] tally → IsWriting rule origins got [] got tally
+writing-none rule origins got tally is = record { tallied = is; written = appends_nothing got }
 
-pub writing-skip : (rule : Rule) (got gets : Option (List ℕ)) (h : Viewed) (history : List Viewed) (tally next : Tally) → IsWriting rule got history gets tally → false ≡ misses_next rule history h
-    → IsTally rule (h ∷ history) next → IsWriting rule got (h ∷ history) gets next
-writing-skip rule got gets h history tally next w stays is = record {
+pub writing-skip : (rule : Rule) (origins : Origins) (got gets : Option (List ℕ)) (h : Viewed) (history : List Viewed) (tally next : Tally) → IsWriting rule origins got history gets tally → false ≡ misses_next rule origins history h
+    → IsTally rule origins (h ∷ history) next → IsWriting rule origins got (h ∷ history) gets next
+writing-skip rule origins got gets h history tally next w stays is = record {
   tallied = is;
-  written = subst (λ (xs : List Miss). Appends got gets (flat_map (miss_line rule.line) xs)) (sym (misses-stay rule h history stays)) w.written;
+  written = subst (λ (xs : List Miss). Appends got gets (flat_map (miss_line rule.line) xs)) (sym (misses-stay rule origins h history stays)) w.written;
 }
 
-pub writing-more : (rule : Rule) (got mid gets : Option (List ℕ)) (h : Viewed) (history : List Viewed) (tally next : Tally) (miss : Miss) → IsWriting rule got history mid tally → true ≡ misses_next rule history h
-    → IsTally rule (h ∷ history) next → miss ≡ miss_of (moment h history) → Appends mid gets (miss_line rule.line miss) → IsWriting rule got (h ∷ history) gets next
-writing-more rule got mid gets h history tally next miss w grows is told line = record {
+pub writing-more : (rule : Rule) (origins : Origins) (got mid gets : Option (List ℕ)) (h : Viewed) (history : List Viewed) (tally next : Tally) (miss : Miss) → IsWriting rule origins got history mid tally → true ≡ misses_next rule origins history h
+    → IsTally rule origins (h ∷ history) next → miss ≡ miss_of (moment h history) → Appends mid gets (miss_line rule.line miss) → IsWriting rule origins got (h ∷ history) gets next
+writing-more rule origins got mid gets h history tally next miss w grows is told line = record {
   tallied = is;
-  written = subst (Appends got gets) (sym same) (appends_both got mid gets (miss_lines rule history) (miss_line rule.line miss) w.written line);
+  written = subst (Appends got gets) (sym same) (appends_both got mid gets (miss_lines rule origins history) (miss_line rule.line miss) w.written line);
 }
   where
-    same : miss_lines rule (h ∷ history) ≡ miss_lines rule history ++ miss_line rule.line miss
+    same : miss_lines rule origins (h ∷ history) ≡ miss_lines rule origins history ++ miss_line rule.line miss
     same =
-        ap (flat_map (miss_line rule.line)) (misses-grow rule h history grows)
-        ∙ flat_map-append (miss_line rule.line) (misses rule history) (miss_of (moment h history) ∷ [])
-        ∙ ap (λ (l : List ℕ). miss_lines rule history ++ l) (append-nil (miss_line rule.line (miss_of (moment h history))))
-        ∙ ap (λ (x : Miss). miss_lines rule history ++ miss_line rule.line x) (sym told)
+        ap (flat_map (miss_line rule.line)) (misses-grow rule origins h history grows)
+        ∙ flat_map-append (miss_line rule.line) (misses rule origins history) (miss_of (moment h history) ∷ [])
+        ∙ ap (λ (l : List ℕ). miss_lines rule origins history ++ l) (append-nil (miss_line rule.line (miss_of (moment h history))))
+        ∙ ap (λ (x : Miss). miss_lines rule origins history ++ miss_line rule.line x) (sym told)
 
 pub told : (number channel : ℕ) (m : Recorded) (history : List Viewed) → number ≡ length history + 1
     → (let miss : Miss = record { number = number; channel = channel; stamp = time_of m } in miss) ≡ miss_of (moment (channel, m) history)
 told number channel m history is = rw is refl
 
 -- one rule more
-lines-append : (xs ys : List Rule) (history : List Viewed) → rules_lines (xs ++ ys) history ≡ rules_lines xs history ++ rules_lines ys history
-lines-append [] ys history = refl
-lines-append (x ∷ xs) ys history =
-    ap (λ (l : List ℕ). verdict_lines x history ++ l) (lines-append xs ys history) ∙ sym (append_assoc (verdict_lines x history) (rules_lines xs history) (rules_lines ys history))
+lines-append : (xs ys : List Rule) (p : Passed) → rules_lines (xs ++ ys) p ≡ rules_lines xs p ++ rules_lines ys p
+lines-append [] ys p = refl
+lines-append (x ∷ xs) ys p =
+    ap (λ (l : List ℕ). verdict_lines x p ++ l) (lines-append xs ys p) ∙ sym (append_assoc (verdict_lines x p) (rules_lines xs p) (rules_lines ys p))
 
-lines-more : (rules : List Rule) (place : ℕ) (rule : Rule) (history : List Viewed) → slice_get rules place ≡ Some rule → rules_lines (take (place + 1) rules) history ≡ rules_lines (take place rules) history ++ verdict_lines rule history
-lines-more rules place rule history there =
-    ap (λ (rs : List Rule). rules_lines rs history) (rw add-one (take_more rules place rule there))
-    ∙ lines-append (take place rules) (rule ∷ []) history
-    ∙ ap (λ (l : List ℕ). rules_lines (take place rules) history ++ l) (append-nil (verdict_lines rule history))
+lines-more : (rules : List Rule) (place : ℕ) (rule : Rule) (p : Passed) → slice_get rules place ≡ Some rule → rules_lines (take (place + 1) rules) p ≡ rules_lines (take place rules) p ++ verdict_lines rule p
+lines-more rules place rule p there =
+    ap (λ (rs : List Rule). rules_lines rs p) (rw add-one (take_more rules place rule there))
+    ∙ lines-append (take place rules) (rule ∷ []) p
+    ∙ ap (λ (l : List ℕ). rules_lines (take place rules) p ++ l) (append-nil (verdict_lines rule p))
 
-pub rules-more : (rules : List Rule) (place : ℕ) (rule : Rule) (history : List Viewed) (got mid gets : Option (List ℕ)) → slice_get rules place ≡ Some rule → Appends got mid (rules_lines (take place rules) history)
-    → Appends mid gets (verdict_lines rule history) → Appends got gets (rules_lines (take (place + 1) rules) history)
-rules-more rules place rule history got mid gets there before line =
-    subst (Appends got gets) (sym (lines-more rules place rule history there)) (appends_both got mid gets (rules_lines (take place rules) history) (verdict_lines rule history) before line)
+pub rules-more : (rules : List Rule) (place : ℕ) (rule : Rule) (p : Passed) (got mid gets : Option (List ℕ)) → slice_get rules place ≡ Some rule → Appends got mid (rules_lines (take place rules) p)
+    → Appends mid gets (verdict_lines rule p) → Appends got gets (rules_lines (take (place + 1) rules) p)
+rules-more rules place rule p got mid gets there before line =
+    subst (Appends got gets) (sym (lines-more rules place rule p there)) (appends_both got mid gets (rules_lines (take place rules) p) (verdict_lines rule p) before line)
 
 -- as many verdicts are not held as rules
-pub same-held : (rules : List Rule) (history : List Viewed) (verdicts : List RuleVerdict) → AreVerdicts rules history verdicts → not_held verdicts ≡ rules_not_held rules history
-same-held [] history [] are = refl
-same-held [] history (v ∷ vs) are = absurd (omega (arith, are.many))
-same-held (r ∷ rs) history [] are = absurd (omega (arith, are.many))
-same-held (r ∷ rs) history (v ∷ vs) are =
-    let first : v.held ≡ holds r history = (are.each 0 r v refl refl).4 in
-    let rest = same-held rs history vs (record { many = omega (arith, are.many); each = λ k rule verdict asked has. are.each (suc k) rule verdict asked has }) in
+pub same-held : (rules : List Rule) (p : Passed) (verdicts : List RuleVerdict) → AreVerdicts rules p verdicts → not_held verdicts ≡ rules_not_held rules p
+same-held [] p [] are = refl
+same-held [] p (v ∷ vs) are = absurd (omega (arith, are.many))
+same-held (r ∷ rs) p [] are = absurd (omega (arith, are.many))
+same-held (r ∷ rs) p (v ∷ vs) are =
+    let first : v.held ≡ holds r p = (are.each 0 r v refl refl).holds in
+    let rest = same-held rs p vs (record { many = omega (arith, are.many); each = λ k rule verdict asked has. are.each (suc k) rule verdict asked has }) in
     rw (first, rest) refl
 
-pub whole-text : (rules : List Rule) (history : List Viewed) (verdicts : List RuleVerdict) → AreVerdicts rules history verdicts → rules_lines rules history ++ last_line (length verdicts) (not_held verdicts) ≡ verdict_text rules history
-whole-text rules history verdicts are = rw (are.many, same-held rules history verdicts are) refl
+pub whole-text : (rules : List Rule) (p : Passed) (verdicts : List RuleVerdict) → AreVerdicts rules p verdicts → rules_lines rules p ++ last_line (length verdicts) (not_held verdicts) ≡ verdict_text rules p
+whole-text rules p verdicts are = rw (are.many, same-held rules p verdicts are) refl

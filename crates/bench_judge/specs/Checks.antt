@@ -1,15 +1,19 @@
 -- What a rule asks of a message that it selects (own choice).
-use Rattle.std.specs.Prelude.{ℕ, ◌+◌, ◌-◌, ◌*◌, ◌==◌, Bool, true, false, not, ◌&&◌, ◌||◌, nat_le, List, [], ◌∷◌, length}
-use Rattle.std.specs.Prelude.{Option, Some, None, bit_and}
+use Rattle.std.specs.Prelude.{ℕ, ◌+◌, ◌-◌, ◌*◌, ◌%◌, ◌==◌, Bool, true, false, not, ◌&&◌, ◌||◌, nat_le}
+use Rattle.std.specs.Prelude.{List, [], ◌∷◌, length, Option, Some, None, bit_and, if◌then◌else◌}
 use Rattle.std.specs.List.{list_all}
 use Rattle.ch11_layout.specs.Stamps.{Recorded, has_time}
-use Rattle.ch11_layout.specs.BlockStatus.{has_error}
+use Rattle.ch11_layout.specs.BlockStatus.{has_error, is_transfer, has_format_error, has_response_timeout}
+use Rattle.ch11_layout.specs.BlockStatus.{has_word_count_error, has_sync_type_error, has_invalid_word_error}
 use Rattle.ch11_layout.specs.Layouts.{word_of, layout_of, first_gap, second_gap}
 use Rattle.judge_rules.specs.declared.rules.Bounds.{Bounds}
 use Rattle.judge_rules.specs.declared.rules.Datum.{Datum}
 use Rattle.judge_rules.specs.declared.rules.Check.{Check}
 use Rattle.judge_rules.specs.declared.rules.Check.TheVariants.{Sound, Failed, Clean, Status, Data, Response, Period}
-use Rattle.judge_rules.specs.declared.rules.Check.TheVariants.{Count}
+use Rattle.judge_rules.specs.declared.rules.Check.TheVariants.{Count, CountOf, DataWord, DataStep, Whole}
+use Rattle.judge_rules.specs.declared.rules.Kind.{Kind}
+use Rattle.judge_rules.specs.declared.rules.Kind.TheVariants as kind
+use Rattle.judge_rules.specs.declared.rules.WordRange.{WordRange}
 use Rattle.ch11_layout.specs.Replies.{statuses, data_count}
 use Rattle.bench_judge.specs.Clean.{clean}
 
@@ -52,17 +56,80 @@ abbrev pub follows_in : Bounds → Option ℕ → ℕ → Bool
 follows_in b None stamp = true
 follows_in b (Some before) stamp = nat_le before stamp && is_in_micros b (stamp - before)
 
--- as many messages as a count asks for
+-- the data word of a place, counted from 1, if the message has it
+abbrev pub data_word : ℕ → Recorded → Option ℕ
+data_word place m =
+    if nat_le place (data_count m) then Some (word_of m.bytes ((layout_of m).data_start + (place - 1))) else None
+
+abbrev pub is_in_range : WordRange → ℕ → Bool
+is_in_range r word = nat_le r.low word && nat_le word r.high
+
+-- there is the word, and it has one of the values
+abbrev pub has_word : WordRange → Option ℕ → Bool
+has_word r None = false
+has_word r (Some word) = is_in_range r word
+
+-- by how much a word is more than the one before it, modulo 65,536
+abbrev pub step_from : ℕ → ℕ → ℕ
+step_from before word = (word + 65536 - before) % 65536
+
+-- there is the word, and it is so much more than the one before it; the first is not judged
+abbrev pub steps_in : WordRange → Option ℕ → Option ℕ → Bool
+steps_in r before None = false
+steps_in r None (Some word) = true
+steps_in r (Some before) (Some word) = is_in_range r (step_from before word)
+
+-- ---- messages of a kind
+
+-- a message with the bit of no response, or a late one, to which no reply came
+abbrev pub is_silent : Recorded → Bool
+is_silent m = has_response_timeout m.block && (first_gap m == 0) && (second_gap m == 0)
+
+abbrev pub is_of_kind : Kind → Recorded → Bool
+is_of_kind kind.Sound m = not (has_error m.block)
+is_of_kind kind.Failed m = has_error m.block
+is_of_kind kind.Clean m = clean m
+is_of_kind kind.Silent m = is_silent m
+is_of_kind kind.MessageError m = has_error m.block
+is_of_kind kind.TerminalToTerminal m = is_transfer m.block
+is_of_kind kind.FormatError m = has_format_error m.block
+is_of_kind kind.ResponseTimeout m = has_response_timeout m.block
+is_of_kind kind.WordCountError m = has_word_count_error m.block
+is_of_kind kind.SyncTypeError m = has_sync_type_error m.block
+is_of_kind kind.InvalidWordError m = has_invalid_word_error m.block
+
+-- a count counts a message: each, or each of its kind
+abbrev pub is_counted : Check → Recorded → Bool
+is_counted (Count b) m = true
+is_counted (CountOf b k) m = is_of_kind k m
+is_counted _ m = false
+
+-- as many were counted as a count asks for
 abbrev pub counts : Check → ℕ → Bool
-counts (Count b) selected = is_in b selected
-counts _ selected = true
+counts (Count b) counted = is_in b counted
+counts (CountOf b k) counted = is_in b counted
+counts _ counted = true
 
 abbrev pub is_count : Check → Bool
 is_count (Count b) = true
+is_count (CountOf b k) = true
 is_count _ = false
 
--- a message meets a check; in its channel the selected message before it had this stamp. One whose time is not known
--- misses any period
+-- the check is about packets, and not about messages
+abbrev pub is_whole : Check → Bool
+is_whole Whole = true
+is_whole _ = false
+
+-- ---- a message meets a check
+
+-- what a check compares with that of the message before: the stamp of a period, and the word of a step, if there is one
+abbrev pub compared : Check → Recorded → Option ℕ
+compared (Period b) m = Some m.stamp
+compared (DataStep r) m = data_word r.place m
+compared _ m = None
+
+-- A message meets a check; this is what the latest message before it has that the rule selects in its channel and that
+-- has what is compared. One whose time is not known misses any period.
 abbrev pub meets : Check → Option ℕ → Recorded → Bool
 meets Sound before m = not (has_error m.block)
 meets Failed before m = has_error m.block
@@ -72,8 +139,7 @@ meets (Data wanted) before m = has_data wanted.items m
 meets (Response b) before m = responds_in b m
 meets (Period b) before m = has_time m && follows_in b before m.stamp
 meets (Count b) before m = true
-
--- the bounds of a period
-abbrev pub period_of : Check → Option Bounds
-period_of (Period b) = Some b
-period_of _ = None
+meets (CountOf b k) before m = true
+meets (DataWord r) before m = has_word r (data_word r.place m)
+meets (DataStep r) before m = steps_in r before (data_word r.place m)
+meets Whole before m = true

@@ -3,8 +3,11 @@ use Rattle.std.specs.Prelude.{◌≡◌, ℕ, ◌-◌, ◌==◌, ◌||◌, nat_l
 use Rattle.std.specs.Prelude.{codes, decimal, Option}
 use Rattle.std.specs.Io.KnownBytes.{Appends}
 use Rattle.text_lines.specs.Words.{Text}
+use Rattle.judge_rules.specs.declared.rules.Check.{Check}
+use Rattle.judge_rules.specs.declared.rules.Rule.{Rule}
 use Rattle.bench_judge.specs.declared.verdicts.RuleVerdict.{RuleVerdict}
 use Rattle.bench_judge.specs.Names.{rule_text}
+use Rattle.bench_judge.specs.Told.{told_count}
 use Rattle.bench_judge.specs.Verdicts.{not_held}
 
 -- green where all is held, red where it is not
@@ -21,21 +24,21 @@ word_of held = if held then codes "held   " else codes "missed "
 abbrev pub steady : ℕ → ℕ
 steady byte = if nat_lt byte 32 || byte == 127 then 63 else byte
 
-unfoldable pub why : RuleVerdict → List ℕ
-why v =
-    if v.miscounted then codes ", another count"
+unfoldable pub why : Check → RuleVerdict → List ℕ
+why check v =
+    if v.miscounted then codes ", " ++ told_count check v.counted
     else if nat_lt 0 v.missed then codes ", " ++ (decimal v.missed ++ codes " missed")
     else []
 
 unfoldable pub mark : Bool → List ℕ
 mark held = color_of held ++ (word_of held ++ plain)
 
-unfoldable pub numbers : RuleVerdict → List ℕ
-numbers v = codes "  (" ++ (decimal v.selected ++ (codes " selected" ++ (why v ++ codes ")\n")))
+unfoldable pub numbers : Check → RuleVerdict → List ℕ
+numbers check v = codes "  (" ++ (decimal v.selected ++ (codes " selected" ++ (why check v ++ codes ")\n")))
 
 -- a rule by its text: held or missed, as its verdict has it
-unfoldable pub rule_shown : Text → RuleVerdict → List ℕ
-rule_shown name v = mark v.held ++ (map steady name ++ numbers v)
+unfoldable pub rule_shown : Text → Check → RuleVerdict → List ℕ
+rule_shown name check v = mark v.held ++ (map steady name ++ numbers check v)
 
 -- how many more messages miss a rule than are shown
 unfoldable pub more_shown : ℕ → List ℕ
@@ -47,23 +50,24 @@ last_shown verdicts =
     color_of (not_held verdicts == 0) ++ (decimal (length verdicts) ++ (codes " rules, "
     ++ (decimal (not_held verdicts) ++ (codes " not held" ++ (plain ++ codes "\n")))))
 
--- a rule with some lines of messages that miss it, none where none does
-pub record IsRuleShown (name : Text) (v : RuleVerdict) (shown : List ℕ) : Type 0 where
+-- a rule with some lines of messages or packets that miss it, none where none does
+pub record IsRuleShown (name : Text) (check : Check) (v : RuleVerdict) (shown : List ℕ) : Type 0 where
   pub messages : List ℕ
   pub none : v.missed ≡ 0 → messages ≡ []
-  pub split : shown ≡ rule_shown name v ++ (messages ++ more_shown v.missed)
+  pub split : shown ≡ rule_shown name check v ++ (messages ++ more_shown v.missed)
 
--- each rule by its text, in the order of the verdicts
-pub data AreShown (text : Text) : List RuleVerdict → List ℕ → Type 0 where
-  NoneShown : AreShown text [] []
-  OneShown : (v : RuleVerdict) (vs : List RuleVerdict) (shown others : List ℕ)
-      → IsRuleShown (rule_text text v.line) v shown → AreShown text vs others → AreShown text (v ∷ vs) (shown ++ others)
+-- each rule by its text, in their order
+pub data AreShown (text : Text) : List Rule → List RuleVerdict → List ℕ → Type 0 where
+  NoneShown : AreShown text [] [] []
+  OneShown : (rule : Rule) (rules : List Rule) (v : RuleVerdict) (vs : List RuleVerdict) (shown others : List ℕ)
+      → IsRuleShown (rule_text text v.line) rule.check v shown → AreShown text rules vs others
+      → AreShown text (rule ∷ rules) (v ∷ vs) (shown ++ others)
 
 -- all of it
-pub record IsColored (text : Text) (verdicts : List RuleVerdict) (shown : List ℕ) : Type 0 where
-  pub rules : List ℕ
-  pub each : AreShown text verdicts rules
-  pub split : shown ≡ rules ++ last_shown verdicts
+pub record IsColored (text : Text) (rules : List Rule) (verdicts : List RuleVerdict) (shown : List ℕ) : Type 0 where
+  pub lines : List ℕ
+  pub each : AreShown text rules verdicts lines
+  pub split : shown ≡ lines ++ last_shown verdicts
 
 -- a writer got some bytes that are so
 abbrev pub AppendsSome : (List ℕ → Type 0) → Option (List ℕ) → Option (List ℕ) → Type 0

@@ -1,16 +1,18 @@
 -- The JUnit file of verdicts (own choice): a test case a rule, named by its text.
-use Rattle.std.specs.Prelude.{ℕ, zero, suc, ◌-◌, ◌==◌, if◌then◌else◌, List, [], ◌∷◌, ◌++◌, length, take, codes, decimal}
+use Rattle.std.specs.Prelude.{ℕ, zero, suc, ◌-◌, ◌==◌, if◌then◌else◌, List, [], ◌∷◌, ◌++◌, length, take, reverse, codes}
+use Rattle.std.specs.Prelude.{decimal}
 use Rattle.std.specs.List.{flat_map}
-use Rattle.bench_select.specs.Viewed.{Viewed}
 use Rattle.text_lines.specs.Words.{Text}
+use Rattle.judge_rules.specs.declared.rules.Check.{Check}
 use Rattle.judge_rules.specs.declared.rules.Rule.{Rule}
 use Rattle.bench_judge.specs.declared.losses.Lost.{Lost}
-use Rattle.bench_judge.specs.declared.verdicts.Miss.{Miss}
 use Rattle.bench_judge.specs.declared.verdicts.RuleVerdict.{RuleVerdict}
 use Rattle.bench_judge.specs.Losses.{is_any, lost_text}
 use Rattle.bench_judge.specs.Names.{rule_text}
-use Rattle.bench_judge.specs.Lines.{stamp_text}
-use Rattle.bench_judge.specs.Verdicts.{misses, not_held}
+use Rattle.bench_judge.specs.Checks.{is_whole}
+use Rattle.bench_judge.specs.Packets.{packets_missed}
+use Rattle.bench_judge.specs.Told.{told_count, told_moment, told_packet}
+use Rattle.bench_judge.specs.Verdicts.{Passed, missed, not_held}
 use Rattle.bench_judge.specs.Characters.{character_len}
 
 -- ---- a text as the value of an attribute
@@ -39,43 +41,56 @@ escaped text = escaped_behind 0 text
 
 -- ---- test cases
 
+-- a rule selects nothing
+abbrev pub nothing_told : Check → List ℕ
+nothing_told check = if is_whole check then codes "no packet is selected" else codes "no message is selected"
+
 -- why a rule is not held
-unfoldable pub reason : RuleVerdict → List ℕ
-reason v =
-    if v.miscounted then codes "count " ++ decimal v.selected
-    else if v.missed == 0 then codes "no message is selected"
+unfoldable pub reason : Check → RuleVerdict → List ℕ
+reason check v =
+    if v.miscounted then told_count check v.counted
+    else if v.missed == 0 then nothing_told check
     else codes "selected " ++ (decimal v.selected ++ (codes " missed " ++ decimal v.missed))
 
-unfoldable pub told_miss : Miss → List ℕ
-told_miss m =
-    codes "\nmessage " ++ (decimal m.number ++ (codes " channel " ++ (decimal m.channel
-    ++ (codes " stamp " ++ stamp_text m.stamp))))
+-- where the rule stands: the file of the rules, the line, and the rule
+unfoldable pub place_of_rule : Text → ℕ → Text → List ℕ
+place_of_rule file line name = escaped file ++ (codes ":" ++ (decimal line ++ (codes ": " ++ escaped name)))
 
-unfoldable pub failure : RuleVerdict → List Miss → List ℕ
-failure v told =
-    codes "\">\n    <failure message=\"" ++ (reason v ++ (codes "\">"
-    ++ (flat_map told_miss told ++ codes "</failure>\n  </testcase>\n")))
+unfoldable pub failure_text : Text → Text → RuleVerdict → List ℕ → List ℕ
+failure_text file name v told =
+    place_of_rule file v.line name ++ (told ++ codes "</failure>\n  </testcase>\n")
+
+unfoldable pub failure : Text → Text → Check → RuleVerdict → List ℕ → List ℕ
+failure file name check v told =
+    codes "\">\n    <failure message=\"" ++ (reason check v ++ (codes "\">" ++ failure_text file name v told))
 
 unfoldable pub case_head : RuleVerdict → Text → List ℕ
 case_head v name =
     codes "  <testcase classname=\"line " ++ (decimal v.line ++ (codes "\" name=\"" ++ escaped name))
 
 -- a test case passes where its rule is held, and fails where it is not
-abbrev pub case_end : RuleVerdict → List Miss → List ℕ
-case_end v told = if v.held then codes "\"/>\n" else failure v told
+abbrev pub case_end : Text → Text → Check → RuleVerdict → List ℕ → List ℕ
+case_end file name check v told = if v.held then codes "\"/>\n" else failure file name check v told
 
--- the first hundred messages that miss a rule, if any do
-abbrev pub misses_told : Rule → RuleVerdict → List Viewed → List Miss
-misses_told rule v history = if v.missed == 0 then [] else take 100 (misses rule history)
+-- what is told of the first messages that miss a rule, so many of them, or of the first packets
+abbrev pub told_first : ℕ → Rule → Passed → List ℕ
+told_first most rule p =
+    if is_whole rule.check then flat_map told_packet (take most (packets_missed rule p.packets))
+    else flat_map (told_moment rule p.origins) (take most (reverse (missed rule p.origins p.messages)))
 
-abbrev pub case_text : Text → Rule → RuleVerdict → List Viewed → List ℕ
-case_text text rule v history = case_head v (rule_text text v.line) ++ case_end v (misses_told rule v history)
+-- of the first hundred, and nothing where none misses it
+abbrev pub told_lines : Rule → RuleVerdict → Passed → List ℕ
+told_lines rule v p = if v.missed == 0 then [] else told_first 100 rule p
+
+abbrev pub case_text : Text → Text → Rule → RuleVerdict → Passed → List ℕ
+case_text file text rule v p = case_head v (rule_text text v.line)
+    ++ case_end file (rule_text text v.line) rule.check v (told_lines rule v p)
 
 -- a test case for each rule and its verdict, in their order
-abbrev pub cases : Text → List Rule → List RuleVerdict → List Viewed → List ℕ
-cases text [] verdicts history = []
-cases text (rule ∷ rules) [] history = []
-cases text (rule ∷ rules) (v ∷ verdicts) history = case_text text rule v history ++ cases text rules verdicts history
+abbrev pub cases : Text → Text → List Rule → List RuleVerdict → Passed → List ℕ
+cases file text [] verdicts p = []
+cases file text (rule ∷ rules) [] p = []
+cases file text (rule ∷ rules) (v ∷ verdicts) p = case_text file text rule v p ++ cases file text rules verdicts p
 
 -- ---- the file
 
@@ -93,7 +108,7 @@ suite_head verdicts =
     codes "<?xml version=\"1.0\" encoding=\"UTF-8\"?>\n<testsuite name=\"bench judge\" tests=\""
     ++ (decimal (length verdicts) ++ (codes "\" failures=\"" ++ (decimal (not_held verdicts) ++ codes "\">\n")))
 
--- the file of rules, which a text spells, with the verdict on each on the messages of a history, newest first
-unfoldable pub junit : Text → List Rule → List RuleVerdict → Lost → List Viewed → List ℕ
-junit text rules verdicts lost history =
-    suite_head verdicts ++ (properties lost ++ (cases text rules verdicts history ++ codes "</testsuite>\n"))
+-- the file of rules, which the text of a file spells, with the verdict on each on a recording
+unfoldable pub junit : Text → Text → List Rule → List RuleVerdict → Lost → Passed → List ℕ
+junit file text rules verdicts lost p =
+    suite_head verdicts ++ (properties lost ++ (cases file text rules verdicts p ++ codes "</testsuite>\n"))

@@ -1,12 +1,15 @@
 pub mod Selection
 pub mod Clean
 pub mod Checks
+pub mod Kept
+pub mod Losses
+pub mod Packets
 pub mod Verdicts
+pub mod Told
 pub mod Lines
 pub mod Tallies
 pub mod Streaming
 pub mod Names
-pub mod Losses
 pub mod Characters
 pub mod Junit
 pub mod Colored

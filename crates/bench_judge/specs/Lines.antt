@@ -3,9 +3,10 @@ use Rattle.std.specs.Prelude.{ℕ, if◌then◌else◌, List, [], ◌∷◌, ◌
 use Rattle.std.specs.List.{flat_map}
 use Rattle.judge_rules.specs.declared.rules.Rule.{Rule}
 use Rattle.bench_judge.specs.declared.verdicts.Miss.{Miss}
-use Rattle.bench_judge.specs.Checks.{counts}
-use Rattle.bench_select.specs.Viewed.{Viewed}
-use Rattle.bench_judge.specs.Verdicts.{selected, missed, misses, rules_not_held}
+use Rattle.ch11_reader.specs.declared.packet.Packet.{Packet}
+use Rattle.bench_judge.specs.Checks.{counts, is_whole}
+use Rattle.bench_judge.specs.Packets.{packets_missed}
+use Rattle.bench_judge.specs.Verdicts.{Passed, counted_count, misses, missed_count, rules_not_held, selected_count}
 
 -- when a message began, '-' where that is not known
 abbrev pub stamp_text : Option ℕ → List ℕ
@@ -24,30 +25,41 @@ rule_line line selected missed =
     codes "rule " ++ (decimal line
     ++ (codes " selected " ++ (decimal selected ++ (codes " missed " ++ (decimal missed ++ codes "\n")))))
 
+-- a packet that misses the rule of a line, by where it begins
+abbrev pub packet_line : ℕ → Packet → List ℕ
+packet_line line p =
+    codes "missed " ++ (decimal line ++ (codes " packet " ++ (decimal p.offset
+    ++ (codes " channel " ++ (decimal p.header.channel ++ codes "\n")))))
+
 -- a count that is not met
-abbrev pub count_lines : ℕ → ℕ → List ℕ
-count_lines line selected =
-    codes "missed " ++ (decimal line ++ (codes " count " ++ (decimal selected ++ (codes "\nrule " ++ (decimal line
+abbrev pub count_lines : ℕ → ℕ → ℕ → List ℕ
+count_lines line selected counted =
+    codes "missed " ++ (decimal line ++ (codes " count " ++ (decimal counted ++ (codes "\nrule " ++ (decimal line
     ++ (codes " selected " ++ (decimal selected ++ codes " missed 1\n")))))))
 
--- the lines of a rule on the messages of a history: one for each message that misses it, or one for a count that is not
+-- the messages that miss a rule, or the packets where it is about these
+abbrev pub missed_lines : Rule → Passed → List ℕ
+missed_lines rule p =
+    if is_whole rule.check then flat_map (packet_line rule.line) (packets_missed rule p.packets)
+    else flat_map (miss_line rule.line) (misses rule p.origins p.messages)
+
+-- the lines of a rule on a recording: one for each message or packet that misses it, or one for a count that is not
 -- met, and one with its numbers
-abbrev pub verdict_lines : Rule → List Viewed → List ℕ
-verdict_lines rule history =
-    if counts rule.check (length (selected rule history))
-    then flat_map (miss_line rule.line) (misses rule history)
-    ++ rule_line rule.line (length (selected rule history)) (length (missed rule history))
-    else count_lines rule.line (length (selected rule history))
+abbrev pub verdict_lines : Rule → Passed → List ℕ
+verdict_lines rule p =
+    if counts rule.check (counted_count rule p)
+    then missed_lines rule p ++ rule_line rule.line (selected_count rule p) (missed_count rule p)
+    else count_lines rule.line (selected_count rule p) (counted_count rule p)
 
 -- the lines of all rules
-abbrev pub rules_lines : List Rule → List Viewed → List ℕ
-rules_lines [] history = []
-rules_lines (rule ∷ rules) history = verdict_lines rule history ++ rules_lines rules history
+abbrev pub rules_lines : List Rule → Passed → List ℕ
+rules_lines [] p = []
+rules_lines (rule ∷ rules) p = verdict_lines rule p ++ rules_lines rules p
 
 -- the line behind them: how many rules there are, and how many are not held
 abbrev pub last_line : ℕ → ℕ → List ℕ
 last_line rules missed = codes "rules " ++ (decimal rules ++ (codes " missed " ++ (decimal missed ++ codes "\n")))
 
--- what is printed of rules on the messages of a history, newest first
-abbrev pub verdict_text : List Rule → List Viewed → List ℕ
-verdict_text rules history = rules_lines rules history ++ last_line (length rules) (rules_not_held rules history)
+-- what is printed of rules on a recording
+abbrev pub verdict_text : List Rule → Passed → List ℕ
+verdict_text rules p = rules_lines rules p ++ last_line (length rules) (rules_not_held rules p)

@@ -1,33 +1,36 @@
 -- What a tally says of the messages that were passed.
-use Rattle.std.specs.Prelude.{◌≡◌, ℕ, nat_eq, Bool, true, false, not, ◌&&◌, List, ◌++◌, length, map, reverse}
+use Rattle.std.specs.Prelude.{◌≡◌, ℕ, Bool, true, false, not, ◌&&◌, ◌-◌, ◌<◌, List, ◌++◌, length, map, reverse}
 use Rattle.std.specs.Prelude.{slice_get, take, Option, None, Some}
-use Rattle.std.specs.HashMap.{get}
 use Rattle.std.specs.List.{flat_map}
 use Rattle.std.specs.Io.KnownBytes.{Appends}
 use Rattle.ch11_f1.specs.BodyReading.{Message}
+use Rattle.ch11_reader.specs.declared.packet.Packet.{Packet}
 use Rattle.ch11_layout.specs.Stamps.{recorded, time_of}
 use Rattle.ch11_layout.specs.declared.stamps.StampKind.{StampKind}
-use Rattle.judge_rules.specs.declared.rules.Bounds.{Bounds}
 use Rattle.judge_rules.specs.declared.rules.Rule.{Rule}
 use Rattle.bench_judge.specs.declared.verdicts.Miss.{Miss}
 use Rattle.bench_judge.specs.declared.tallies.Tally.{Tally}
-use Rattle.bench_judge.specs.Selection.{selects}
-use Rattle.bench_judge.specs.Checks.{meets, period_of}
+use Rattle.bench_judge.specs.declared.telling.Telling.{Telling}
+use Rattle.bench_judge.specs.Selection.{Origins, selects}
+use Rattle.bench_judge.specs.Checks.{meets}
+use Rattle.bench_judge.specs.Kept.{kept}
 use Rattle.bench_select.specs.Viewed.{Viewed}
-use Rattle.bench_judge.specs.Verdicts.{selected, missed, misses, latest_stamp}
+use Rattle.bench_judge.specs.Verdicts.{counted, latest, missed, misses, selected}
+use Rattle.bench_judge.specs.Packets.{packets_missed}
+use Rattle.bench_judge.specs.Told.{told_moment, told_packet}
 use Rattle.bench_judge.specs.Lines.{miss_line}
 
--- for a rule of a period, the stamp of the newest selected message of each channel; the history stands newest first
-abbrev pub IsLatest : Rule → List Viewed → Tally → Type 0
-IsLatest rule history tally =
-    (b : Bounds) → period_of rule.check ≡ Some b → (channel : ℕ)
-    → get nat_eq tally.latest channel ≡ latest_stamp rule channel history
+-- what is compared with the next message of each channel; the history stands newest first
+abbrev pub IsLatest : Rule → Origins → List Viewed → Tally → Type 0
+IsLatest rule origins history tally =
+    (channel : ℕ) → kept tally.latest channel ≡ latest rule origins channel history
 
--- how many messages were selected and missed so far
-pub record IsTally (rule : Rule) (history : List Viewed) (tally : Tally) : Type 0 where
-  pub selected : tally.selected ≡ length (selected rule history)
-  pub missed : tally.missed ≡ length (missed rule history)
-  pub latest : IsLatest rule history tally
+-- how many messages were selected, counted and missed so far
+pub record IsTally (rule : Rule) (origins : Origins) (history : List Viewed) (tally : Tally) : Type 0 where
+  pub selected : tally.selected ≡ length (selected rule origins history)
+  pub counted : tally.counted ≡ length (counted rule origins history)
+  pub missed : tally.missed ≡ length (missed rule origins history)
+  pub latest : IsLatest rule origins history tally
 
 -- the messages of a packet of a channel, whose stamps are of this kind, behind a history
 abbrev pub viewed_on : StampKind → ℕ → List Message → List Viewed → List Viewed
@@ -35,14 +38,16 @@ viewed_on kind channel messages history =
     reverse (map (λ (m : Message). (channel, recorded kind m)) messages) ++ history
 
 -- a tally for each rule, in their order
-pub record AreTallies (rules : List Rule) (history : List Viewed) (tallies : List Tally) : Type 0 where
+pub record AreTallies (rules : List Rule) (origins : Origins) (history : List Viewed) (tallies : List Tally)
+    : Type 0 where
   pub many : length tallies ≡ length rules
   pub each : (place : ℕ) (rule : Rule) (tally : Tally) → slice_get rules place ≡ Some rule
-      → slice_get tallies place ≡ Some tally → IsTally rule history tally
+      → slice_get tallies place ≡ Some tally → IsTally rule origins history tally
 
 -- the next message is selected and misses the rule
-abbrev pub misses_next : Rule → List Viewed → Viewed → Bool
-misses_next rule history h = selects rule h.0 h.1 && not (meets rule.check (latest_stamp rule h.0 history) h.1)
+abbrev pub misses_next : Rule → Origins → List Viewed → Viewed → Bool
+misses_next rule origins history h =
+    selects rule origins h.0 h.1 && not (meets rule.check (latest rule origins h.0 history) h.1)
 
 -- a message that misses a rule, by its number
 abbrev pub miss_at : ℕ → Viewed → Miss
@@ -54,16 +59,31 @@ IsMissIf misses miss None = false ≡ misses
 IsMissIf misses miss (Some found) = (true ≡ misses) × (found ≡ miss)
 
 -- the lines of the messages that miss a rule
-abbrev pub miss_lines : Rule → List Viewed → List ℕ
-miss_lines rule history = flat_map (miss_line rule.line) (misses rule history)
+abbrev pub miss_lines : Rule → Origins → List Viewed → List ℕ
+miss_lines rule origins history = flat_map (miss_line rule.line) (misses rule origins history)
 
 -- the messages that missed the rule so far were written
-pub record IsWriting (rule : Rule) (got : Option (List ℕ)) (history : List Viewed) (gets : Option (List ℕ))
-    (tally : Tally) : Type 0 where
-  pub tallied : IsTally rule history tally
-  pub written : Appends got gets (miss_lines rule history)
+pub record IsWriting (rule : Rule) (origins : Origins) (got : Option (List ℕ)) (history : List Viewed)
+    (gets : Option (List ℕ)) (tally : Tally) : Type 0 where
+  pub tallied : IsTally rule origins history tally
+  pub written : Appends got gets (miss_lines rule origins history)
 
--- the first messages that missed the rule so far, at most so many, were found
-pub record IsFinding (rule : Rule) (most : ℕ) (history : List Viewed) (found : List Miss) (tally : Tally) : Type 0 where
-  pub tallied : IsTally rule history tally
-  pub first : found ≡ take most (misses rule history)
+-- the first messages that missed the rule so far, at most so many, were told, and so many more will be
+pub record IsTelling (rule : Rule) (origins : Origins) (most : ℕ) (history : List Viewed) (telling : Telling)
+    : Type 0 where
+  pub tallied : IsTally rule origins history telling.tally
+  pub told : telling.text.items
+      ≡ flat_map (told_moment rule origins) (take most (reverse (missed rule origins history)))
+  pub left : telling.left ≡ most - length (missed rule origins history)
+
+-- the first packets that missed the rule so far, at most so many, were told, and so many more will be
+pub record IsPacketTelling (rule : Rule) (most : ℕ) (packets : List Packet) (text : List ℕ) (more : ℕ) : Type 0 where
+  pub told : text ≡ flat_map told_packet (take most (packets_missed rule packets))
+  pub left : more ≡ most - length (packets_missed rule packets)
+
+-- a text was told and one less is left, or none was left
+pub record IsPut (told : List ℕ) (telling next : Telling) : Type 0 where
+  pub tally : next.tally ≡ telling.tally
+  pub full : telling.left ≡ 0 → (next.text.items ≡ telling.text.items) × (next.left ≡ telling.left)
+  pub some : 0 < telling.left
+      → (next.text.items ≡ telling.text.items ++ told) × (next.left ≡ telling.left - 1)

@@ -6,10 +6,13 @@ ghost use Rattle.std.specs.Prelude.{◌≡◌, ◌+◌, ◌<◌, ◌^◌, length
 
 use crate::clean::clean_once;
 use ch11_layout::View;
-use judge_rules::{Bounds, Check, Datum};
+use judge_rules::{Bounds, Check, Datum, Kind, WordRange};
 
 /// How many ticks of 0.1 µs a microsecond has.
 const TICKS: u64 = 10;
+
+/// How many values a word has.
+const WORDS: u64 = 65_536;
 
 /// Whether a word has a value in the bits of a mask.
 fn agrees(datum: &Datum, word: u16) -> bool
@@ -90,16 +93,6 @@ fn is_in_micros(bounds: &Bounds, ticks: u64) -> bool
     TICKS * u64::from(bounds.low) <= ticks && ticks <= TICKS * u64::from(bounds.high)
 }
 
-/// The bounds of a period, where a check is one.
-pub(crate) fn period_of(check: &Check) -> Option<Bounds>
-    ensures { result ≡ spec.period_of check.now }
-{
-    match check {
-        Check::Period(bounds) => Some(*bounds),
-        _ => None,
-    }
-}
-
 /// Whether a stamp follows the one before it within bounds, if there is one.
 pub(crate) fn follows_in(bounds: &Bounds, before: Option<u64>, stamp: u64) -> bool
     ensures { result ≡ spec.follows_in bounds.now before stamp }
@@ -110,12 +103,76 @@ pub(crate) fn follows_in(bounds: &Bounds, before: Option<u64>, stamp: u64) -> bo
     }
 }
 
-/// Whether so many messages are as many as a check asks for; it may ask for no number of them.
-pub(crate) fn counts(check: &Check, selected: u64) -> bool
-    ensures { result ≡ spec.counts check.now selected }
+/// The data word of a place, counted from 1, if a message has it.
+pub(crate) fn data_word(place: u8, view: &View<'_>) -> Option<u16>
+    ensures { result ≡ spec.data_word place view.now }
+{
+    let place = usize::from(place);
+    if place <= view.data_count() {
+        Some(view.word(view.layout().data_start + place.saturating_sub(1)))
+    } else {
+        None
+    }
+}
+
+/// Whether a word has a value in a range.
+fn is_in_range(range: &WordRange, word: u16) -> bool
+    ensures { result ≡ spec.is_in_range range.now word }
+{
+    range.low <= word && word <= range.high
+}
+
+/// Whether there is a word, and it has a value in a range.
+fn has_word(range: &WordRange, word: Option<u16>) -> bool
+    ensures { result ≡ spec.has_word range.now word }
+{
+    match word {
+        None => false,
+        Some(word) => is_in_range(range, word),
+    }
+}
+
+/// By how much a word is more than the one before it, modulo 65,536.
+pub(crate) fn step_from(before: u64, word: u16) -> u16
+    ensures { result ≡ spec.step_from before word }
+{
+    ((u64::from(word) + WORDS).saturating_sub(before) % WORDS) as u16
+}
+
+/// Whether there is a word, and it is by so much more than the one before it, if there is one.
+fn steps_in(range: &WordRange, before: Option<u64>, word: Option<u16>) -> bool
+    ensures { result ≡ spec.steps_in range.now before word }
+{
+    match word {
+        None => false,
+        Some(word) => match before {
+            None => true,
+            Some(before) => is_in_range(range, step_from(before, word)),
+        },
+    }
+}
+
+/// What a check compares with that of the message before, if there is anything: the stamp, or a data word.
+pub(crate) fn compared(check: &Check, view: &View<'_>) -> Option<u64>
+    ensures { result ≡ spec.compared check.now view.now }
 {
     match check {
-        Check::Count(bounds) => is_in(bounds, selected),
+        Check::Period(_) => Some(view.stamp()),
+        Check::DataStep(range) => match data_word(range.place, view) {
+            Some(word) => Some(u64::from(word)),
+            None => None,
+        },
+        _ => None,
+    }
+}
+
+/// Whether so many messages were counted as a check asks for; it may ask for no number of them.
+pub(crate) fn counts(check: &Check, counted: u64) -> bool
+    ensures { result ≡ spec.counts check.now counted }
+{
+    match check {
+        Check::Count(bounds) => is_in(bounds, counted),
+        Check::CountOf { bounds, .. } => is_in(bounds, counted),
         _ => true,
     }
 }
@@ -124,11 +181,58 @@ pub(crate) fn counts(check: &Check, selected: u64) -> bool
 pub(crate) fn is_count(check: &Check) -> bool
     ensures { result ≡ spec.is_count check.now }
 {
-    matches!(check, Check::Count(_))
+    matches!(check, Check::Count(_) | Check::CountOf { .. })
 }
 
-/// Whether a message meets a check, where the selected message before it in its channel, if there is one, had this
-/// stamp. Whether the message is clean is worked out at most once.
+/// Whether a check is about packets.
+pub(crate) fn is_whole(check: &Check) -> bool
+    ensures { result ≡ spec.is_whole check.now }
+{
+    matches!(check, Check::Whole)
+}
+
+/// Whether a message has the bit of no response, or a late one, and no reply came to it.
+fn is_silent(view: &View<'_>) -> bool
+    ensures { result ≡ spec.is_silent view.now }
+{
+    view.has_response_timeout() && view.first_gap() == 0 && view.second_gap() == 0
+}
+
+/// Whether a message is of a kind. Whether it is clean is worked out at most once.
+fn is_of_kind(kind: Kind, view: &View<'_>, known: &mut Option<bool>) -> bool
+    requires { IsKnown known.old view.now }
+    ensures value { result ≡ spec.is_of_kind kind view.now }
+    ensures known { IsKnown known.new view.now }
+{
+    match kind {
+        Kind::Sound => !view.has_error(),
+        Kind::Failed | Kind::MessageError => view.has_error(),
+        Kind::Clean => clean_once(known, view),
+        Kind::Silent => is_silent(view),
+        Kind::TerminalToTerminal => view.is_transfer(),
+        Kind::FormatError => view.has_format_error(),
+        Kind::ResponseTimeout => view.has_response_timeout(),
+        Kind::WordCountError => view.has_word_count_error(),
+        Kind::SyncTypeError => view.has_sync_type_error(),
+        Kind::InvalidWordError => view.has_invalid_word_error(),
+    }
+}
+
+/// Whether a check counts a message. Whether the message is clean is worked out at most once.
+pub(crate) fn is_counted(check: &Check, view: &View<'_>, known: &mut Option<bool>) -> bool
+    requires { IsKnown known.old view.now }
+    ensures value { result ≡ spec.is_counted check.now view.now }
+    ensures known { IsKnown known.new view.now }
+{
+    match check {
+        Check::Count(_) => true,
+        Check::CountOf { kind, .. } => is_of_kind(*kind, view, known),
+        _ => false,
+    }
+}
+
+/// Whether a message meets a check, where the selected message before it in its channel, if there is one that has what
+/// is compared, had this of it. Whether the message is clean is worked out at most once.
 pub(crate) fn meets(
     check: &Check,
     before: Option<u64>,
@@ -147,6 +251,8 @@ pub(crate) fn meets(
         Check::Data(wanted) => has_data(wanted.as_slice(), view),
         Check::Response(bounds) => responds_in(bounds, view),
         Check::Period(bounds) => view.has_time() && follows_in(bounds, before, view.stamp()),
-        Check::Count(_) => true,
+        Check::DataWord(range) => has_word(range, data_word(range.place, view)),
+        Check::DataStep(range) => steps_in(range, before, data_word(range.place, view)),
+        Check::Count(_) | Check::CountOf { .. } | Check::Whole => true,
     }
 }

@@ -2,7 +2,7 @@
 ghost use Rattle.bench_judge.specs.Clean as spec;
 ghost use Rattle.ch11_layout.specs.Replies.{data_count};
 ghost use Rattle.mil_word.specs.Fields.{most_words};
-ghost use Rattle.std.specs.Prelude.{◌≡◌, ◌-◌, ◌≤◌, Some, if◌then◌else◌};
+ghost use Rattle.std.specs.Prelude.{◌≡◌, ◌-◌, ◌≤◌, Some};
 
 use crate::replies::{replies_fit, sends_no_data, words_due};
 use ch11_layout::View;

@@ -7,11 +7,12 @@ use crate::names::Names;
 use crate::numbers::put_number;
 use crate::pass_fault::PassFault;
 use crate::sought::{Wanted, write_first};
+use crate::told::put_count;
 use crate::verdicts::{Judged, RuleVerdict, not_held};
 use bench_decode::{Shown, TextLine};
 use bench_names::ChannelNames;
 use bench_watch::Reopen;
-use judge_rules::Rule;
+use judge_rules::{Check, Rule};
 use std::alloc::{AllocError, Global};
 use std::io;
 use std::io::Write;
@@ -67,11 +68,12 @@ fn put_mark(text: &mut Vec<u8>, held: bool) -> Result<(), AllocError>
 
 /// Appends why a rule is missed, if it is, but for one that selects no message.
 #[tactic(auto, unfolding(crate::specs::Colored::why))]
-fn put_why(text: &mut Vec<u8>, verdict: &RuleVerdict) -> Result<(), AllocError>
-    ensures { OnOk result (text.new.items ≡ text.old.items ++ spec.why verdict.now) }
+fn put_why(text: &mut Vec<u8>, check: &Check, verdict: &RuleVerdict) -> Result<(), AllocError>
+    ensures { OnOk result (text.new.items ≡ text.old.items ++ spec.why check.now verdict.now) }
 {
     if verdict.miscounted {
-        return text.extend_from_slice(b", another count");
+        text.extend_from_slice(b", ")?;
+        return put_count(text, check, verdict.counted);
     }
     if verdict.missed > 0 {
         put_number(text, b", ", verdict.missed)?;
@@ -82,23 +84,28 @@ fn put_why(text: &mut Vec<u8>, verdict: &RuleVerdict) -> Result<(), AllocError>
 
 /// Appends the numbers of a rule.
 #[tactic(auto, unfolding(crate::specs::Colored::numbers))]
-fn put_numbers(text: &mut Vec<u8>, verdict: &RuleVerdict) -> Result<(), AllocError>
-    ensures { OnOk result (text.new.items ≡ text.old.items ++ spec.numbers verdict.now) }
+fn put_numbers(text: &mut Vec<u8>, check: &Check, verdict: &RuleVerdict) -> Result<(), AllocError>
+    ensures { OnOk result (text.new.items ≡ text.old.items ++ spec.numbers check.now verdict.now) }
 {
     put_number(text, b"  (", verdict.selected)?;
     text.extend_from_slice(b" selected")?;
-    put_why(text, verdict)?;
+    put_why(text, check, verdict)?;
     text.extend_from_slice(b")\n")
 }
 
 /// Appends a rule with its numbers.
 #[tactic(auto, unfolding(crate::specs::Colored::rule_shown))]
-fn put_rule(text: &mut Vec<u8>, name: &[u8], verdict: &RuleVerdict) -> Result<(), AllocError>
-    ensures { OnOk result (text.new.items ≡ text.old.items ++ spec.rule_shown name.now verdict.now) }
+fn put_rule(
+    text: &mut Vec<u8>,
+    name: &[u8],
+    check: &Check,
+    verdict: &RuleVerdict,
+) -> Result<(), AllocError>
+    ensures { OnOk result (text.new.items ≡ text.old.items ++ spec.rule_shown name.now check.now verdict.now) }
 {
     put_mark(text, verdict.held)?;
     put_name(text, name)?;
-    put_numbers(text, verdict)
+    put_numbers(text, check, verdict)
 }
 
 /// Appends how many rules there are and how many are not held.
@@ -115,13 +122,14 @@ fn put_last(text: &mut Vec<u8>, verdicts: &[RuleVerdict]) -> Result<(), AllocErr
     Ok(())
 }
 
-/// The first messages that miss a rule, as they are shown; none where none does.
+/// The first messages or packets that miss a rule, as they are shown; none where none does.
 fn shown_misses<S: Reopen>(
     alloc: Global,
     line: &mut TextLine,
     recording: &S,
     names: ChannelNames<'_>,
     rule: &Rule,
+    origins: &[Option<u64>],
     missed: u64,
 ) -> Result<Vec<u8>, PassFault>
     ensures { missed ≡ 0 → IfOk result (λ shown. shown.items ≡ []) }
@@ -131,6 +139,7 @@ fn shown_misses<S: Reopen>(
         let wanted = Wanted {
             alloc,
             rule,
+            origins,
             most: SHOWN as usize,
         };
         write_first(recording, wanted, names, line, &mut shown)?;
@@ -158,15 +167,17 @@ fn write_rule<S: Reopen, W: Write>(
     channels: ChannelNames<'_>,
     name: &[u8],
     rule: &Rule,
+    origins: &[Option<u64>],
     verdict: &RuleVerdict,
     out: &mut W,
 ) -> Result<(), PassFault>
-    ensures { OnOk result (spec.AppendsSome (spec.IsRuleShown name.now verdict.now) (W.contents out.old)
-        (W.contents out.new)) }
+    ensures { OnOk result (spec.AppendsSome (spec.IsRuleShown name.now rule.now.check verdict.now)
+        (W.contents out.old) (W.contents out.new)) }
 {
     let mut text = Vec::new(alloc);
-    put_rule(&mut text, name, verdict)?;
-    let shown = shown_misses(alloc, line, recording, channels, rule, verdict.missed)?;
+    put_rule(&mut text, name, &rule.check, verdict)?;
+    let missed = verdict.missed;
+    let shown = shown_misses(alloc, line, recording, channels, rule, origins, missed)?;
     out.write_all(text.as_slice())?;
     out.write_all(shown.as_slice())?;
     write_more(verdict.missed, out)?;
@@ -182,7 +193,8 @@ fn write_rules<S: Reopen, W: Write>(
     out: &mut W,
 ) -> Result<(), PassFault>
     ensures { length judged.entry.rules.now ≡ length judged.entry.verdicts.now
-        → OnOk result (spec.AppendsSome (spec.AreShown judged.entry.text.now judged.entry.verdicts.now)
+        → OnOk result (spec.AppendsSome
+        (spec.AreShown judged.entry.text.now judged.entry.rules.now judged.entry.verdicts.now)
         (W.contents out.old) (W.contents out.new)) }
 {
     let mut line = TextLine::new(alloc, Shown::Colored)?;
@@ -194,8 +206,9 @@ fn write_rules<S: Reopen, W: Write>(
             return Ok(());
         };
         let name = names.at(verdict.line);
+        let origins = judged.origins;
         write_rule(
-            alloc, &mut line, recording, channels, name, rule, verdict, out,
+            alloc, &mut line, recording, channels, name, rule, origins, verdict, out,
         )?;
         rules = more;
         verdicts = others;
@@ -203,8 +216,12 @@ fn write_rules<S: Reopen, W: Write>(
     Ok(())
 }
 
-/// Writes the verdicts for people.
-fn write_for_people<S: Reopen, W: Write>(
+/// Writes the verdicts on rules, which the text of a file spells, for people: each rule by its own text, green where it
+/// is held and red where it is not, with the first three messages that miss it as `bench dump --decode` shows them,
+/// each with what was there and what was expected, or the first three packets, for which the recording is read anew;
+/// last how many rules there are and how many are not held. A fault is want of memory, the writer's, or the
+/// recording's, and then the writer may have got the text of rules in front of it.
+pub fn write_colored<S: Reopen, W: Write>(
     alloc: Global,
     recording: &S,
     channels: ChannelNames<'_>,
@@ -212,7 +229,8 @@ fn write_for_people<S: Reopen, W: Write>(
     out: &mut W,
 ) -> Result<(), PassFault>
     ensures { length judged.entry.rules.now ≡ length judged.entry.verdicts.now
-        → OnOk result (spec.AppendsSome (spec.IsColored judged.entry.text.now judged.entry.verdicts.now)
+        → OnOk result (spec.AppendsSome
+        (spec.IsColored judged.entry.text.now judged.entry.rules.now judged.entry.verdicts.now)
         (W.contents out.old) (W.contents out.new)) }
 {
     write_rules(alloc, recording, channels, judged, out)?;
@@ -221,30 +239,4 @@ fn write_for_people<S: Reopen, W: Write>(
     out.write_all(text.as_slice())?;
     out.flush()?;
     Ok(())
-}
-
-/// Writes the verdicts on these rules, which a text spells, for people: each rule by its own text, green where it is
-/// held and red where it is not, with the first three messages that miss it as `bench dump --decode` shows them, behind
-/// the name of their channel if it has one, for which the recording is read anew; last how many rules there are and how many are not held. A fault is want of
-/// memory, the writer's, or the recording's, and then the writer may have got the text of rules in front of it.
-pub fn write_colored<S: Reopen, W: Write>(
-    alloc: Global,
-    recording: &S,
-    channels: ChannelNames<'_>,
-    rules_text: &[u8],
-    rules: &[Rule],
-    verdicts: &[RuleVerdict],
-    out: &mut W,
-) -> Result<(), PassFault>
-    ensures { length rules.now ≡ length verdicts.now
-        → OnOk result (spec.AppendsSome (spec.IsColored rules_text.now verdicts.now) (W.contents out.old)
-        (W.contents out.new)) }
-{
-    write_for_people(
-        alloc,
-        recording,
-        channels,
-        Judged::of(rules_text, rules, verdicts),
-        out,
-    )
 }

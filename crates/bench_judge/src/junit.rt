@@ -1,66 +1,71 @@
 //! Verdicts as a JUnit XML file: a test case a rule.
 ghost use Rattle.bench_judge.specs.Junit as spec;
 ghost use Rattle.bench_judge.specs.Losses.{lost_text};
-ghost use Rattle.bench_judge.specs.Streaming.{history_of};
-ghost use Rattle.std.specs.List.{flat_map};
+ghost use Rattle.bench_judge.specs.Streaming.{passed_of};
 ghost use Rattle.std.specs.Prelude.{◌≡◌, ◌++◌, ℕ, List, Some, IfOk, OnOk};
 
+use crate::checks::is_whole;
 use crate::escaping::put_escaped;
 use crate::losses::Lost;
 use crate::names::Names;
 use crate::numbers::put_number;
 use crate::pass_fault::PassFault;
-use crate::sought::{Wanted, find_first};
-use crate::verdicts::{Judged, Miss, RuleVerdict, not_held};
+use crate::sought::{Wanted, tell_first};
+use crate::told::put_count;
+use crate::verdicts::{Judged, RuleVerdict, not_held};
 use bench_watch::Reopen;
-use judge_rules::Rule;
+use judge_rules::{Check, Rule};
 use std::alloc::{AllocError, Global};
 
-/// How many messages that miss a rule are told of it.
+/// How many messages or packets that miss a rule are told of it.
 const TOLD: usize = 100;
 
 /// What the file begins with, up to how many test cases it has.
 const HEAD: &[u8] =
     b"<?xml version=\"1.0\" encoding=\"UTF-8\"?>\n<testsuite name=\"bench judge\" tests=\"";
 
+/// A rule by the file that it stands in, and its text.
+#[derive(Clone, Copy)]
+struct Named<'n> {
+    file: &'n [u8],
+    name: &'n [u8],
+}
+
+/// Appends that a rule selects nothing.
+fn put_nothing(text: &mut Vec<u8>, check: &Check) -> Result<(), AllocError>
+    ensures { OnOk result (text.new.items ≡ text.old.items ++ spec.nothing_told check.now) }
+{
+    if is_whole(check) {
+        text.extend_from_slice(b"no packet is selected")
+    } else {
+        text.extend_from_slice(b"no message is selected")
+    }
+}
+
 /// Appends why a rule is not held.
 #[tactic(auto, unfolding(crate::specs::Junit::reason))]
-fn put_reason(text: &mut Vec<u8>, verdict: &RuleVerdict) -> Result<(), AllocError>
-    ensures { OnOk result (text.new.items ≡ text.old.items ++ spec.reason verdict.now) }
+fn put_reason(text: &mut Vec<u8>, check: &Check, verdict: &RuleVerdict) -> Result<(), AllocError>
+    ensures { OnOk result (text.new.items ≡ text.old.items ++ spec.reason check.now verdict.now) }
 {
     if verdict.miscounted {
-        return put_number(text, b"count ", verdict.selected);
+        return put_count(text, check, verdict.counted);
     }
     if verdict.missed == 0 {
-        return text.extend_from_slice(b"no message is selected");
+        return put_nothing(text, check);
     }
     put_number(text, b"selected ", verdict.selected)?;
     put_number(text, b" missed ", verdict.missed)
 }
 
-/// Appends where a message is that misses a rule.
-#[tactic(auto, unfolding(crate::specs::Junit::told_miss))]
-fn put_miss(text: &mut Vec<u8>, miss: &Miss) -> Result<(), AllocError>
-    ensures { OnOk result (text.new.items ≡ text.old.items ++ spec.told_miss miss.now) }
+/// Appends where a rule stands, and the rule: the file, the line and its text.
+#[tactic(auto, unfolding(crate::specs::Junit::place_of_rule))]
+fn put_place(text: &mut Vec<u8>, file: &[u8], line: u64, name: &[u8]) -> Result<(), AllocError>
+    ensures { OnOk result (text.new.items ≡ text.old.items ++ spec.place_of_rule file.now line name.now) }
 {
-    put_number(text, b"\nmessage ", miss.number)?;
-    put_number(text, b" channel ", u64::from(miss.channel))?;
-    match miss.stamp {
-        Some(stamp) => put_number(text, b" stamp ", stamp),
-        None => text.extend_from_slice(b" stamp -"),
-    }
-}
-
-/// Appends where the messages are that miss a rule.
-fn put_misses(text: &mut Vec<u8>, misses: &[Miss]) -> Result<(), AllocError>
-    ensures { OnOk result (text.new.items ≡ text.old.items ++ flat_map spec.told_miss misses.now) }
-{
-    let mut rest = misses;
-    'misses: while let Some((miss, others)) = rest.split_first() {
-        put_miss(text, miss)?;
-        rest = others;
-    }
-    Ok(())
+    put_escaped(text, file)?;
+    put_number(text, b":", line)?;
+    text.extend_from_slice(b": ")?;
+    put_escaped(text, name)
 }
 
 /// Appends the line and the name with which the test case of a rule begins.
@@ -73,74 +78,103 @@ fn put_case_head(text: &mut Vec<u8>, name: &[u8], verdict: &RuleVerdict) -> Resu
     put_escaped(text, name)
 }
 
-/// Appends that a test case fails, and why.
-fn put_failure(text: &mut Vec<u8>, verdict: &RuleVerdict, told: &[Miss]) -> Result<(), AllocError>
-    ensures { OnOk result (text.new.items ≡ text.old.items ++ spec.failure verdict.now told.now) }
+/// Appends what a failure says.
+#[tactic(auto, unfolding(crate::specs::Junit::failure_text))]
+fn put_failure_text(
+    text: &mut Vec<u8>,
+    named: Named<'_>,
+    verdict: &RuleVerdict,
+    told: &[u8],
+) -> Result<(), AllocError>
+    ensures { OnOk result (text.new.items
+        ≡ text.old.items ++ spec.failure_text named.entry.file.now named.entry.name.now verdict.now told.now) }
 {
-    text.extend_from_slice(b"\">\n    <failure message=\"")?;
-    put_reason(text, verdict)?;
-    text.extend_from_slice(b"\">")?;
-    put_misses(text, told)?;
-    text.extend_from_slice(b"</failure>\n  </testcase>\n")?;
-    Ok(())
+    put_place(text, named.file, verdict.line, named.name)?;
+    text.extend_from_slice(told)?;
+    text.extend_from_slice(b"</failure>\n  </testcase>\n")
 }
 
-/// The messages that are told of a rule: the first that miss it, if any do.
+/// Appends that a test case fails, and why.
+#[tactic(auto, unfolding(crate::specs::Junit::failure))]
+fn put_failure(
+    text: &mut Vec<u8>,
+    named: Named<'_>,
+    check: &Check,
+    verdict: &RuleVerdict,
+    told: &[u8],
+) -> Result<(), AllocError>
+    ensures { OnOk result (text.new.items ≡ text.old.items
+        ++ spec.failure named.entry.file.now named.entry.name.now check.now verdict.now told.now) }
+{
+    text.extend_from_slice(b"\">\n    <failure message=\"")?;
+    put_reason(text, check, verdict)?;
+    text.extend_from_slice(b"\">")?;
+    put_failure_text(text, named, verdict, told)
+}
+
+/// What is told of a rule: of the first messages or packets that miss it, if any do.
 fn told_of<S: Reopen>(
     alloc: Global,
     recording: &S,
     rule: &Rule,
+    origins: &[Option<u64>],
     verdict: &RuleVerdict,
-) -> Result<Vec<Miss>, PassFault>
+) -> Result<Vec<u8>, PassFault>
     ensures { (file : List ℕ) → S.bytes recording.now ≡ Some file
-        → IfOk result (λ told. told.items ≡ spec.misses_told rule.now verdict.now (history_of file)) }
+        → IfOk result (λ told. told.items ≡ spec.told_lines rule.now verdict.now (passed_of origins.now file)) }
 {
     if verdict.missed == 0 {
         return Ok(Vec::new(alloc));
     }
-    find_first(
+    tell_first(
         recording,
         Wanted {
             alloc,
             rule,
+            origins,
             most: TOLD,
         },
     )
 }
 
-/// Appends the end of a test case: that it passes where its rule is held, and else that it fails, with the first
-/// messages that miss the rule.
+/// Appends the end of a test case: that it passes where its rule is held, and else that it fails, with what is told of
+/// the rule.
 fn put_case_end<S: Reopen>(
     text: &mut Vec<u8>,
     recording: &S,
+    named: Named<'_>,
     rule: &Rule,
+    origins: &[Option<u64>],
     verdict: &RuleVerdict,
 ) -> Result<(), PassFault>
     ensures { (file : List ℕ) → S.bytes recording.now ≡ Some file
         → OnOk result (text.new.items
-        ≡ text.old.items ++ spec.case_end verdict.now (spec.misses_told rule.now verdict.now (history_of file))) }
+        ≡ text.old.items ++ spec.case_end named.entry.file.now named.entry.name.now rule.now.check verdict.now
+        (spec.told_lines rule.now verdict.now (passed_of origins.now file))) }
 {
     if verdict.held {
         return Ok(text.extend_from_slice(b"\"/>\n")?);
     }
-    let told = told_of(*text.allocator(), recording, rule, verdict)?;
-    Ok(put_failure(text, verdict, told.as_slice())?)
+    let told = told_of(*text.allocator(), recording, rule, origins, verdict)?;
+    Ok(put_failure(text, named, &rule.check, verdict, told.as_slice())?)
 }
 
 /// Appends the test case of a rule, named by its text.
 fn put_case<S: Reopen>(
     text: &mut Vec<u8>,
     recording: &S,
-    name: &[u8],
+    named: Named<'_>,
     rule: &Rule,
+    origins: &[Option<u64>],
     verdict: &RuleVerdict,
 ) -> Result<(), PassFault>
     ensures { (file : List ℕ) → S.bytes recording.now ≡ Some file
-        → OnOk result (text.new.items ≡ text.old.items ++ (spec.case_head verdict.now name.now
-        ++ spec.case_end verdict.now (spec.misses_told rule.now verdict.now (history_of file)))) }
+        → OnOk result (text.new.items ≡ text.old.items ++ (spec.case_head verdict.now named.entry.name.now
+        ++ spec.case_end named.entry.file.now named.entry.name.now rule.now.check verdict.now
+        (spec.told_lines rule.now verdict.now (passed_of origins.now file)))) }
 {
-    put_case_head(text, name, verdict)?;
-    put_case_end(text, recording, rule, verdict)
+    put_case_head(text, named.name, verdict)?;
+    put_case_end(text, recording, named, rule, origins, verdict)
 }
 
 /// Appends the test case of each rule.
@@ -151,7 +185,8 @@ fn put_cases<S: Reopen>(
 ) -> Result<(), PassFault>
     ensures { (file : List ℕ) → S.bytes recording.now ≡ Some file
         → OnOk result (text.new.items ≡ text.old.items
-        ++ spec.cases judged.entry.text.now judged.entry.rules.now judged.entry.verdicts.now (history_of file)) }
+        ++ spec.cases judged.entry.file.now judged.entry.text.now judged.entry.rules.now judged.entry.verdicts.now
+        (passed_of judged.entry.origins.now file)) }
 {
     let mut names = Names::of(judged.text);
     let mut rules = judged.rules;
@@ -160,7 +195,12 @@ fn put_cases<S: Reopen>(
         let Some((verdict, others)) = verdicts.split_first() else {
             return Ok(());
         };
-        put_case(text, recording, names.at(verdict.line), rule, verdict)?;
+        let name = names.at(verdict.line);
+        let named = Named {
+            file: judged.file,
+            name,
+        };
+        put_case(text, recording, named, rule, judged.origins, verdict)?;
         rules = more;
         verdicts = others;
     }
@@ -208,16 +248,20 @@ fn put_suite_head(text: &mut Vec<u8>, verdicts: &[RuleVerdict]) -> Result<(), Al
     Ok(())
 }
 
-/// The JUnit file.
-fn report_of<S: Reopen>(
+/// A JUnit file of the verdicts on rules, which the text of a file spells: a test case a rule, in their order, named by
+/// the line of the rule, which passes where the rule is held. Of a rule that is not held it tells the file, the line
+/// and the rule, and of up to 100 of the messages or packets that miss it what was there and what was expected, for
+/// which the recording is read anew; where messages are missing from this it has a property that says so. A fault is
+/// want of memory or the recording's.
+pub fn junit_text<S: Reopen>(
     alloc: Global,
     recording: &S,
     judged: Judged<'_>,
     lost: Lost,
 ) -> Result<Vec<u8>, PassFault>
-    ensures { (file : List ℕ) → S.bytes recording.now ≡ Some file
-        → IfOk result (λ made. made.items
-        ≡ spec.junit judged.entry.text.now judged.entry.rules.now judged.entry.verdicts.now lost (history_of file)) }
+    ensures { (file : List ℕ) → S.bytes recording.now ≡ Some file → IfOk result (λ made. made.items
+        ≡ spec.junit judged.entry.file.now judged.entry.text.now judged.entry.rules.now judged.entry.verdicts.now lost
+        (passed_of judged.entry.origins.now file)) }
 {
     let mut text = Vec::new(alloc);
     put_suite_head(&mut text, judged.verdicts)?;
@@ -225,23 +269,4 @@ fn report_of<S: Reopen>(
     put_cases(&mut text, recording, judged)?;
     text.extend_from_slice(b"</testsuite>\n")?;
     Ok(text)
-}
-
-/// A JUnit file of the verdicts on these rules, which a text spells: a test case a rule, in their order, named by the
-/// line of the rule, which passes where the rule is held. Of a rule that is not held it has up to 100 of the messages
-/// that miss it, for which the recording is read anew; where messages are missing from this it has a property that says
-/// so. A fault is want of memory or the recording's.
-pub fn junit_text<S: Reopen>(
-    alloc: Global,
-    recording: &S,
-    rules_text: &[u8],
-    rules: &[Rule],
-    verdicts: &[RuleVerdict],
-    lost: Lost,
-) -> Result<Vec<u8>, PassFault>
-    ensures { (file : List ℕ) → S.bytes recording.now ≡ Some file → IfOk result (λ made. made.items
-        ≡ spec.junit rules_text.now rules.now verdicts.now lost (history_of file)) }
-{
-    let judged = Judged::of(rules_text, rules, verdicts);
-    report_of(alloc, recording, judged, lost)
 }

@@ -1,8 +1,8 @@
-//! The command `bench judge`: which messages of a recording a rule selects, which of them miss it, and whether it
-//! is held, in passes over the recording.
+//! The command `bench judge`: which messages or packets of a recording a rule selects, which of them miss it, and
+//! whether it is held, in passes over the recording.
 //!
-//! It may know: headers, words, mode codes, messages, bodies, layouts, the reader, the packets of a stream, watched
-//! files, rules, selections, the dump, decoded messages, names of channels, words of a text. Its tests:
+//! It may know: numbers and words of a text, headers, words, mode codes, messages, bodies, layouts, the reader, the
+//! packets of a stream, watched files, rules, selections, the dump, decoded messages, names of channels. Its tests:
 //! `command_tests`, `ch11_stream_tests`. Its wrong bodies: `edits/`.
 #![tactic(auto)]
 
@@ -10,15 +10,18 @@ mod characters;
 mod checks;
 mod clean;
 mod colored;
+mod digits;
 mod escaping;
+mod expected;
 mod fault;
-mod first;
 mod judging;
 mod junit;
+mod kept;
 mod lines;
 mod losses;
 mod names;
 mod numbers;
+mod packets;
 mod pass_fault;
 mod passes;
 mod replies;
@@ -26,15 +29,18 @@ mod selection;
 mod shown;
 mod sought;
 mod tallies;
+mod telling;
+mod there;
+mod told;
 mod verdicts;
 
 pub use colored::write_colored;
 pub use fault::PrintFault;
-pub use first::first_misses;
 pub use judging::judge;
 pub use junit::junit_text;
 pub use losses::{Lost, count_lost};
 pub use pass_fault::PassFault;
-pub use passes::{write_misses, write_verdicts};
+pub use passes::{write_misses, write_packets, write_verdicts};
 pub use selection::selects;
-pub use verdicts::{Miss, RuleVerdict, not_held};
+pub use telling::{tell_messages, tell_packets};
+pub use verdicts::{Judged, Miss, RuleVerdict, not_held};

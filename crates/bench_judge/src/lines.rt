@@ -1,5 +1,5 @@
 //! Verdicts as plain lines, on their way to a writer.
-ghost use Rattle.bench_judge.specs.Lines.{count_lines, last_line, miss_line, rule_line};
+ghost use Rattle.bench_judge.specs.Lines.{count_lines, last_line, miss_line, packet_line, rule_line};
 ghost use Rattle.bench_judge.specs.Tallies.{IsWriting, viewed_on};
 ghost use Rattle.bench_judge.specs.Verdicts as spec;
 ghost use Rattle.bench_select.specs.Viewed.{Viewed};
@@ -38,17 +38,18 @@ fn write_miss<W: Write>(out: &mut W, line: u64, miss: &Miss) -> io::Result<()>
 fn write_message<W: Write>(
     tally: &mut Tally,
     rule: &Rule,
+    origins: &[Option<u64>],
     number: u64,
     channel: u16,
     view: &View<'_>,
     out: &mut W,
 ) -> Result<(), PrintFault>
     ensures { (history : List Viewed) → (got : Option (List ℕ))
-        → IsWriting rule.now got history (W.contents out.old) tally.old → number ≡ length history + 1
-        → OnOk result (IsWriting rule.now got ((channel, view.now) ∷ history)
+        → IsWriting rule.now origins.now got history (W.contents out.old) tally.old → number ≡ length history + 1
+        → OnOk result (IsWriting rule.now origins.now got ((channel, view.now) ∷ history)
         (W.contents out.new) tally.new) }
 {
-    if let Some(miss) = tally.note_miss(rule, number, channel, view)? {
+    if let Some(miss) = tally.note_miss(rule, origins, number, channel, view)? {
         write_miss(out, rule.line, &miss)?;
     }
     Ok(())
@@ -58,14 +59,16 @@ fn write_message<W: Write>(
 pub(crate) fn write_messages<W: Write>(
     tally: &mut Tally,
     rule: &Rule,
+    origins: &[Option<u64>],
     packet: &Packet,
     messages: Messages<'_>,
     out: &mut W,
 ) -> Result<(), PrintFault>
     requires { packet.now.before + length messages < 2 ^ 64 }
     ensures { (history : List Viewed) → (got : Option (List ℕ))
-        → IsWriting rule.now got history (W.contents out.old) tally.old → packet.now.before ≡ length history
-        → OnOk result (IsWriting rule.now got
+        → IsWriting rule.now origins.now got history (W.contents out.old) tally.old
+        → packet.now.before ≡ length history
+        → OnOk result (IsWriting rule.now origins.now got
         (viewed_on (kind_of packet.now.header) packet.now.header.channel messages.entry history)
         (W.contents out.new) tally.new) }
 {
@@ -75,20 +78,29 @@ pub(crate) fn write_messages<W: Write>(
     let mut rest = messages;
     'messages: while let Some(seen) = rest.next() {
         number += 1;
-        write_message(tally, rule, number, channel, &View::of(kind, &seen), out)?;
+        let view = View::of(kind, &seen);
+        write_message(tally, rule, origins, number, channel, &view, out)?;
     }
     Ok(())
+}
+
+/// Writes that a packet misses the rule of a line.
+pub(crate) fn write_packet<W: Write>(out: &mut W, line: u64, packet: &Packet) -> io::Result<()>
+    ensures { OnOk result (Appends (W.contents out.old) (W.contents out.new) (packet_line line packet.now)) }
+{
+    let (offset, channel) = (packet.offset, packet.header.channel);
+    write!(out, "missed {line} packet {offset} channel {channel}\n")
 }
 
 /// Writes that the count of a rule is not met, of which this is the verdict.
 pub(crate) fn write_count<W: Write>(out: &mut W, verdict: &RuleVerdict) -> io::Result<()>
     ensures { OnOk result (Appends (W.contents out.old) (W.contents out.new)
-        (count_lines verdict.now.line verdict.now.selected)) }
+        (count_lines verdict.now.line verdict.now.selected verdict.now.counted)) }
 {
-    let (line, selected) = (verdict.line, verdict.selected);
+    let (line, selected, counted) = (verdict.line, verdict.selected, verdict.counted);
     write!(
         out,
-        "missed {line} count {selected}\nrule {line} selected {selected} missed 1\n"
+        "missed {line} count {counted}\nrule {line} selected {selected} missed 1\n"
     )
 }
 

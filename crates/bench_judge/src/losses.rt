@@ -65,7 +65,7 @@ impl Lost {
 }
 
 /// One packet more where it holds, at most 2^64 - 1.
-fn one_more(count: usize, holds: bool) -> usize
+pub(crate) fn one_more(count: usize, holds: bool) -> usize
     ensures { result ≡ capped (count + (if holds then 1 else 0)) }
 {
     if holds {

@@ -1,42 +1,58 @@
-//! The messages that miss a rule, looked for once more in a recording that is read anew.
-ghost use Rattle.bench_judge.specs.Verdicts.{misses};
-ghost use Rattle.bench_judge.specs.Streaming.{history_of};
-ghost use Rattle.std.specs.Prelude.{◌≡◌, ℕ, List, Some, IfOk, take};
+//! What misses a rule, looked for once more in a recording that is read anew.
+ghost use Rattle.bench_judge.specs.Junit.{told_first};
+ghost use Rattle.bench_judge.specs.Streaming.{passed_of};
+ghost use Rattle.bench_judge.specs.Verdicts.{passed_in};
+ghost use Rattle.ch11_stream.specs.Folding.{FoldsPackets};
+ghost use Rattle.std.specs.Prelude.{◌≡◌, ℕ, List, Some, IfOk};
 
-use crate::first::first_misses;
+use crate::checks::is_whole;
 use crate::pass_fault::PassFault;
-use crate::shown::write_shown;
-use crate::verdicts::Miss;
+use crate::shown::{write_shown, write_shown_packets};
+use crate::telling::{tell_messages, tell_packets};
 use bench_decode::TextLine;
 use bench_names::ChannelNames;
 use bench_watch::Reopen;
+use ch11_stream::{Advance, StreamFault};
 use judge_rules::Rule;
 use std::alloc::Global;
 use std::io::Write;
 
-/// Which messages are looked for: the first that miss a rule, at most as many as that.
+/// What is looked for: the first messages or packets that miss a rule, at most as many as that. The times of the rule
+/// count from these times of day.
 #[derive(Clone, Copy)]
 pub(crate) struct Wanted<'r> {
     pub(crate) alloc: Global,
     pub(crate) rule: &'r Rule,
+    pub(crate) origins: &'r [Option<u64>],
     pub(crate) most: usize,
 }
 
-/// These messages.
-pub(crate) fn find_first<S: Reopen>(
-    recording: &S,
-    wanted: Wanted<'_>,
-) -> Result<Vec<Miss>, PassFault>
-    ensures { (file : List ℕ) → S.bytes recording.now ≡ Some file → IfOk result (λ found.
-        found.items ≡ take wanted.entry.most (misses wanted.entry.rule.now (history_of file))) }
+/// What is told of them.
+pub(crate) fn tell_first<S: Reopen>(recording: &S, wanted: Wanted<'_>) -> Result<Vec<u8>, PassFault>
+    ensures { (file : List ℕ) → S.bytes recording.now ≡ Some file → IfOk result (λ told.
+        told.items ≡ told_first wanted.entry.most wanted.entry.rule.now (passed_of wanted.entry.origins.now file)) }
 {
     match recording.reopen() {
-        Ok(input) => Ok(first_misses(wanted.alloc, input, wanted.rule, wanted.most)?),
+        Ok(input) => Ok(tell_in(input, wanted)?),
         Err(error) => Err(PassFault::Opening(error)),
     }
 }
 
-/// Writes these messages, each on a line as `bench dump --decode` shows it, behind the name of its channel if it has one.
+/// What is told of them, of all bytes that a reader has left.
+fn tell_in<R: Advance + Drop>(input: R, wanted: Wanted<'_>) -> Result<Vec<u8>, StreamFault>
+    ensures { (file : List ℕ) → R.remaining input ≡ Some file
+        → FoldsPackets (λ ps told. told.items ≡ told_first wanted.entry.most wanted.entry.rule.now
+        (passed_in wanted.entry.origins.now ps)) result file }
+{
+    let (alloc, rule, most) = (wanted.alloc, wanted.rule, wanted.most);
+    if is_whole(&rule.check) {
+        return tell_packets(alloc, input, rule, most);
+    }
+    tell_messages(alloc, input, rule, wanted.origins, most)
+}
+
+/// Writes them, each message on a line as `bench dump --decode` shows it, behind the name of its channel if it has one,
+/// and below it what was there and what was expected.
 pub(crate) fn write_first<S: Reopen, W: Write>(
     recording: &S,
     wanted: Wanted<'_>,
@@ -45,7 +61,13 @@ pub(crate) fn write_first<S: Reopen, W: Write>(
     out: &mut W,
 ) -> Result<(), PassFault> {
     match recording.reopen() {
-        Ok(input) => write_shown(line, input, wanted, names, out),
+        Ok(input) => {
+            if is_whole(&wanted.rule.check) {
+                write_shown_packets(input, wanted, out)
+            } else {
+                write_shown(line, input, wanted, names, out)
+            }
+        }
         Err(error) => Err(PassFault::Opening(error)),
     }
 }

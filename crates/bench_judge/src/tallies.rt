@@ -1,43 +1,63 @@
 //! The verdict of a rule while the recording is passed.
 ghost use Rattle.bench_judge.specs.Checks.{meets as spec_meets};
 ghost use Rattle.bench_judge.specs.Clean.{IsKnown};
-ghost use Rattle.bench_judge.specs.Selection.{selects as selects_message};
+ghost use Rattle.bench_judge.specs.Selection.{Origins, selects as selects_message};
 ghost use Rattle.bench_judge.specs.Tallies.{IsLatest, IsMissIf, IsTally, miss_at, misses_next};
+ghost use Rattle.bench_judge.specs.Verdicts.{latest};
 ghost use Rattle.bench_select.specs.Viewed.{Viewed};
-ghost use Rattle.bench_judge.specs.Verdicts.{latest_stamp};
-ghost use Rattle.std.specs.Prelude.{◌≡◌, ◌+◌, ◌∷◌, ◌<◌, ◌≤◌, ◌^◌, [], true, List, length, OnOk, IfOk};
+ghost use Rattle.std.specs.Prelude.{◌≡◌, ◌+◌, ◌∷◌, ◌<◌, ◌^◌, [], true, List, length, OnOk, IfOk, if◌then◌else◌};
 
-use crate::checks::{follows_in, meets, period_of};
+use crate::checks::{compared, is_counted, meets};
+use crate::kept::Kept;
 use crate::selection::selects;
 use crate::verdicts::Miss;
 use ch11_layout::View;
 use judge_rules::{Check, Rule};
 use std::alloc::{AllocError, Global};
-use std::collections::HashMap;
 
-/// How many messages a rule selects so far, how many of them miss it, and for a rule of a period the stamp of the
-/// newest selected message of each channel.
+/// How many messages a rule selects so far, how many of them it counts and how many miss it, and what it compares with
+/// the next message of each channel.
 #[derive(Drop)]
 pub(crate) struct Tally {
     pub(crate) selected: u64,
+    pub(crate) counted: u64,
     pub(crate) missed: u64,
-    pub(crate) latest: HashMap<u16, u64>,
+    pub(crate) latest: Kept,
+}
+
+/// One message more where it is counted, at most 2^64 - 1.
+fn one_if(count: u64, holds: bool) -> u64
+    ensures { count + 1 < 2 ^ 64 → result ≡ count + (if holds then 1 else 0) }
+{
+    if holds {
+        count.saturating_add(1)
+    } else {
+        count
+    }
 }
 
 impl Tally {
     /// Nothing was selected yet.
     pub(crate) fn new(alloc: Global) -> Tally
-        ensures { (rule : Rule) → IsTally rule [] result }
+        ensures { (rule : Rule) → (origins : Origins) → IsTally rule origins [] result }
     {
         Tally {
             selected: 0,
+            counted: 0,
             missed: 0,
-            latest: HashMap::new(alloc),
+            latest: Kept::none(alloc),
         }
     }
 
-    /// Whether a selected message meets a check. For a check of a period its stamp is the newest of its channel from
-    /// now on.
+    /// What is compared with the next message of a channel, if there is anything.
+    pub(crate) fn before(&self, channel: u16) -> Option<u64>
+        ensures { (rule : Rule) → (origins : Origins) → (history : List Viewed)
+            → IsLatest rule origins history self.now → result ≡ latest rule origins channel history }
+    {
+        self.latest.at(channel)
+    }
+
+    /// Whether a selected message meets a check. What it has is compared with the next one of its channel from now on.
     fn meets(
         &mut self,
         check: &Check,
@@ -48,20 +68,45 @@ impl Tally {
         requires { IsKnown known.old view.now }
         ensures known { IsKnown known.new view.now }
         ensures selected { self.new.selected ≡ self.old.selected }
+        ensures counted { self.new.counted ≡ self.old.counted }
         ensures missed { self.new.missed ≡ self.old.missed }
-        ensures met { (rule : Rule) → (history : List Viewed) → rule.check ≡ check.now → IsLatest rule history self.old
+        ensures met { (rule : Rule) → (origins : Origins) → (history : List Viewed) → rule.check ≡ check.now
+            → IsLatest rule origins history self.old
             → IfOk result (λ met. met
-            ≡ spec_meets check.now (latest_stamp rule channel history) view.now) }
-        ensures latest { (rule : Rule) → (history : List Viewed) → rule.check ≡ check.now
-            → selects_message rule channel view.now ≡ true → IsLatest rule history self.old
-            → OnOk result (IsLatest rule ((channel, view.now) ∷ history) self.new) }
+            ≡ spec_meets check.now (latest rule origins channel history) view.now) }
+        ensures latest { (rule : Rule) → (origins : Origins) → (history : List Viewed) → rule.check ≡ check.now
+            → selects_message rule origins channel view.now ≡ true → IsLatest rule origins history self.old
+            → OnOk result (IsLatest rule origins ((channel, view.now) ∷ history) self.new) }
     {
-        match period_of(check) {
-            Some(bounds) => {
-                let before = self.latest.insert(channel, view.stamp())?;
-                Ok(view.has_time() && follows_in(&bounds, before, view.stamp()))
+        let before = self.renew(check, channel, view)?;
+        Ok(meets(check, before, view, known))
+    }
+
+    /// What a selected message is compared with, if it is compared with anything. What it has is compared with the next
+    /// one of its channel from now on.
+    fn renew(
+        &mut self,
+        check: &Check,
+        channel: u16,
+        view: &View<'_>,
+    ) -> Result<Option<u64>, AllocError>
+        ensures selected { self.new.selected ≡ self.old.selected }
+        ensures counted { self.new.counted ≡ self.old.counted }
+        ensures missed { self.new.missed ≡ self.old.missed }
+        ensures before { (rule : Rule) → (origins : Origins) → (history : List Viewed) → rule.check ≡ check.now
+            → IsLatest rule origins history self.old
+            → IfOk result (λ before. spec_meets check.now before view.now
+            ≡ spec_meets check.now (latest rule origins channel history) view.now) }
+        ensures latest { (rule : Rule) → (origins : Origins) → (history : List Viewed) → rule.check ≡ check.now
+            → selects_message rule origins channel view.now ≡ true → IsLatest rule origins history self.old
+            → OnOk result (IsLatest rule origins ((channel, view.now) ∷ history) self.new) }
+    {
+        match compared(check, view) {
+            Some(value) => {
+                let before = self.latest.put(channel, value)?;
+                Ok(before)
             }
-            None => Ok(meets(check, None, view, known)),
+            None => Ok(None),
         }
     }
 
@@ -69,46 +114,48 @@ impl Tally {
     pub(crate) fn note(
         &mut self,
         rule: &Rule,
+        origins: &[Option<u64>],
         channel: u16,
         view: &View<'_>,
         known: &mut Option<bool>,
     ) -> Result<bool, AllocError>
         requires { IsKnown known.old view.now }
         ensures known { IsKnown known.new view.now }
-        ensures told { (history : List Viewed) → IsTally rule.now history self.old
-            → IfOk result (λ told. told ≡ misses_next rule.now history (channel, view.now)) }
-        ensures noted { (history : List Viewed) → IsTally rule.now history self.old → length history + 1 < 2 ^ 64
-            → OnOk result (IsTally rule.now ((channel, view.now) ∷ history) self.new) }
+        ensures told { (history : List Viewed) → IsTally rule.now origins.now history self.old
+            → IfOk result (λ told. told ≡ misses_next rule.now origins.now history (channel, view.now)) }
+        ensures noted { (history : List Viewed) → IsTally rule.now origins.now history self.old
+            → length history + 1 < 2 ^ 64
+            → OnOk result (IsTally rule.now origins.now ((channel, view.now) ∷ history) self.new) }
     {
-        if !selects(rule, channel, view) {
+        if !selects(rule, origins, channel, view) {
             return Ok(false);
         }
         let met = self.meets(&rule.check, channel, view, known)?;
-        self.selected = self.selected.saturating_add(1);
-        if met {
-            return Ok(false);
-        }
-        self.missed = self.missed.saturating_add(1);
-        Ok(true)
+        self.selected = one_if(self.selected, true);
+        self.counted = one_if(self.counted, is_counted(&rule.check, view, known));
+        self.missed = one_if(self.missed, !met);
+        Ok(!met)
     }
 
     /// One more message of a channel, of this number in the file. Answers it if it misses the rule.
     pub(crate) fn note_miss(
         &mut self,
         rule: &Rule,
+        origins: &[Option<u64>],
         number: u64,
         channel: u16,
         view: &View<'_>,
     ) -> Result<Option<Miss>, AllocError>
-        ensures told { (history : List Viewed) → IsTally rule.now history self.old
-            → IfOk result (IsMissIf (misses_next rule.now history (channel, view.now))
+        ensures told { (history : List Viewed) → IsTally rule.now origins.now history self.old
+            → IfOk result (IsMissIf (misses_next rule.now origins.now history (channel, view.now))
             (miss_at number (channel, view.now))) }
-        ensures noted { (history : List Viewed) → IsTally rule.now history self.old → length history + 1 < 2 ^ 64
-            → OnOk result (IsTally rule.now ((channel, view.now) ∷ history) self.new) }
+        ensures noted { (history : List Viewed) → IsTally rule.now origins.now history self.old
+            → length history + 1 < 2 ^ 64
+            → OnOk result (IsTally rule.now origins.now ((channel, view.now) ∷ history) self.new) }
     {
         let mut known = None;
         let stamp = view.time();
-        if self.note(rule, channel, view, &mut known)? {
+        if self.note(rule, origins, channel, view, &mut known)? {
             return Ok(Some(Miss {
                 number,
                 channel,

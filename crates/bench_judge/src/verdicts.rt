@@ -21,51 +21,47 @@ pub struct Miss {
 pub struct RuleVerdict {
     /// The line of the rule.
     pub line: u64,
-    /// How many messages it selects.
+    /// How many messages it selects, or packets where it is about these.
     pub selected: u64,
+    /// How many of them it counts: all of them, or those of a kind; none where it asks for no count.
+    pub counted: u64,
     /// How many of them miss it.
     pub missed: u64,
     /// Whether it asks for another count of messages.
     pub miscounted: bool,
-    /// Whether it is held: no selected message misses it, a count is met, and any other rule selects a message at
-    /// least.
+    /// Whether it is held: nothing that it selects misses it, a count is met, and any other rule selects a message or a
+    /// packet at least.
     pub held: bool,
 }
 
-/// Rules that a text spells, with the verdict on each.
+/// Rules that the text of a file spells, with the verdict on each.
 #[derive(Clone, Copy)]
-pub(crate) struct Judged<'j> {
-    pub(crate) text: &'j [u8],
-    pub(crate) rules: &'j [Rule],
-    pub(crate) verdicts: &'j [RuleVerdict],
+pub struct Judged<'j> {
+    /// The name of the file.
+    pub file: &'j [u8],
+    /// The text.
+    pub text: &'j [u8],
+    /// The rules that it spells.
+    pub rules: &'j [Rule],
+    /// The first time of day of each channel of the recording, as `bench_select::read_stamps` finds them.
+    pub origins: &'j [Option<u64>],
+    /// The verdict on each rule.
+    pub verdicts: &'j [RuleVerdict],
 }
 
-impl<'j> Judged<'j> {
-    /// These rules, which this text spells, with these verdicts.
-    pub(crate) fn of(text: &'j [u8], rules: &'j [Rule], verdicts: &'j [RuleVerdict]) -> Judged<'j>
-        ensures text { result.text.now ≡ text.now }
-        ensures rules { result.rules.now ≡ rules.now }
-        ensures verdicts { result.verdicts.now ≡ verdicts.now }
-    {
-        Judged {
-            text,
-            rules,
-            verdicts,
-        }
-    }
-}
-
-/// The verdict of a rule that selects so many messages, of which so many miss it.
-pub(crate) fn verdict_of(rule: &Rule, selected: u64, missed: u64) -> RuleVerdict
-    ensures { spec.IsVerdictWith rule.now selected missed result }
+/// The verdict of a rule that selects so many messages or packets, counts so many of them, and of which so many miss
+/// it.
+pub(crate) fn verdict_of(rule: &Rule, selected: u64, counted: u64, missed: u64) -> RuleVerdict
+    ensures { spec.IsVerdictWith rule.now selected counted missed result }
 {
-    let counted = counts(&rule.check, selected);
-    let held = missed == 0 && counted && (is_count(&rule.check) || selected > 0);
+    let met = counts(&rule.check, counted);
+    let held = missed == 0 && met && (is_count(&rule.check) || selected > 0);
     RuleVerdict {
         line: rule.line,
         selected,
+        counted,
         missed,
-        miscounted: !counted,
+        miscounted: !met,
         held,
     }
 }

@@ -9,7 +9,7 @@ invariant-rules g l = record {
   text : l.names.text.now ≡ l.judged.text.now;
   left : AreLeft l.names;
   many : length l.judged.rules.now ≡ length l.judged.verdicts.now → length l.rules ≡ length l.verdicts;
-  shown : IsShowing l.judged.text.now l.judged.verdicts.now l.verdicts (g.W.Write.contents l.fn.out) (g.W.Write.contents l.out);
+  shown : IsShowing l.judged.text.now l.judged.rules.now l.judged.verdicts.now l.rules l.verdicts (g.W.Write.contents l.fn.out) (g.W.Write.contents l.out);
 }
 
 abbrev pub decreases-rules : goal.decreases-rules

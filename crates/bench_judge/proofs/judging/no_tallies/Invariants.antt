@@ -1,4 +1,6 @@
-use Rattle.std.proofs.Common.{◌≡◌, length}
+use Rattle.std.proofs.Common.{◌≡◌, [], length}
+use Rattle.bench_judge.specs.Selection.{Origins}
+use Rattle.bench_judge.specs.Tallies.{IsTally}
 use Rattle.bench_judge.proofs.Whole.{AreNew}
 use Rattle.bench_judge.proofs.judging.no_tallies.Given as goal
 
@@ -6,5 +8,5 @@ use Rattle.bench_judge.proofs.judging.no_tallies.Given as goal
 abbrev pub invariant-rules : goal.invariant-rules
 invariant-rules l = record {
   many : length l.tallies.items ≡ l._rule-index;
-  new : AreNew l.tallies.items;
+  new : (origins : Origins) → AreNew (λ rule. IsTally rule origins []) l.tallies.items;
 }

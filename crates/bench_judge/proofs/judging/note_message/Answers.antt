@@ -1,13 +1,19 @@
-use Rattle.std.proofs.Common.{◌≡◌, ◌<◌, ◌∙◌, length, ap, sym, arith}
+use Rattle.std.proofs.Common.{◌≡◌, ◌<◌, ◌∙◌, ◌∷◌, length, ap, sym, arith}
 use Rattle.std.specs.Prelude.{Some, slice_get}
 use Rattle.std.proofs.Math.ListN.{length-set}
 use Rattle.std.proofs.lemmas.Option.{slice_get-get_or}
 use Rattle.judge_rules.specs.declared.rules.Rule.{Rule}
+use Rattle.bench_judge.specs.Tallies.{IsTally}
 use Rattle.bench_judge.proofs.Passing.{noting-none, noting-more, noting-all}
 use Rattle.bench_judge.proofs.judging.note_message.Goals as goal
 
 pub rules-init : goal.rules-init
-rules-init c = record { known = tt; many = c.requires; noting = λ history are small. noting-none _ _ history _ are }
+rules-init c = record {
+  known = tt;
+  many = c.requires;
+  noting = λ history are small.
+      noting-none (λ rule. IsTally rule c.args.origins.now history) (λ rule. IsTally rule c.args.origins.now ((c.args.channel, c.args.view.now) ∷ history)) _ _ are.many are.each;
+}
 
 pub rules-preserved : goal.rules-preserved
 rules-preserved c =
@@ -19,9 +25,13 @@ rules-preserved c =
       known = c.note.ensures.known;
       many = length-set c.rules.tallies c.rules.place c.note.new.self ∙ c.rules.invariant.many;
       noting = λ history are small.
-          noting-more _ _ history _ c.rules.place c.index-rules-place.result c.note.new.self (c.rules.invariant.noting history are small) asked
-          (c.in_ok-note.ensures.noted history ((c.rules.invariant.noting history are small).rest c.rules.place c.index-rules-place.result _ (omega arith) asked (slice_get-get_or c.rules.tallies c.rules.place _ inside)) small);
+          let noting = c.rules.invariant.noting history are small in
+          noting-more (λ rule. IsTally rule c.args.origins.now history) (λ rule. IsTally rule c.args.origins.now ((c.args.channel, c.args.view.now) ∷ history)) _ _ c.rules.place c.index-rules-place.result c.note.new.self noting asked
+          (c.in_ok-note.ensures.noted history (noting.rest c.rules.place c.index-rules-place.result _ (omega arith) asked (slice_get-get_or c.rules.tallies c.rules.place _ inside)) small);
     }
 
 pub returns : goal.returns
-returns c = λ history are small. noting-all _ _ history _ c.rules.place (omega arith) (c.rules.invariant.noting history are small)
+returns c = λ history are small. record {
+  many = c.rules.invariant.many;
+  each = noting-all (λ rule. IsTally rule c.args.origins.now history) (λ rule. IsTally rule c.args.origins.now ((c.args.channel, c.args.view.now) ∷ history)) _ _ c.rules.place (omega arith) (c.rules.invariant.noting history are small);
+}

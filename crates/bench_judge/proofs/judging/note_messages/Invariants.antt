@@ -8,8 +8,8 @@ use Rattle.bench_judge.proofs.judging.note_messages.Given as goal
 abbrev pub invariant-messages : goal.invariant-messages
 invariant-messages l = record {
   many : length l.tallies ≡ length l.rules;
-  passing : (history : List Viewed) → AreTallies l.rules history l.fn.tallies → length history + length l.fn.messages < 2 ^ 64
-      → IsPassing (λ hs. AreTallies l.rules hs l.tallies) l.kind l.channel l.fn.messages l.rest history;
+  passing : (history : List Viewed) → AreTallies l.rules l.origins history l.fn.tallies → length history + length l.fn.messages < 2 ^ 64
+      → IsPassing (λ hs. AreTallies l.rules l.origins hs l.tallies) l.kind l.channel l.fn.messages l.rest history;
 }
 
 abbrev pub decreases-messages : goal.decreases-messages

@@ -1,32 +1,29 @@
-use Rattle.std.proofs.Common.{◌≡◌, ◌<◌, ◌∙◌, List, ap, sym, subst, arith, length}
+use Rattle.std.proofs.Common.{◌≡◌, ◌+◌, ◌<◌, ◌∙◌, List, ap, sym, subst, arith, length}
 use Rattle.std.specs.Prelude.{Some, slice_get}
-use Rattle.std.specs.Vec.Iter.{into_iter_items}
 use Rattle.std.proofs.lemmas.Option.{slice_get-get_or}
-use Rattle.std.proofs.lemmas.List.{nil_from_length}
-use Rattle.std.proofs.lemmas.Grind.{common_steps}
 use Rattle.judge_rules.specs.declared.rules.Rule.{Rule}
+use Rattle.bench_judge.specs.declared.packets.PacketTally.{PacketTally}
+use Rattle.bench_judge.specs.declared.tallies.Tally.{Tally}
 use Rattle.bench_judge.specs.declared.verdicts.RuleVerdict.{RuleVerdict}
-use Rattle.bench_judge.proofs.Whole.{IsJudging, judging-none, judging-more, judging-within, judging-all}
+use Rattle.bench_judge.proofs.Whole.{IsJudging, judging-none, judging-more, judging-all, verdict_on}
 use Rattle.bench_judge.proofs.judging.verdicts_of.Goals as goal
 
-pub tallies-init : goal.tallies-init
-tallies-init c = rw (c.into_iter-rest.ensures.rest, c.in_ok-verdicts.ensures.items) (judging-none _ _)
+pub rules-init : goal.rules-init
+rules-init c = λ p are wholes. rw c.in_ok-verdicts.ensures.items (judging-none _ p)
 
-pub bounds-rules-place : goal.bounds-rules-place
-bounds-rules-place c =
-    let w : length c.tallies.verdicts.items < length c.args.rules.now = judging-within _ _ _ _ _ _ c.tallies.invariant c.requires c.in-Some.ensures.items in
-    omega (arith, w, c.len-place.ensures)
-
-pub tallies-preserved : goal.tallies-preserved
-tallies-preserved c =
-    let w : length c.tallies.verdicts.items < length c.args.rules.now = judging-within _ _ _ _ _ _ c.tallies.invariant c.requires c.in-Some.ensures.items in
-    let same : c.len-place.result ≡ length c.tallies.verdicts.items = omega (arith, c.len-place.ensures) in
-    let there : slice_get c.args.rules.now c.len-place.result ≡ Some c.index-rules-place.result =
-    slice_get-get_or c.args.rules.now c.len-place.result c.index-rules-place.result (omega (arith, w, same)) ∙ ap (λ (r : Rule). Some r) (sym c.index-rules-place.is) in
-    let asked : slice_get c.args.rules.now (length c.tallies.verdicts.items) ≡ Some c.index-rules-place.result = ap (slice_get c.args.rules.now) (sym same) ∙ there in
-    subst (λ (vs : List RuleVerdict). IsJudging c.args.rules.now c.args.tallies.items (into_iter_items c.next.new.self) vs) (sym c.in_ok-push.ensures.items)
-    (judging-more c.args.rules.now c.args.tallies.items (into_iter_items c.tallies.rest) (into_iter_items c.next.new.self) c.in-Some.tally c.tallies.verdicts.items c.index-rules-place.result c.verdict_of.result
-    c.tallies.invariant c.in-Some.ensures.items asked c.verdict_of.ensures)
+pub rules-preserved : goal.rules-preserved
+rules-preserved c = λ p are wholes.
+    let within : c.rules.place < length c.args.rules.now = omega arith in
+    let asked : slice_get c.args.rules.now c.rules.place ≡ Some c.index-rules-place.result =
+    slice_get-get_or c.args.rules.now c.rules.place c.index-rules-place.result within ∙ ap (λ (r : Rule). Some r) (sym c.index-rules-place.is) in
+    let counted : slice_get c.args.tallies.items c.rules.place ≡ Some c.index.result.now =
+    slice_get-get_or c.args.tallies.items c.rules.place c.index.result.now (omega (arith, c.requires.messages, within)) ∙ ap (λ (t : Tally). Some t) (sym c.index.ensures) in
+    let listed : slice_get c.args.wholes.items c.rules.place ≡ Some c.index-in-rules.result.now =
+    slice_get-get_or c.args.wholes.items c.rules.place c.index-in-rules.result.now (omega (arith, c.requires.packets, within)) ∙ ap (λ (t : PacketTally). Some t) (sym c.index-in-rules.ensures) in
+    let messages = are.each c.rules.place c.index-rules-place.result c.index.result.now asked counted in
+    let packets = wholes.each c.rules.place c.index-rules-place.result c.index-in-rules.result.now asked listed in
+    subst (λ (vs : List RuleVerdict). IsJudging c.args.rules.now p vs (c.rules.place + 1)) (sym c.in_ok-push.ensures.items)
+    (judging-more c.args.rules.now p c.rules.verdicts.items c.rules.place c.index-rules-place.result c.verdict_with.result (c.rules.invariant p are wholes) asked (verdict_on c.index-rules-place.result p c.index.result.now c.index-in-rules.result.now c.verdict_with.result messages packets c.verdict_with.ensures))
 
 pub returns : goal.returns
-returns c = λ history are. judging-all _ _ _ _ history c.tallies.invariant (nil_from_length (into_iter_items c.tallies.rest) (grind (arith, common_steps))) are
+returns c = λ p are wholes. judging-all _ p _ _ (omega (arith, c.rules-test.false)) (c.rules.invariant p are wholes)

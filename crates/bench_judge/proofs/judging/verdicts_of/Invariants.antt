@@ -1,10 +1,9 @@
-use Rattle.std.specs.Vec.Iter.{into_iter_items, into_iter_len}
+use Rattle.bench_judge.specs.Packets.{ArePacketTallies}
+use Rattle.bench_judge.specs.Tallies.{AreTallies}
+use Rattle.bench_judge.specs.Verdicts.{Passed}
 use Rattle.bench_judge.proofs.Whole.{IsJudging}
 use Rattle.bench_judge.proofs.judging.verdicts_of.Given as goal
 
--- the tallies so far have their verdicts
-abbrev pub invariant-tallies : goal.invariant-tallies
-invariant-tallies l = IsJudging l.rules l.fn.tallies.items (into_iter_items l.rest) l.verdicts.items
-
-abbrev pub decreases-tallies : goal.decreases-tallies
-decreases-tallies l = into_iter_len l.rest
+-- the rules so far have their verdicts
+abbrev pub invariant-rules : goal.invariant-rules
+invariant-rules l = (p : Passed) → AreTallies l.rules p.origins p.messages l.tallies.items → ArePacketTallies l.rules p.packets l.wholes.items → IsJudging l.rules p l.verdicts.items l.place

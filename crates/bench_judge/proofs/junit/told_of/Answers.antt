@@ -5,4 +5,4 @@ use Rattle.bench_judge.proofs.junit.told_of.Goals as goal
 pub returns : goal.returns
 returns g c = λ file known.
     let some : c.args.verdict.now.missed ≡ 0 → ⊥ = λ (none : c.args.verdict.now.missed ≡ 0). absurd (omega arith) in
-    rw (ne_eqb c.args.verdict.now.missed 0 some) (c.find_first.ensures file known)
+    rw (ne_eqb c.args.verdict.now.missed 0 some) (c.tell_first.ensures file known)

@@ -9,8 +9,8 @@ use Rattle.bench_judge.proofs.lines.write_messages.Given as goal
 abbrev pub invariant-messages : goal.invariant-messages
 invariant-messages g l = record {
   counted : l.number + length l.rest ≡ l.fn.packet.before + length l.fn.messages;
-  passing : (history : List Viewed) → (got : Option (List ℕ)) → IsWriting l.rule got history (g.W.Write.contents l.fn.out) l.fn.tally → l.fn.packet.before ≡ length history
-      → IsPassing (λ hs. IsWriting l.rule got hs (g.W.Write.contents l.out) l.tally) l.kind l.channel l.fn.messages l.rest history;
+  passing : (history : List Viewed) → (got : Option (List ℕ)) → IsWriting l.rule l.origins got history (g.W.Write.contents l.fn.out) l.fn.tally → l.fn.packet.before ≡ length history
+      → IsPassing (λ hs. IsWriting l.rule l.origins got hs (g.W.Write.contents l.out) l.tally) l.kind l.channel l.fn.messages l.rest history;
 }
 
 abbrev pub decreases-messages : goal.decreases-messages

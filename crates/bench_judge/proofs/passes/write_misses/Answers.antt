@@ -15,7 +15,7 @@ use Rattle.bench_judge.proofs.passes.write_misses.Goals as goal
 pub packets-init : goal.packets-init
 packets-init g c = record {
   known = λ file is. rw (c.in_ok-packets.ensures, is) (amid_start file);
-  written = rw c.in_ok-packets.ensures (writing-none c.args.rule.now (g.W.Write.contents c.args.out.now) _ (c.new-tally.ensures c.args.rule.now));
+  written = rw c.in_ok-packets.ensures (writing-none c.args.rule.now c.args.origins.now (g.W.Write.contents c.args.out.now) _ (c.new-tally.ensures c.args.rule.now c.args.origins.now));
 }
 
 pub packets-preserved : goal.packets-preserved
@@ -27,10 +27,10 @@ packets-preserved g c =
     let got = g.W.Write.contents c.args.out.now in
     let front : p.before ≡ total_in earlier = ap (λ (x : Packet). x.before) s.listed in
     let behind : p.before ≡ length (heard_so_far earlier) = front ∙ sym (heard_count earlier) in
-    let written = rw c.messages.ensures at c.in_ok-write_messages-in-Ok-Some.ensures (heard_so_far earlier) got c.packets.invariant.written behind in
+    let written = rw c.messages-messages.ensures at c.in_ok-write_messages-in-Ok-Some.ensures (heard_so_far earlier) got c.packets.invariant.written behind in
     record {
       known = λ file is. amid_on file c.packets.packets now p s (c.packets.invariant.known file is);
-      written = subst (λ (hs : List Viewed). IsWriting c.args.rule.now got hs (g.W.Write.contents c.write_messages.new.out) c.write_messages.new.tally) (heard_more (last_found now p) earlier ∙ ap heard_so_far (sym s.entered)) written;
+      written = subst (λ (hs : List Viewed). IsWriting c.args.rule.now c.args.origins.now got hs (g.W.Write.contents c.write_messages.new.out) c.write_messages.new.tally) (heard_more (last_found now p) earlier ∙ ap heard_so_far (sym s.entered)) written;
     }
 
 pub returns-in-Ok-None : goal.returns-in-Ok-None
@@ -38,7 +38,7 @@ returns-in-Ok-None g c file is =
     let e = rw c.in-Ok-None.field-0-is at c.in-Ok-None.ensures in
     let all = all_found file c.packets.packets c.next.new.self e (c.packets.invariant.known file is) in (
       all.0,
-      subst (λ (ps : List Found). Appends (g.W.Write.contents c.args.out.now) (g.W.Write.contents c.packets.out) (miss_lines c.args.rule.now (reverse (viewed_in ps)))) all.1 c.packets.invariant.written.written,
+      subst (λ (ps : List Found). Appends (g.W.Write.contents c.args.out.now) (g.W.Write.contents c.packets.out) (miss_lines c.args.rule.now c.args.origins.now (reverse (viewed_in ps)))) all.1 c.packets.invariant.written.written,
     )
 
 pub returns-in-Err : goal.returns-in-Err

@@ -8,5 +8,5 @@ use Rattle.bench_judge.proofs.passes.write_misses.Given as goal
 abbrev pub invariant-packets : goal.invariant-packets
 invariant-packets g l = record {
   known : (file : List ℕ) → g.R.Read.remaining l.fn.input ≡ Some file → IsAmid file l.packets;
-  written : IsWriting l.rule (g.W.Write.contents l.fn.out) (heard_so_far l.packets.earlier) (g.W.Write.contents l.out) l.tally;
+  written : IsWriting l.rule l.origins (g.W.Write.contents l.fn.out) (heard_so_far l.packets.earlier) (g.W.Write.contents l.out) l.tally;
 }

@@ -1,0 +1,34 @@
+use Rattle.std.proofs.Common.{◌≡◌, ◌<◌, ◌∙◌, ◌++◌, ◌∷◌, [], length, ap, sym, arith}
+use Rattle.std.specs.Prelude.{Some, slice_get}
+use Rattle.std.proofs.Math.ListN.{length-set}
+use Rattle.std.proofs.lemmas.Option.{slice_get-get_or}
+use Rattle.judge_rules.specs.declared.rules.Rule.{Rule}
+use Rattle.bench_judge.specs.Packets.{IsPacketTally}
+use Rattle.bench_judge.proofs.Passing.{noting-none, noting-more, noting-all}
+use Rattle.bench_judge.proofs.packets.note_packet.Goals as goal
+
+pub rules-init : goal.rules-init
+rules-init c = record {
+  many = c.requires;
+  noting = λ packets few are. noting-none (λ rule. IsPacketTally rule packets) (λ rule. IsPacketTally rule (packets ++ c.args.packet.now ∷ [])) _ _ are.many are.each;
+}
+
+pub rules-preserved : goal.rules-preserved
+rules-preserved c =
+    let within : c.rules.place < length c.args.rules.now = omega arith in
+    let inside : c.rules.place < length c.rules.tallies = omega (arith, c.rules.invariant.many, within) in
+    let asked : slice_get c.args.rules.now c.rules.place ≡ Some c.index-rules-place.result =
+    slice_get-get_or c.args.rules.now c.rules.place c.index-rules-place.result within ∙ ap (λ (r : Rule). Some r) (sym c.index-rules-place.is) in
+    record {
+      many = length-set c.rules.tallies c.rules.place c.note.new.self ∙ c.rules.invariant.many;
+      noting = λ packets few are.
+          let noting = c.rules.invariant.noting packets few are in
+          noting-more (λ rule. IsPacketTally rule packets) (λ rule. IsPacketTally rule (packets ++ c.args.packet.now ∷ [])) _ _ c.rules.place c.index-rules-place.result c.note.new.self noting asked
+          (c.note.ensures packets few (noting.rest c.rules.place c.index-rules-place.result _ (omega arith) asked (slice_get-get_or c.rules.tallies c.rules.place _ inside)));
+    }
+
+pub returns : goal.returns
+returns c = λ packets few are. record {
+  many = c.rules.invariant.many;
+  each = noting-all (λ rule. IsPacketTally rule packets) (λ rule. IsPacketTally rule (packets ++ c.args.packet.now ∷ [])) _ _ c.rules.place (omega arith) (c.rules.invariant.noting packets few are);
+}
