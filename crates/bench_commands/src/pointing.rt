@@ -187,7 +187,9 @@ fn job_lines<R: AllocGlobal>(
         return Ok(Some(lines));
     }
     match error {
-        JobError::Assembly { line, .. } | JobError::Loading { line, .. } => {
+        JobError::Assembly { line, .. }
+        | JobError::Loading { line, .. }
+        | JobError::Inserts { line } => {
             let fault = format!(in rt.alloc(); "{error}")?;
             line_lines(rt, name, text, *line, fault.as_str())
         }

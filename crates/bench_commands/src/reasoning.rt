@@ -34,7 +34,10 @@ pub(crate) fn reason_of_job(
         JobError::Script { cause, place } => {
             job_script_reason(alloc, text, script_fault(*cause), place_of(*place))
         }
-        JobError::Assembly { .. } | JobError::Loading { .. } | JobError::Memory => Ok(None),
+        JobError::Assembly { .. }
+        | JobError::Loading { .. }
+        | JobError::Inserts { .. }
+        | JobError::Memory => Ok(None),
     }
 }
 

@@ -3,7 +3,7 @@
 use crate::explanation::Explanation;
 
 /// Each code of them, in order.
-pub(crate) static EXPLANATIONS: [Explanation; 14] = [
+pub(crate) static EXPLANATIONS: [Explanation; 15] = [
     Explanation {
         code: "J1",
         means: "an unknown word in a job, or one that is missing or left over",
@@ -55,9 +55,16 @@ pub(crate) static EXPLANATIONS: [Explanation; 14] = [
         example: "bench: memory",
     },
     Explanation {
+        code: "J9",
+        means: "the messages that a job has inserted and those that its script sends at worst are more than 1000000",
+        remedy: "Insert fewer messages, or shorten the loops of the script.",
+        example: "at 1 bc insert A mode 5 1 above a script of 1000000 messages",
+    },
+    Explanation {
         code: "H1",
         means: "a word of a host action that cannot stand there, is missing or is left over",
-        remedy: "Compare it with the list of actions in docs/formats.md.",
+        remedy: "Compare it with the list of actions in docs/formats.md; a message is written as behind send in a \
+            script.",
         example: "at 1 5 busy maybe",
     },
     Explanation {

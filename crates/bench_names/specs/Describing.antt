@@ -26,6 +26,7 @@ data_type place Messages = numbered (codes "R-1\\CDT-") place (codes "1553IN")
 data_type place Times = numbered (codes "R-1\\CDT-") place (codes "TIMEIN")
 data_type place Others = []
 
+-- what a channel of a number is called, behind the name of an attribute
 unfoldable pub called : List ℕ → List ℕ
 called number = codes ":Channel " ++ (number ++ codes ";\n")
 

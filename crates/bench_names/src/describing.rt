@@ -27,7 +27,7 @@ pub struct Described {
 
 /// The text of a setup record of these channels: program and recorder, how many channels there are, and of each, by its
 /// place in the list from 1, its number, that it is enabled, its name, `Channel N`, and the type of its data where this
-/// is known: attributes of IRIG 106-17 Chapter 9, each on a line. At most 88 bytes a channel, and 98 besides.
+/// is known: attributes of IRIG 106-17 Chapter 9, each on a line. At most 89 bytes a channel, and 75 besides.
 #[tactic(auto, unfolding(crate::specs::Describing::setup_text))]
 pub fn setup_text(alloc: Global, channels: &[Described]) -> Result<Vec<u8>, AllocError>
     ensures { IfOk result (λ text. text.items ≡ spec.setup_text channels.now) }
@@ -92,12 +92,12 @@ fn put_name(text: &mut Vec<u8>, place: u64, number: u64) -> Result<(), AllocErro
     let (mut first, mut second) = (Buffer::new(), Buffer::new());
     text.extend_from_slice(b"R-1\\DSI-")?;
     text.extend_from_slice(first.format(place).as_bytes())?;
-    put_attribute_of_channel(text, second.format(number).as_bytes())
+    put_called(text, second.format(number).as_bytes())
 }
 
-/// Appends the rest of a name.
+/// Appends what a channel of this number is called, behind the name of an attribute.
 #[tactic(auto, unfolding(crate::specs::Describing::called))]
-fn put_attribute_of_channel(text: &mut Vec<u8>, number: &[u8]) -> Result<(), AllocError>
+fn put_called(text: &mut Vec<u8>, number: &[u8]) -> Result<(), AllocError>
     ensures { OnOk result (text.new.items ≡ text.old.items ++ spec.called number.now) }
 {
     text.extend_from_slice(b":Channel ")?;

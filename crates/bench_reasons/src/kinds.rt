@@ -1,6 +1,7 @@
 //! The kinds of words that stand in scripts, jobs and rules: which words are of a kind, and how that is said.
 ghost use Rattle.std.specs.Prelude.{◌≤◌};
 
+use judge_rules::read_time;
 use numerals::spelled;
 
 /// A kind of word.
@@ -90,6 +91,41 @@ pub enum Kind {
     Microseconds,
     /// The least or the greatest number of messages.
     MessageCount,
+    /// A time with its unit.
+    RuleTime,
+    /// Which of the data words of a message.
+    DataPlace,
+    /// The least or the greatest value of a data word.
+    WordValue,
+    /// The name of a kind of messages that are counted.
+    Counted,
+}
+
+/// The names of the kinds of messages that are counted.
+const COUNTED: [&str; 11] = [
+    "ok",
+    "fail",
+    "clean",
+    "silent",
+    "message_error",
+    "terminal_to_terminal",
+    "format_error",
+    "response_timeout",
+    "word_count_error",
+    "sync_type_error",
+    "invalid_word_error",
+];
+
+/// The last tick that a time of a rule may be.
+const LAST_TICK: u64 = 140_737_488_355_328;
+
+/// Whether a word is a time with its unit, at most 2^47 ticks.
+fn time_slip(word: &[u8]) -> Option<Slip> {
+    match read_time(word) {
+        None => Some(Slip::Form),
+        Some(tick) if tick > LAST_TICK => Some(Slip::Range),
+        Some(_) => None,
+    }
 }
 
 /// What is wrong with a word.
@@ -167,7 +203,11 @@ impl Kind {
             Kind::Switch => word_slip(word, &["on", "off"]),
             Kind::ServiceSwitch => word_slip(word, &["on", "off", "once"]),
             Kind::Direction => word_slip(word, &["receive", "transmit"]),
-            Kind::DataWord | Kind::StatusWord => hexadecimal_slip(word, 4, false),
+            Kind::Counted => word_slip(word, &COUNTED),
+            Kind::DataWord | Kind::StatusWord | Kind::WordValue => {
+                hexadecimal_slip(word, 4, false)
+            }
+            Kind::RuleTime => time_slip(word),
             Kind::Datum => datum_slip(word),
             Kind::AnyAddress | Kind::AnySubaddress | Kind::AnyModeCode => {
                 let (least, greatest) = self.range();
@@ -188,7 +228,7 @@ impl Kind {
         match self {
             Kind::Address | Kind::AnyAddress => (0, 30),
             Kind::Subaddress | Kind::AnySubaddress => (1, 30),
-            Kind::Count | Kind::WordPlace => (1, 32),
+            Kind::Count | Kind::WordPlace | Kind::DataPlace => (1, 32),
             Kind::ModeCode | Kind::AnyModeCode => (0, 31),
             Kind::Turns => (1, 10_000),
             Kind::Retries => (1, 8),
@@ -282,6 +322,15 @@ impl Kind {
             Kind::ReplyTicks => "gaps in front of replies are 0 to 255 ticks of 0.1 us",
             Kind::Microseconds => "a period is 0 to 9999999 us",
             Kind::MessageCount => "messages are counted from 0 to 9999999",
+            Kind::RuleTime => {
+                "a time has its unit, s, ms or us, as 3.0s or 12.5us, down to 0.1 us and up to 2^47 ticks of 0.1 us"
+            }
+            Kind::DataPlace => "the data words of a message are 1 to 32",
+            Kind::WordValue => "a value has exactly four hexadecimal digits, as 00FF",
+            Kind::Counted => {
+                "messages are counted of ok, fail, clean, silent, message_error, terminal_to_terminal, format_error, \
+                 response_timeout, word_count_error, sync_type_error or invalid_word_error"
+            }
             _ => "another word stands here",
         }
     }

@@ -8,8 +8,9 @@ use crate::repeated::{order_reason, terminal_reason};
 use crate::spans::{count_of_actions, order_of_messages};
 use crate::symbols::Symbol;
 use crate::walk::{Walk, text_of};
+use crate::words::from_nth_word;
 use std::alloc::{AllocError, Global};
-use text_lines::next_word;
+use text_lines::{from_word, next_word, split_word};
 
 /// What is wrong with a word of a line, and the column of its first byte, counted from 1.
 #[derive(Clone, Copy)]
@@ -135,6 +136,13 @@ pub(crate) fn reason_of(number: u64, found: Option<Found<'_>>) -> Option<Reason>
     Some(Reason::at(place, found.word.len(), found.why, found.remedy))
 }
 
+/// Whether a line asks the host of the controller for something: its words are not told here.
+fn is_of_controller(line: &[u8]) -> bool {
+    let (keyword, _) = split_word(from_word(line));
+    let (host, _) = split_word(from_nth_word(line, 2));
+    keyword == b"at".as_slice() && host == b"bc".as_slice()
+}
+
 /// Why a line is refused for a slip.
 fn slip_reason(
     alloc: Global,
@@ -142,10 +150,11 @@ fn slip_reason(
     number: u64,
     slip: Slip,
 ) -> Result<Option<Reason>, AllocError> {
-    Ok(reason_of(
-        number,
-        find(alloc, line_of(text, number), Symbol::Entry, slip)?,
-    ))
+    let line = line_of(text, number);
+    if is_of_controller(line) {
+        return Ok(None);
+    }
+    Ok(reason_of(number, find(alloc, line, Symbol::Entry, slip)?))
 }
 
 /// Why a line is refused for a number that is none or out of its range, or for numbers that do not go together.

@@ -8,6 +8,7 @@ use crate::reason::Reason;
 use crate::rule_symbols::behind_check_word;
 use crate::symbols::Symbol;
 use crate::walk::text_of;
+use judge_rules::read_time;
 use numerals::spelled;
 use std::alloc::{AllocError, Global};
 use text_lines::next_word;
@@ -28,6 +29,8 @@ pub fn rule_reason(
         RuleFault::Number => find(alloc, line, Symbol::Rule, Slip::Form)?,
         RuleFault::Range => find(alloc, line, Symbol::Rule, Slip::Range)?
             .or(turned(line))
+            .or(turned_values(line))
+            .or(turned_times(line))
             .or(too_many(line)),
     };
     if found.is_none() && fault == RuleFault::Range {
@@ -49,7 +52,7 @@ fn word_at_fault(alloc: Global, line: &[u8]) -> Result<Option<Found<'_>>, AllocE
     }
     let found = find(alloc, line, Symbol::Rule, Slip::Word)?;
     let Some(missing) = found else {
-        return Ok(None);
+        return Ok(whole_not_alone(line));
     };
     if !missing.word.is_empty() {
         return Ok(found);
@@ -63,6 +66,17 @@ fn word_at_fault(alloc: Global, line: &[u8]) -> Result<Option<Found<'_>>, AllocE
         })),
         _ => Ok(found),
     }
+}
+
+/// The check `whole`, where it stands behind more than a channel and `any`.
+fn whole_not_alone(line: &[u8]) -> Option<Found<'_>> {
+    let behind = behind_one_of(line, &["whole"])?;
+    Some(Found {
+        word: b"whole".as_slice(),
+        column: column_at(line, 5usize.saturating_add(behind.len())),
+        why: "whole is about packets, and stands behind any alone",
+        remedy: "write expect any whole, or expect channel N any whole, without line, from and to",
+    })
 }
 
 /// What is left of a line behind the first of its words that is one of these.
@@ -92,6 +106,53 @@ fn turned(line: &[u8]) -> Option<Found<'_>> {
         why: "the greatest number is below the least",
         remedy: "write the least, and the greatest behind it, as in count 1 20",
     })
+}
+
+/// A word that is below the one in front of it, of which so many bytes are left behind it.
+fn below<'a>(line: &'a [u8], word: &'a [u8], behind: &[u8], remedy: &'static str) -> Found<'a> {
+    Found {
+        word,
+        column: column_at(line, word.len().saturating_add(behind.len())),
+        why: "the greatest is below the least",
+        remedy,
+    }
+}
+
+/// The greatest value of a data word, where it is below the least.
+fn turned_values(line: &[u8]) -> Option<Found<'_>> {
+    let (_, behind) = next_word(behind_one_of(line, &["word"])?)?;
+    let (first, rest) = next_word(behind)?;
+    let values = if first == b"step".as_slice() {
+        rest
+    } else {
+        behind
+    };
+    let (low, behind) = next_word(values)?;
+    let (high, rest) = next_word(behind)?;
+    if spelled(16, 4, 4, low)? <= spelled(16, 4, 4, high)? {
+        return None;
+    }
+    Some(below(
+        line,
+        high,
+        rest,
+        "write the least, and the greatest behind it, as in word 1 0000 00FF",
+    ))
+}
+
+/// The last time of a rule, where it is below the first.
+fn turned_times(line: &[u8]) -> Option<Found<'_>> {
+    let (from, behind) = next_word(behind_one_of(line, &["from"])?)?;
+    let (to, rest) = next_word(behind_one_of(behind, &["to"])?)?;
+    if read_time(from)? <= read_time(to)? {
+        return None;
+    }
+    Some(below(
+        line,
+        to,
+        rest,
+        "write the first time, and the last one behind it, as in from 3.0s to 3.3s",
+    ))
 }
 
 /// The thirty-third data word of a check.

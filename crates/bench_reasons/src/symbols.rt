@@ -53,12 +53,20 @@ pub enum Symbol {
     RuleChannel,
     /// The line of the bus of a rule, or nothing.
     RuleLine,
+    /// The first time of a rule, or nothing.
+    RuleFrom,
+    /// The last time of a rule, or nothing.
+    RuleTo,
     /// Which messages a rule is about.
     Selector,
     /// What a rule asks of them.
     Check,
     /// The mask of a status word, or nothing.
     Mask,
+    /// That it is asked by how much a data word grows, or nothing.
+    Growth,
+    /// Which messages are counted, or nothing.
+    OfKind,
 }
 
 /// What follows the first word of a frame; none where no frame begins so.
@@ -213,9 +221,13 @@ impl Symbol {
             Symbol::Rule
             | Symbol::RuleChannel
             | Symbol::RuleLine
+            | Symbol::RuleFrom
+            | Symbol::RuleTo
             | Symbol::Selector
             | Symbol::Check
-            | Symbol::Mask => behind_in_rules(self, token),
+            | Symbol::Mask
+            | Symbol::Growth
+            | Symbol::OfKind => behind_in_rules(self, token),
         }
     }
 
@@ -241,7 +253,11 @@ impl Symbol {
                 | Symbol::Rest(_)
                 | Symbol::RuleChannel
                 | Symbol::RuleLine
+                | Symbol::RuleFrom
+                | Symbol::RuleTo
                 | Symbol::Mask
+                | Symbol::Growth
+                | Symbol::OfKind
         )
     }
 

@@ -2,7 +2,7 @@
 
 use bench_files::{Hold, Kind};
 use bench_judge::{
-    Lost, PassFault, PrintFault, RuleVerdict, count_lost, judge, junit_text, write_colored,
+    Judged, Lost, PassFault, PrintFault, RuleVerdict, count_lost, judge, junit_text, write_colored,
     write_verdicts,
 };
 use bench_names::ChannelNames;
@@ -25,13 +25,17 @@ use std::rt::{Clock, Files};
 
 /// What the help of `bench judge` ends with.
 const NOTES: &str = "\
-RULES is a text, a rule a line: expect [channel N] [line A|B] SELECTOR CHECK. Without it each message has to be
-clean: of one of the standard's ten forms, all replies in time, no word too many or too few.
+RULES is a text, a rule a line: expect [channel N] [line A|B] [from TIME] [to TIME] SELECTOR CHECK. Without it each
+message has to be clean: of one of the standard's ten forms, all replies in time, no word too many or too few.
 
   SELECTOR  any, rx A S, tx A S, rt A S A S (sender first), mode A C, brx S, brt A S S (sender first), bmode C
             address A, subaddress S, mode code C: a number, or * for any
   CHECK     ok, fail, clean, status WORD [mask WORD], data [WORD | .... | WORD/MASK]..,
-            response LOW HIGH (ticks of 0.1 us), period LOW HIGH (us), count LOW HIGH
+            response LOW HIGH (ticks of 0.1 us), period LOW HIGH (us), count LOW HIGH [of KIND],
+            word I LOW HIGH (data word I, four hexadecimal digits), word I step LOW HIGH (what it is more than that
+            of the message before), whole (behind any alone: no packet is missing)
+  KIND      ok, fail, clean, silent, or a bit of the block status word as dump --decode names it
+  TIME      a number with s, ms or us, as for --from: of messages that began then or later, or then or earlier
 
 A rule is held where no message that it selects misses it and it selects one at least. Prints a line for each
 message that misses a rule, one for each rule, and how many rules are not held.
@@ -82,13 +86,33 @@ pub fn request_in<'a>(given: &ArgMatches<'a>) -> Request<'a> {
     }
 }
 
+/// What the rules are named by where there is no file of them.
+const STANDARD: &str = "standard rule";
+
 /// Rules, and the text that spells them.
 #[derive(Clone, Copy)]
 pub struct Spelled<'r> {
+    /// The name of the file.
+    pub file: &'r str,
     /// The text.
     pub text: &'r [u8],
     /// The rules that it spells.
     pub rules: &'r [Rule],
+    /// The first time of day of each channel of the recording that has one, from which the times of rules count.
+    pub origins: &'r [Option<u64>],
+}
+
+impl<'r> Spelled<'r> {
+    /// The rules with these verdicts.
+    fn judged(&self, verdicts: &'r [RuleVerdict]) -> Judged<'r> {
+        Judged {
+            file: self.file.as_bytes(),
+            text: self.text,
+            rules: self.rules,
+            origins: self.origins,
+            verdicts,
+        }
+    }
 }
 
 /// The fault of a recording with this name that was not judged to its end.
@@ -179,8 +203,10 @@ fn judge_recording<'a, R: System, E: Eprint + IsTerminal>(
     let stamps = recording.stamps(true)?;
     tell_of_unknown(errors, request.recording, &stamps);
     let spelled = Spelled {
+        file: request.rules.unwrap_or(STANDARD),
         text: rules_text(text),
         rules: rules.as_slice(),
+        origins: stamps.origins.as_slice(),
     };
     judge_by(rt, errors, request, recording, spelled)
 }
@@ -205,9 +231,8 @@ fn judge_by<'a, R: System, E: Eprint + IsTerminal>(
         tell_lost(errors, &lost);
     }
     if let Some(junit) = junit {
-        let (text, rules) = (spelled.text, spelled.rules);
-        let alloc = rt.alloc();
-        let made = junit_text(alloc, recording, text, rules, verdicts.as_slice(), lost);
+        let judged = spelled.judged(verdicts.as_slice());
+        let made = junit_text(rt.alloc(), recording, judged, lost);
         write_report(rt, request, junit, made)?;
     }
     verdict_on(verdicts.as_slice())
@@ -244,19 +269,19 @@ fn print_judged<R: System, E: Eprint + IsTerminal>(
     spelled: Spelled<'_>,
 ) -> Result<Vec<RuleVerdict>, PassFault> {
     let alloc = rt.alloc();
-    let (text, rules) = (spelled.text, spelled.rules);
+    let (rules, origins) = (spelled.rules, spelled.origins);
     let mut out = BufWriter::new(alloc, listing(rt))?;
     if !is_for_people(rt) {
-        return write_verdicts(alloc, recording, rules, &mut out);
+        return write_verdicts(alloc, recording, rules, origins, &mut out);
     }
     let verdicts = match recording.reopen() {
-        Ok(input) => judge(alloc, input, rules)?,
+        Ok(input) => judge(alloc, input, rules, origins)?,
         Err(error) => return Err(PassFault::Opening(error)),
     };
     let front = recording.front()?;
     let names = ChannelNames::of(front.as_slice());
-    let verdicts_now = verdicts.as_slice();
-    write_colored(alloc, recording, names, text, rules, verdicts_now, &mut out)?;
+    let judged = spelled.judged(verdicts.as_slice());
+    write_colored(alloc, recording, names, judged, &mut out)?;
     Ok(verdicts)
 }
 

@@ -89,7 +89,7 @@ fn tell_verdicts<R: Files + AllocGlobal + Clock, E: Eprint + IsTerminal>(
 ) -> Result<Vec<RuleVerdict>, PassFault> {
     let alloc = recording.alloc();
     let mut out = BufWriter::new(alloc, ErrorStream { errors })?;
-    write_verdicts(alloc, recording, rules, &mut out)
+    write_verdicts(alloc, recording, rules, &[], &mut out)
 }
 
 /// Judges what a run recorded, and prints the verdicts where its counts went. Where a rule is not held it ends with a
@@ -117,7 +117,14 @@ fn judge_recorded<'a, R: System, E: Eprint + IsTerminal>(
     let rules = given.rules.as_slice();
     if !leads_to_output(rt, request.report) {
         let text = given.text.as_slice();
-        return print_verdicts(rt, request.out, recording, Spelled { text, rules });
+        let spelled = Spelled {
+            file: request.judge.unwrap_or(""),
+            text,
+            rules,
+            // the stamps of a run are ticks of the recorder's counter
+            origins: &[],
+        };
+        return print_verdicts(rt, request.out, recording, spelled);
     }
     match tell_verdicts(errors, recording, rules) {
         Ok(verdicts) => Ok(verdicts),

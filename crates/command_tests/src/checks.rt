@@ -1,4 +1,5 @@
 //! Jobs that are tried: `bench_check`.
 
 mod fitted;
+mod hosted;
 mod tried;

@@ -11,6 +11,7 @@ pub(crate) mod made;
 mod names;
 mod pages;
 mod pictures;
+mod planned;
 mod seconds;
 mod selections;
 mod senders;

@@ -3,6 +3,7 @@ mod assembling;
 mod controllers;
 mod equal;
 mod frames;
+mod hosts;
 mod images;
 mod job_refusals;
 mod jobs;

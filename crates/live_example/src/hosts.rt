@@ -3,6 +3,7 @@ ghost use Rattle.bench_mail.specs.Mail.{MayPost};
 ghost use Rattle.std.specs.Prelude.{◌≡◌};
 
 use crate::gate::Posted;
+use bc_machine::HostAction;
 use bench_mail::{Mailbox, Poster};
 use mil_host::Action;
 use std::sync::Wait;
@@ -52,8 +53,16 @@ fn post_both<R: Wait>(rt: &R, gate: &Posted, host: Host<'_>)
         address,
         word,
     } = host;
-    let vector = mailbox.post(rt, &mut poster, 0, address, Action::Vector(word));
-    let service = mailbox.post(rt, &mut poster, 0, address, Action::Service(true));
+    let vector = HostAction::Terminal {
+        address,
+        action: Action::Vector(word),
+    };
+    let service = HostAction::Terminal {
+        address,
+        action: Action::Service(true),
+    };
+    let vector = mailbox.post(rt, &mut poster, 0, vector);
+    let service = mailbox.post(rt, &mut poster, 0, service);
     if vector.is_ok() && service.is_ok() {
         gate.tell(channel);
     }

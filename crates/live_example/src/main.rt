@@ -2,8 +2,8 @@
 //! request: a program that can be copied. What is printed of the run is the same whatever the order of the threads:
 //! which messages met the posts is left out, and message 50 of each channel waits until its host has posted.
 //!
-//! It may know: host actions, jobs, the writer, reports, what runs share, mailboxes, runs. It has no tests: what it
-//! prints is compared with its file `stdout`. It has no wrong bodies.
+//! It may know: host actions, placed actions, jobs, the writer, reports, what runs share, mailboxes, runs. It has no
+//! tests: what it prints is compared with its file `stdout`. It has no wrong bodies.
 #![tactic(auto)]
 
 ghost use Rattle.bench_mail.specs.Mail.{IsInboxOf, MayPost};
@@ -13,6 +13,7 @@ ghost use Rattle.std.specs.Prelude.{◌≡◌, ◌∷◌, [], IfSome};
 mod gate;
 mod hosts;
 
+use bc_machine::HostAction;
 use bench_mail::{Inbox, Mailbox, Poster};
 use bench_report::{ChannelReport, Report};
 use bench_run::run_live;
@@ -167,8 +168,9 @@ fn print_channel<R: Print>(rt: &R, part: &ChannelReport) -> io::Result<()> {
     )?;
     let all = part.placed();
     for place in 0..all.len() {
-        let placed = all.get(place);
-        println!(rt; "  for terminal {}: {}", placed.address, placed.action)?;
+        if let HostAction::Terminal { address, action } = all.get(place).action {
+            println!(rt; "  for terminal {address}: {action}")?;
+        }
     }
     Ok(())
 }

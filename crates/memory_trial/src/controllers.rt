@@ -1,7 +1,7 @@
 //! Calls on controllers that are under way.
 use crate::told::Told;
 use crate::worked::{FIVE, job_of};
-use bc_machine::Machine;
+use bc_machine::{HostAction, Machine};
 use job_file::Job;
 use mil_host::Action;
 use std::alloc::Global;
@@ -38,7 +38,12 @@ pub(crate) fn room(alloc: Global) -> Told {
         return Told::Early;
     };
     let made = machine.room(40).is_ok();
-    let kept = machine.place(5, Action::Busy(true)).is_ok();
+    let kept = machine
+        .place(HostAction::Terminal {
+            address: 5,
+            action: Action::Busy(true),
+        })
+        .is_ok();
     if made {
         Told::well(kept)
     } else {

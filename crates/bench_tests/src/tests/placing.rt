@@ -2,7 +2,7 @@
 use crate::tests::channels::job_of;
 use crate::tests::equal::{reads, same_in};
 use bc_machine::{Actions, Placed};
-use bench_report::ChannelReport;
+use bench_report::{ChannelReport, HostActionText};
 use bench_settings::{channel_report, ordered_actions};
 use std::alloc::Global;
 use std::process::Abort;
@@ -37,9 +37,8 @@ fn ordered_of(rt: &impl Abort, alloc: Global, text: &str) -> Actions {
 
 /// Adds a placed action as its number, its address and what it does.
 fn add_shown(rt: &impl Abort, alloc: Global, text: &mut String, one: &Placed) {
-    let line = format!(in alloc; "{} {} {}, ", one.number, one.address, one.action).expect(
-        rt, "memory",
-    );
+    let action = HostActionText(&one.action);
+    let line = format!(in alloc; "{} {action}, ", one.number).expect(rt, "memory");
     text.push_str(&line).expect(rt, "memory");
 }
 

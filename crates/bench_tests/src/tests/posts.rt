@@ -53,7 +53,63 @@ const FLAG_FROM_SECOND: &[Found] = &[
     Words(3, WITH_FLAG),
 ];
 
+/// The words of a message that was inserted, to which the terminal answers.
+const INSERTED: &[u8] = &[0xE2, 0x2F, 0, 0x28];
+
+/// Four messages, of which the second was inserted.
+const SECOND_INSERTED: &[Found] = &[
+    Messages(4),
+    Stamp(1, 0),
+    Words(1, WITHOUT_FLAG),
+    Stamp(2, 480),
+    Words(2, INSERTED),
+    Stamp(3, 960),
+    Words(3, WITHOUT_FLAG),
+    Words(4, WITHOUT_FLAG),
+];
+
+/// Four messages, of which the last was inserted.
+const LAST_INSERTED: &[Found] = &[
+    Messages(4),
+    Words(3, WITHOUT_FLAG),
+    Stamp(4, 1440),
+    Words(4, INSERTED),
+];
+
 const SCRIPTS: &[Script] = &[
+    Script {
+        name: "a post has a message inserted in front of the script's second",
+        made_of: FOUR_POSTS,
+        steps: &[
+            Plays("0i000TTTT0T", Ok(())),
+            Leaves(
+                100,
+                SECOND_INSERTED,
+                "channel 1\nmade 4\nplaced 2 bc insert B mode 5 2\npackets 1\n",
+            ),
+        ],
+    },
+    Script {
+        name: "a post has a message inserted behind the script's last",
+        made_of: FOUR_POSTS,
+        steps: &[
+            Plays("000i0TTTT0T", Ok(())),
+            Leaves(
+                100,
+                LAST_INSERTED,
+                "channel 1\nmade 4\nplaced 4 bc insert B mode 5 2\npackets 1\n",
+            ),
+        ],
+    },
+    Script {
+        name: "a channel makes no message behind its end mark",
+        made_of: FOUR_POSTS,
+        steps: &[
+            Plays("0000i0TTTT0", Ok(())),
+            Holds(84, 0),
+            Reports(NONE_PLACED),
+        ],
+    },
     Script {
         name: "a post between the first message and the second acts at the second",
         made_of: FOUR_POSTS,

@@ -1,8 +1,9 @@
 //! Texts of reports: what is expected stands in the format's own words.
+ghost use Rattle.bc_machine.specs.declared.placed.HostAction.TheVariants.{Terminal};
 ghost use Rattle.std.specs.Prelude.{◌≡◌};
 
 use crate::tests::equal::{printed, reads, same_in};
-use bc_machine::{Actions, Placed};
+use bc_machine::{Actions, HostAction, Placed};
 use bench_report::{
     ChannelReport, Report, ReportError, ReportFault, print_report, read_report, write_report,
 };
@@ -22,6 +23,11 @@ const TWO_PLACED: &str =
 const ROWS: &str =
     "channel 4\nmade 9\nrefused 9\nplaced 1 6 transmit 3 00AA\nplaced 3 6 transmit 29 0001 0002 FFFF\n\
      placed 3 6 transmit 29 00F1 00F2\nplaced 3 5 illegal receive 3 32\nplaced 9 0 vector ABCD\npackets 5\n";
+
+/// Placed actions of the controller, beside one of a terminal.
+const CONTROLS: &str =
+    "channel 4\nmade 9\nplaced 2 bc data rx 5 1 00AA 0001\nplaced 2 5 busy on\nplaced 3 bc ramp bmode 17 1 0010 FFFF\n\
+     placed 4 bc insert B mode 5 2\nplaced 4 bc insert at 5000 A rx 5 1 [0001 0002]\npackets 1\n";
 
 /// Texts that spell a report, whatever later readers say.
 const ACCEPTED: &[&str] = &[
@@ -50,6 +56,24 @@ const WORDS: &[(&str, &str)] = &[
     ("channel 1\nmade 1\nplaced 1 5 busy maybe\n", "X1 line 3"),
     ("channel 1\nmade 1\nplaced 1 5 vector 12\n", "X1 line 3"),
     ("channel 1\nmade 1\nplaced 0 31 response 39\n", "X1 line 3"),
+    ("channel 1\nmade 1\nplaced 1 bc\n", "X1 line 3"),
+    ("channel 1\nmade 1\nplaced 1 bc busy on\n", "X1 line 3"),
+    (
+        "channel 1\nmade 1\nplaced 1 bc ramp rx 5 1 33 0000 0001\n",
+        "X1 line 3",
+    ),
+    (
+        "channel 1\nmade 1\nplaced 0 bc insert A mode 5\n",
+        "X1 line 3",
+    ),
+    (
+        "channel 1\nmade 1\nplaced 1 5 data rx 5 1 0001\n",
+        "X1 line 3",
+    ),
+    (
+        "channel 1\nmade 1\nplaced bc insert A mode 5 1\n",
+        "X1 line 3",
+    ),
     ("packets\n", "X1 line 1"),
     ("packets 1 1\n", "X1 line 1"),
     ("packets 1\nframes\n", "X1 line 2"),
@@ -71,6 +95,14 @@ const NUMBERS: &[(&str, &str)] = &[
     ("channel 1\nmade 5\nplaced 0 5 busy on\n", "X2 line 3"),
     ("channel 1\nmade 5\nplaced 1000001 5 busy on\n", "X2 line 3"),
     ("channel 1\nmade 5\nplaced 1 31 busy on\n", "X2 line 3"),
+    (
+        "channel 1\nmade 5\nplaced 0 bc insert A mode 5 1\n",
+        "X2 line 3",
+    ),
+    (
+        "channel 1\nmade 5\nplaced 1000001 bc insert A mode 5 1\n",
+        "X2 line 3",
+    ),
     ("channel 1\nmade 5\nplaced 1 x busy on\n", "X2 line 3"),
     ("packets 10000000000\n", "X2 line 1"),
     ("packets A\n", "X2 line 1"),
@@ -166,14 +198,20 @@ fn reads_and_prints_actions_in_rows(rt: HostRuntime) {
     is_written(&rt, rt.alloc(), &report, ROWS);
 }
 
+#[test]
+fn reads_and_prints_actions_of_the_controller(rt: HostRuntime) {
+    let report = report_of(&rt, rt.alloc(), CONTROLS);
+    is_printed(&rt, rt.alloc(), &report, CONTROLS);
+    is_written(&rt, rt.alloc(), &report, CONTROLS);
+}
+
 /// An action of a terminal's host, just before a message.
 fn placed_at(number: u32, address: u8, action: Action) -> Placed
-    ensures { result ≡ record { number = number; address = address; action = action } }
+    ensures { result ≡ record { number = number; action = Terminal address action } }
 {
     Placed {
         number,
-        address,
-        action,
+        action: HostAction::Terminal { address, action },
     }
 }
 
@@ -202,9 +240,17 @@ fn are_the_two(rt: &impl Abort, placed: &Actions) {
     assert_eq!(rt; placed.len(), 2);
     if placed.len() == 2 {
         let (first, second) = (placed.get(0), placed.get(1));
-        let place = (second.number, second.address);
-        same_in(rt, "the second", &place, &(1000000, 0));
-        assert!(rt; matches!(&first.action, Action::Fault(true)));
+        same_in(rt, "the second", &second.number, &1000000);
+        assert!(rt; matches!(&second.action, HostAction::Terminal { address: 0, .. }));
+        assert!(rt;
+            matches!(
+                &first.action,
+                HostAction::Terminal {
+                    action: Action::Fault(true),
+                    ..
+                }
+            )
+        );
     }
 }
 

@@ -1,11 +1,13 @@
 //! Scripts: what happens in a world step by step, and what is found then.
 use crate::tests::channels::job_of;
 use crate::tests::equal::{are_bytes, reads, same_in};
+use bc_machine::HostAction;
 use bench_core::{PlayError, Step, World};
 use bench_report::print_report;
 use bench_settings::{Settings, WorldError};
 use ch11_header::read_header;
 use ch11_reader::Index;
+use controller_text::read_control;
 use job_file::Job;
 use mil_host::Action;
 use std::alloc::Global;
@@ -134,12 +136,29 @@ pub(crate) fn steps_of(rt: &impl Abort, alloc: Global, text: &str) -> Vec<Step> 
     steps
 }
 
+/// The host of the terminal at an address sets a fault.
+fn fault_at(address: u8) -> HostAction {
+    HostAction::Terminal {
+        address,
+        action: Action::Fault(true),
+    }
+}
+
+/// The host of the controller has a message inserted.
+fn insert() -> Option<HostAction> {
+    match read_control(b"insert B mode 5 2") {
+        Ok(control) => Some(HostAction::Controller(control)),
+        Err(_) => None,
+    }
+}
+
 fn step_of(letter: u8) -> Option<Step> {
     match letter {
         b'T' => Some(Step::Take),
         b'0'..=b'4' => Some(Step::Offer(letter - b'0')),
-        b'5' | b'6' => Some(Step::Post(0, letter.wrapping_sub(b'0'), Action::Fault(true))),
-        b'-' => Some(Step::Post(1, 6, Action::Fault(true))),
+        b'5' | b'6' => Some(Step::Post(0, fault_at(letter.wrapping_sub(b'0')))),
+        b'-' => Some(Step::Post(1, fault_at(6))),
+        b'i' => Some(Step::Post(0, insert()?)),
         _ => None,
     }
 }

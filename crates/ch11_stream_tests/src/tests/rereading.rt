@@ -5,8 +5,8 @@ use crate::tests::followed::lossy;
 use crate::tests::streamed::{damaged, pair, refusal};
 use crate::tests::streams::{Slow, reader_of};
 use bench_judge::{
-    Lost, Miss, PassFault, RuleVerdict, count_lost, first_misses, judge, junit_text, write_colored,
-    write_misses, write_verdicts,
+    Judged, Lost, PassFault, RuleVerdict, count_lost, judge, junit_text, tell_messages,
+    tell_packets, write_colored, write_misses, write_packets, write_verdicts,
 };
 use bench_names::ChannelNames;
 use bench_watch::Reopen;
@@ -36,16 +36,19 @@ const APART_RULES: &[u8] = b"expect any fail\nexpect any count 1 1\n";
 /// What a terminal shows of them.
 const APART_COLORS: &str = "\x1b[31mmissed \x1b[0mexpect any fail  (2 selected, 1 missed)\n      \
 2     0.0010000       1       1 B    rx 5 1 3                          2800 8.0 us               \
-0001 0002 0003\n\x1b[31mmissed \x1b[0mexpect any count 1 1  (2 selected, another count)\n\
+0001 0002 0003\n      block 2000 gaps 0050, expected fail\n\
+\x1b[31mmissed \x1b[0mexpect any count 1 1  (2 selected, count 2, expected 1 to 1)\n\
 \x1b[31m2 rules, 2 not held\x1b[0m\n";
 
 /// The report on them.
 const APART_REPORT: &str =
     "<?xml version=\"1.0\" encoding=\"UTF-8\"?>\n<testsuite name=\"bench judge\" tests=\"2\" failures=\"2\">\n  \
 <testcase classname=\"line 1\" name=\"expect any fail\">\n    \
-<failure message=\"selected 2 missed 1\">\nmessage 2 channel 1 stamp 10000</failure>\n  </testcase>\n  \
+<failure message=\"selected 2 missed 1\">apart.rules:1: expect any fail\n\
+message 2 channel 1 stamp 10000: block 2000 gaps 0050, expected fail</failure>\n  </testcase>\n  \
 <testcase classname=\"line 2\" name=\"expect any count 1 1\">\n    \
-<failure message=\"count 2\"></failure>\n  </testcase>\n</testsuite>\n";
+<failure message=\"count 2, expected 1 to 1\">apart.rules:2: expect any count 1 1</failure>\n  </testcase>\n\
+</testsuite>\n";
 
 /// A recording that may be another from its second pass on, and that can be opened so many times. Its readers give one
 /// byte at a time.
@@ -97,7 +100,7 @@ fn judged(
 ) -> Result<Vec<RuleVerdict>, PassFault> {
     let rules = rules_of(rt, alloc);
     let mut out = Vec::new(alloc);
-    let found = write_verdicts(alloc, recording, rules.as_slice(), &mut out);
+    let found = write_verdicts(alloc, recording, rules.as_slice(), &[], &mut out);
     are_bytes(rt, &out, text.as_bytes());
     found
 }
@@ -155,10 +158,10 @@ fn misses_of_a_rule_come_from_packets(rt: HostRuntime) {
     let rules = rules_of(&rt, alloc);
     let rule = rules.as_slice().first().expect(&rt, "a rule");
     let mut out = Vec::new(alloc);
-    let found = write_misses(alloc, reader_of(&pair(), 7), rule, &mut out);
+    let found = write_misses(alloc, reader_of(&pair(), 7), rule, &[], &mut out);
     same(&rt, &found.is_ok(), &true);
     are_bytes(&rt, &out, b"missed 1 message 1 channel 1 stamp 0\n");
-    let found = write_misses(alloc, reader_of(&damaged(), 7), rule, &mut out);
+    let found = write_misses(alloc, reader_of(&damaged(), 7), rule, &[], &mut out);
     is_refused(&rt, found);
 }
 
@@ -174,34 +177,58 @@ pub(crate) fn apart() -> [u8; 192] {
 fn apart_verdicts(rt: &impl Abort, alloc: Global) -> (Vec<Rule>, Vec<RuleVerdict>) {
     let rules = read_rules(alloc, APART_RULES).ok().expect(rt, "rules");
     let file = apart();
-    let verdicts = judge(alloc, reader_of(&file, 7), rules.as_slice())
+    let verdicts = judge(alloc, reader_of(&file, 7), rules.as_slice(), &[])
         .ok()
         .expect(rt, "verdicts");
     (rules, verdicts)
 }
 
 #[test]
-fn the_first_misses_come_from_packets(rt: HostRuntime) {
+fn the_first_misses_are_told(rt: HostRuntime) {
     let alloc = rt.alloc();
     let (rules, _) = apart_verdicts(&rt, alloc);
     let rule = rules.as_slice().first().expect(&rt, "a rule");
-    let miss = Miss {
-        number: 2,
-        channel: 1,
-        stamp: Some(10_000),
-    };
-    for most in [0, 1, 100] {
-        let found = first_misses(alloc, reader_of(&apart(), 7), rule, most);
-        let misses = found.ok().expect(&rt, "misses");
-        same(&rt, &misses.len(), &most.min(1));
-        same(
-            &rt,
-            &misses.as_slice().first().copied(),
-            &(if most == 0 { None } else { Some(miss) }),
-        );
+    let line = "\nmessage 2 channel 1 stamp 10000: block 2000 gaps 0050, expected fail";
+    for (most, told) in [(0, ""), (1, line), (100, line)] {
+        let found = tell_messages(alloc, reader_of(&apart(), 7), rule, &[], most);
+        are_bytes(&rt, &found.ok().expect(&rt, "misses"), told.as_bytes());
     }
-    let found = first_misses(alloc, reader_of(&damaged(), 7), rule, 1);
+    let found = tell_messages(alloc, reader_of(&damaged(), 7), rule, &[], 1);
     same(&rt, &found.err(), &Some(StreamFault::Refused(refusal())));
+}
+
+/// The second packet of the pair has the sequence number of the first, and begins behind the setup record and it.
+#[test]
+fn packets_that_do_not_follow_are_told(rt: HostRuntime) {
+    let alloc = rt.alloc();
+    let rules = read_rules(alloc, b"expect any whole\n")
+        .ok()
+        .expect(&rt, "rules");
+    let rule = rules.as_slice().first().expect(&rt, "a rule");
+    let mut out = Vec::new(alloc);
+    let found = write_packets(alloc, reader_of(&pair(), 7), rule, &[], &mut out);
+    same(&rt, &found.is_ok(), &true);
+    are_bytes(&rt, &out, b"missed 1 packet 128 channel 1\n");
+    let line = "\npacket 128 channel 1: sequence number 0, expected the next of its channel";
+    for (most, told) in [(0, ""), (1, line), (100, line)] {
+        let found = tell_packets(alloc, reader_of(&pair(), 7), rule, most);
+        are_bytes(&rt, &found.ok().expect(&rt, "packets"), told.as_bytes());
+    }
+    let found = write_packets(alloc, reader_of(&damaged(), 7), rule, &[], &mut out);
+    is_refused(&rt, found);
+    let found = tell_packets(alloc, reader_of(&damaged(), 7), rule, 1);
+    same(&rt, &found.err(), &Some(StreamFault::Refused(refusal())));
+}
+
+/// Rules with these verdicts.
+fn judged_apart<'j>(rules: &'j [Rule], verdicts: &'j [RuleVerdict]) -> Judged<'j> {
+    Judged {
+        file: b"apart.rules",
+        text: APART_RULES,
+        rules,
+        origins: &[],
+        verdicts,
+    }
 }
 
 /// What a terminal shows of a recording that is apart, and how that ends.
@@ -212,15 +239,8 @@ fn shown(
 ) -> (Result<(), PassFault>, Vec<u8>) {
     let (rules, verdicts) = apart_verdicts(rt, alloc);
     let mut out = Vec::new(alloc);
-    let answer = write_colored(
-        alloc,
-        recording,
-        ChannelNames::of(&[]),
-        APART_RULES,
-        rules.as_slice(),
-        verdicts.as_slice(),
-        &mut out,
-    );
+    let judged = judged_apart(rules.as_slice(), verdicts.as_slice());
+    let answer = write_colored(alloc, recording, ChannelNames::of(&[]), judged, &mut out);
     (answer, out)
 }
 
@@ -242,14 +262,8 @@ fn reported(
     recording: &Changing<'_>,
 ) -> Result<Vec<u8>, PassFault> {
     let (rules, verdicts) = apart_verdicts(rt, alloc);
-    junit_text(
-        alloc,
-        recording,
-        APART_RULES,
-        rules.as_slice(),
-        verdicts.as_slice(),
-        Lost::default(),
-    )
+    let judged = judged_apart(rules.as_slice(), verdicts.as_slice());
+    junit_text(alloc, recording, judged, Lost::default())
 }
 
 #[test]

@@ -303,7 +303,7 @@ fn periods_are_of_times_of_day(rt: HostRuntime) {
         b"expect channel 1 any period 100000 100000\nexpect channel 3 any period 0 9999999\n",
     );
     let rules = rules.ok().expect(&rt, "rules");
-    let found = judge(alloc, reader_of(&days(), 7), rules.as_slice());
+    let found = judge(alloc, reader_of(&days(), 7), rules.as_slice(), &[]);
     let verdicts = found.ok().expect(&rt, "verdicts");
     for (place, selected, missed) in [(0usize, 3, 1), (1, 1, 1)] {
         let verdict = verdicts.get(place).expect(&rt, "a verdict");

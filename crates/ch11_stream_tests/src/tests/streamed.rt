@@ -182,6 +182,7 @@ fn of_errors() -> RuleVerdict {
     RuleVerdict {
         line: 1,
         selected: 2,
+        counted: 0,
         missed: 1,
         miscounted: false,
         held: false,
@@ -193,6 +194,7 @@ fn of_periods() -> RuleVerdict {
     RuleVerdict {
         line: 2,
         selected: 2,
+        counted: 0,
         missed: 0,
         miscounted: false,
         held: true,
@@ -207,7 +209,7 @@ fn judged(
 ) -> Result<Vec<RuleVerdict>, StreamFault> {
     let text = "expect any ok\nexpect any period 1000 1000\n";
     let rules = read_rules(alloc, text.as_bytes()).ok().expect(rt, "rules");
-    judge(alloc, input, rules.as_slice())
+    judge(alloc, input, rules.as_slice(), &[])
 }
 
 #[test]

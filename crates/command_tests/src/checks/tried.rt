@@ -258,7 +258,7 @@ queue 2: with room for so many nothing of this job is refused
 ";
 
 /// Messages one by one, with status words as digits, or with the names of their bits.
-const DIGITS: Way = Way {
+pub(crate) const DIGITS: Way = Way {
     summary: false,
     strict: false,
     bits: Bits::Digits,
@@ -291,7 +291,7 @@ const STRICT_SUMMARY: Way = Way {
 };
 
 /// A job, how it is checked, what is printed, how much room it needs and whether anything is probably a mistake.
-type Row = (&'static str, Way, &'static str, u64, bool);
+pub(crate) type Row = (&'static str, Way, &'static str, u64, bool);
 
 const ROWS: [Row; 9] = [
     (MISTAKEN, DIGITS, MISTAKES, 3, true),
@@ -317,7 +317,7 @@ const STRICT_ROWS: [Row; 7] = [
 ];
 
 /// What the job of a row comes to.
-fn comes_to(rt: &impl Abort, alloc: Global, row: &Row) {
+pub(crate) fn comes_to(rt: &impl Abort, alloc: Global, row: &Row) {
     let (text, way, wanted, room, is_suspicious) = row;
     let job = job_of(rt, alloc, text);
     let mut out = Vec::new(alloc);

@@ -3,10 +3,10 @@ use crate::looks::equal::{behind, reads, same_in};
 use crate::looks::made::{FORMS, TRANSFER, recorded};
 use crate::looks::names::recorded_under;
 use bench_judge::{
-    Lost, RuleVerdict, count_lost, judge, junit_text, write_colored, write_verdicts,
+    Judged, Lost, RuleVerdict, count_lost, judge, junit_text, write_colored, write_verdicts,
 };
 use bench_names::ChannelNames;
-use judge_rules::read_rules;
+use judge_rules::{Rule, read_rules};
 use std::alloc::Global;
 use std::process::Abort;
 use test_values::FOREIGN;
@@ -96,10 +96,13 @@ const POLL_RULES: &str = "expect any clean\n  expect any fail\n\nexpect any coun
 const POLL_COLORS: &str = "\x1b[32mheld   \x1b[0mexpect any clean  (5 selected)\n\
      \x1b[31mmissed \x1b[0mexpect any fail  (5 selected, 5 missed)\n      \
 1     0.0000000       1       1 A    mode 5 2 transmit status word     2800 8.0 us\n      \
+block 0000 gaps 0050, expected fail\n      \
 2     0.0000480       1       2 A    mode 5 2 transmit status word     2800 8.0 us\n      \
+block 0000 gaps 0050, expected fail\n      \
 3     0.0000960       1       3 A    mode 5 2 transmit status word     2800 8.0 us\n      \
+block 0000 gaps 0050, expected fail\n      \
 and 2 more\n\
-\x1b[31mmissed \x1b[0mexpect any count 9 9  (5 selected, another count)\n\
+\x1b[31mmissed \x1b[0mexpect any count 9 9  (5 selected, count 5, expected 9 to 9)\n\
 \x1b[31m3 rules, 2 not held\x1b[0m\n";
 
 /// Rules of the recording of `LOST`, and its report.
@@ -110,9 +113,10 @@ const LOST_REPORT: &str =
     "<?xml version=\"1.0\" encoding=\"UTF-8\"?>\n<testsuite name=\"bench judge\" tests=\"3\" failures=\"2\">\n  \
 <testcase classname=\"line 2\" name=\"expect rx 5 1 fail\"/>\n  \
 <testcase classname=\"line 3\" name=\"expect tx * * ok\">\n    \
-<failure message=\"no message is selected\"></failure>\n  </testcase>\n  \
+<failure message=\"no message is selected\">lost.rules:3: expect tx * * ok</failure>\n  </testcase>\n  \
 <testcase classname=\"line 4\" name=\"expect any clean\">\n    \
-<failure message=\"selected 3 missed 1\">\nmessage 1 channel 1 stamp 0</failure>\n  </testcase>\n</testsuite>\n";
+<failure message=\"selected 3 missed 1\">lost.rules:4: expect any clean\n\
+message 1 channel 1 stamp 0: block 1220 gaps 0000, expected clean</failure>\n  </testcase>\n</testsuite>\n";
 
 /// A line that has marks of XML, a character of two bytes and a byte that is part of none, and two lines with rules.
 /// The message is `rx 5 1` without an error, alone in a packet with the overflow flag.
@@ -134,14 +138,15 @@ jumps of the sequence number 0\"/>\n  </properties>\n  \
 <testcase classname=\"line 3\" name=\"expect any ok\"/>\n  \
 <testcase classname=\"line 1\" name=\"#&lt;&amp;\u{e4}&quot;?&gt;\"/>\n  \
 <testcase classname=\"line 2\" name=\"expect any fail\">\n    \
-<failure message=\"selected 1 missed 1\">\nmessage 1 channel 1 stamp 0</failure>\n  </testcase>\n  \
+<failure message=\"selected 1 missed 1\">lost.rules:2: expect any fail\n\
+message 1 channel 1 stamp 0: block 0000 gaps 0050, expected fail</failure>\n  </testcase>\n  \
 <testcase classname=\"line 4\" name=\"\"/>\n</testsuite>\n";
 
 /// What is printed of rules and a recording.
-fn judged(rt: &impl Abort, alloc: Global, file: &[u8], rules: &str) -> Vec<u8> {
+pub(crate) fn judged(rt: &impl Abort, alloc: Global, file: &[u8], rules: &str) -> Vec<u8> {
     let rules = read_rules(alloc, rules.as_bytes()).ok().expect(rt, "rules");
     let mut text = Vec::new(alloc);
-    let verdicts = write_verdicts(alloc, &file, rules.as_slice(), &mut text)
+    let verdicts = write_verdicts(alloc, &file, rules.as_slice(), &[], &mut text)
         .ok()
         .expect(rt, "verdicts");
     assert!(rt; verdicts.len() == rules.len());
@@ -212,22 +217,39 @@ fn what_is_not_clean_is_told(rt: HostRuntime) {
     }
 }
 
+/// Rules that a text spells, with these verdicts.
+fn judged_by<'j>(text: &'j [u8], rules: &'j [Rule], verdicts: &'j [RuleVerdict]) -> Judged<'j> {
+    Judged {
+        file: b"lost.rules",
+        text,
+        rules,
+        origins: &[],
+        verdicts,
+    }
+}
+
 /// What is shown of rules and a recording: a report, or what a terminal shows.
-fn shown(rt: &impl Abort, alloc: Global, file: &[u8], text: &str, colored: bool) -> Vec<u8> {
+pub(crate) fn shown(
+    rt: &impl Abort,
+    alloc: Global,
+    file: &[u8],
+    text: &str,
+    colored: bool,
+) -> Vec<u8> {
     let text = text.as_bytes();
     let rules = read_rules(alloc, text).ok().expect(rt, "rules");
     let rules = rules.as_slice();
-    let verdicts = judge(alloc, file, rules).ok().expect(rt, "verdicts");
-    let verdicts = verdicts.as_slice();
+    let verdicts = judge(alloc, file, rules, &[]).ok().expect(rt, "verdicts");
+    let judged = judged_by(text, rules, verdicts.as_slice());
     if colored {
         let mut shown = Vec::new(alloc);
         let names = ChannelNames::of(file);
-        let written = write_colored(alloc, &file, names, text, rules, verdicts, &mut shown);
+        let written = write_colored(alloc, &file, names, judged, &mut shown);
         written.ok().expect(rt, "verdicts");
         return shown;
     }
     let told = count_lost(alloc, file).ok().expect(rt, "a recording");
-    let report = junit_text(alloc, &file, text, rules, verdicts, told);
+    let report = junit_text(alloc, &file, judged, told);
     report.ok().expect(rt, "a report")
 }
 
@@ -262,6 +284,7 @@ fn verdict_at(line: u64, held: bool) -> RuleVerdict {
     RuleVerdict {
         line,
         selected: 1,
+        counted: 0,
         missed: if held { 0 } else { 1 },
         miscounted: false,
         held,
@@ -285,14 +308,8 @@ fn a_report_tells_of_messages_that_are_missing(rt: HostRuntime) {
         verdict_at(2, false),
         verdict_at(4, true),
     ];
-    let report = junit_text(
-        alloc,
-        &file,
-        MARKED_RULES,
-        rules.as_slice(),
-        &verdicts,
-        told,
-    );
+    let judged = judged_by(MARKED_RULES, rules.as_slice(), &verdicts);
+    let report = junit_text(alloc, &file, judged, told);
     let text = report.ok().expect(&rt, "memory");
     reads(&rt, text.as_slice(), MARKED_REPORT);
 }

@@ -105,6 +105,54 @@ unknown
 unknown
 ";
 
+/// A controller whose host sets words, and a word that moves, and asks for two messages at the second one.
+const HOSTED: RunTexts = RunTexts {
+    jobs: &[
+        "\
+channel 2
+terminal 5
+at 1 bc data rx 5 1 00AA 00BB
+at 1 bc ramp rx 5 3 2 0010 0001
+at 2 bc insert A mode 5 1
+at 2 bc insert A mode 5 1
+script
+repeat 2 { send A rx 5 3 [0001 0002] }
+",
+    ],
+    report: "\
+channel 2
+made 4
+placed 1 bc data rx 5 1 00AA 00BB
+placed 1 bc ramp rx 5 3 2 0010 0001
+placed 2 bc insert A mode 5 1
+placed 2 bc insert A mode 5 1
+packets 1
+",
+};
+
+const HOSTED_STATES: &[&str] = &[
+    "channel 2 number 0\n",
+    NEW_5,
+    "at 1\nchannel 2 number 1\n",
+    "terminal 5 status 2800 last 2862 vector 0000 bit 0000 sync 0000 off -\n",
+    "terminal 5 deaf - mute -\nterminal 5 marks -\n",
+    "controller queued 0\ncontroller rx 5 1 00AA 00BB\ncontroller rx 5 3 .... 0011+0001\n",
+    "at 2\nchannel 2 number 2\n",
+    "terminal 5 status 2800 last 2FE1 vector 0000 bit 0000 sync 0000 off -\n",
+    "terminal 5 deaf - mute -\nterminal 5 marks -\n",
+    "controller queued 1\ncontroller rx 5 1 00AA 00BB\ncontroller rx 5 3 .... 0011+0001\n",
+    "at 4\nchannel 2 number 4\n",
+    "terminal 5 status 2800 last 2862 vector 0000 bit 0000 sync 0000 off -\n",
+    "terminal 5 deaf - mute -\nterminal 5 marks -\n",
+    "controller queued 0\ncontroller rx 5 1 00AA 00BB\ncontroller rx 5 3 .... 0012+0001\n",
+];
+
+#[test]
+fn what_the_controllers_host_asked_for(rt: HostRuntime) {
+    let lines = "state --all\nforward\nstate --all\nforward\nstate --all\ngo 4\nstate --all\n";
+    is_answered(&rt, rt.alloc(), &HOSTED, lines, HOSTED_STATES);
+}
+
 #[test]
 fn marks_of_hosts(rt: HostRuntime) {
     let lines = "state --all\nforward\nstate --all\nforward\nstate --all\nforward\nstate --all\n";

@@ -204,7 +204,7 @@ fn a_script_of_a_job_has_its_place_in_the_whole_text(rt: HostRuntime) {
 }
 
 /// Rules, at which line they have which fault, and what is said.
-const RULES: [(&str, u64, RuleFault, &str); 11] = [
+const RULES: [(&str, u64, RuleFault, &str); 16] = [
     (
         "expect any ok\nexpect rx 31 1 ok\n",
         2,
@@ -225,7 +225,8 @@ const RULES: [(&str, u64, RuleFault, &str); 11] = [
         1,
         RuleFault::Word,
         "  a:1\n  | expect any\n  |           ^\n  a word is missing here; a check is ok, fail, clean, status WORD \
-         [mask WORD], data WORD .., response LOW HIGH, period LOW HIGH or count LOW HIGH\n",
+         [mask WORD], data WORD .., response LOW HIGH, period LOW HIGH, count LOW HIGH [of KIND], word I [step] LOW \
+         HIGH or whole\n",
     ),
     (
         "expect any ok ok",
@@ -275,6 +276,42 @@ const RULES: [(&str, u64, RuleFault, &str); 11] = [
         RuleFault::Range,
         "  a:1\n  | expect any count 9 3\n  |                    ^\n  the greatest number is below the least; write \
          the least, and the greatest behind it, as in count 1 20\n",
+    ),
+    (
+        "expect from 3.0 any ok",
+        1,
+        RuleFault::Number,
+        "  a:1\n  | expect from 3.0 any ok\n  |             ^^^\n  this is not written as a number that may stand \
+         here; a time has its unit, s, ms or us, as 3.0s or 12.5us, down to 0.1 us and up to 2^47 ticks of 0.1 us\n",
+    ),
+    (
+        "expect from 3.3s to 3.0s any ok",
+        1,
+        RuleFault::Range,
+        "  a:1\n  | expect from 3.3s to 3.0s any ok\n  |                     ^^^^\n  the greatest is below the least; \
+         write the first time, and the last one behind it, as in from 3.0s to 3.3s\n",
+    ),
+    (
+        "expect any word 1 step 0002 0001",
+        1,
+        RuleFault::Range,
+        "  a:1\n  | expect any word 1 step 0002 0001\n  |                             ^^^^\n  the greatest is below \
+         the least; write the least, and the greatest behind it, as in word 1 0000 00FF\n",
+    ),
+    (
+        "expect line A any whole",
+        1,
+        RuleFault::Word,
+        "  a:1\n  | expect line A any whole\n  |                   ^^^^^\n  whole is about packets, and stands \
+         behind any alone; write expect any whole, or expect channel N any whole, without line, from and to\n",
+    ),
+    (
+        "expect any count 1 2 of lost",
+        1,
+        RuleFault::Word,
+        "  a:1\n  | expect any count 1 2 of lost\n  |                         ^^^^\n  this word cannot stand here; \
+         messages are counted of ok, fail, clean, silent, message_error, terminal_to_terminal, format_error, \
+         response_timeout, word_count_error, sync_type_error or invalid_word_error\n",
     ),
     (
         "expect any data .... .... .... .... .... .... .... .... .... .... .... .... .... .... .... .... .... .... \

@@ -4,7 +4,7 @@ use crate::tests::equal::same;
 use crate::tests::loading::loaded;
 use crate::tests::records::{Row, has_ended, sends};
 use crate::tests::worked::LOOPS;
-use bc_machine::{Actions, Machine, Placed};
+use bc_machine::{Actions, HostAction, Machine, Placed};
 use mil_bus::Bus;
 use mil_host::Action;
 use mil_line::{Fault, Plan};
@@ -163,8 +163,10 @@ fn one_action(rt: &impl Abort, alloc: Global) -> Actions {
     let mut placed = Actions::new(alloc);
     let busy = Placed {
         number: 1,
-        address: 5,
-        action: Action::Busy(true),
+        action: HostAction::Terminal {
+            address: 5,
+            action: Action::Busy(true),
+        },
     };
     placed.push(busy).expect(rt, "memory");
     placed

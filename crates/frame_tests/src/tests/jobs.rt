@@ -4,7 +4,7 @@ use crate::tests::equal::same_in;
 use crate::tests::frames::PACED;
 use crate::tests::many_messages::{MUTED, SERIES};
 use crate::tests::records::{Row, sends};
-use bc_machine::{Actions, Machine};
+use bc_machine::{Actions, HostAction, Machine};
 use job_file::{Job, job_runs, read_job};
 use std::alloc::Global;
 use std::process::Abort;
@@ -227,7 +227,7 @@ fn plays(rt: &impl Abort, alloc: Global, text: &str, rows: &[Row]) {
 }
 
 /// Each job of the table sends the messages of its rows.
-fn each_plays(rt: &impl Abort, alloc: Global, table: &[Played]) {
+pub(crate) fn each_plays(rt: &impl Abort, alloc: Global, table: &[Played]) {
     for (text, rows) in table {
         plays(rt, alloc, text, rows);
     }
@@ -293,13 +293,16 @@ const LINES: &[Lines] = &[
     },
 ];
 
-/// The message and the terminal of the first action.
+/// The message and the terminal of the first action, where it is a terminal's.
 fn first(placed: &Actions) -> Option<(u32, u8)> {
     if placed.is_empty() {
         return None;
     }
     let first = placed.get(0);
-    Some((first.number, first.address))
+    match first.action {
+        HostAction::Terminal { address, .. } => Some((first.number, address)),
+        HostAction::Controller(_) => None,
+    }
 }
 
 /// How many faults a message has.

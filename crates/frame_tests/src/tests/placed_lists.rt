@@ -3,7 +3,7 @@ ghost use Rattle.bc_machine.specs.Rising.{IsRising};
 ghost use Rattle.std.specs.Prelude.{◌≤◌};
 
 use crate::tests::equal::{reads, same};
-use bc_machine::{Actions, Placed, Schedule};
+use bc_machine::{Actions, HostAction, Placed, Schedule};
 use mil_bus::Bus;
 use mil_host::read_action;
 use std::alloc::Global;
@@ -61,8 +61,10 @@ const PUT_IN: &[(u32, &str, &str)] = &[
 fn placed(rt: &impl Abort, number: u32, address: u8, text: &str) -> Placed {
     Placed {
         number,
-        address,
-        action: read_action(text.as_bytes()).ok().expect(rt, text),
+        action: HostAction::Terminal {
+            address,
+            action: read_action(text.as_bytes()).ok().expect(rt, text),
+        },
     }
 }
 
@@ -80,8 +82,10 @@ fn given(rt: &impl Abort, alloc: Global) -> Actions {
 
 /// Shows an action behind others.
 fn show(rt: &impl Abort, text: &mut String, one: &Placed) {
-    let (number, address) = (one.number, one.address);
-    write!(text, "{number} {address} {}, ", one.action).expect(rt, "memory");
+    let number = one.number;
+    if let HostAction::Terminal { address, action } = &one.action {
+        write!(text, "{number} {address} {action}, ").expect(rt, "memory");
+    }
 }
 
 /// A list is shown as this text.

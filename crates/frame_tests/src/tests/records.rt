@@ -24,7 +24,9 @@ pub(crate) fn sends(rt: &impl Abort, text: &str, machine: &mut Machine, steps: u
         match machine.step() {
             Stepped::Ran => {}
             Stepped::Halted => break,
-            Stepped::Sent(record) => is_row(rt, text, &record, left.next()),
+            Stepped::Sent(record) | Stepped::Inserted(record) => {
+                is_row(rt, text, &record, left.next())
+            }
         }
     }
     same_in(rt, text, &left.next().is_none(), &true);

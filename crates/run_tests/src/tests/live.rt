@@ -5,6 +5,7 @@ use crate::tests::equal::same_in;
 use crate::tests::fixtures::{Bench, are_stamps, bench_of, index_of, is_printed};
 use crate::tests::gates::{OrderingGate, Rules};
 use crate::tests::hosts::{alone, is_accepted, lives_beside, taking};
+use crate::tests::posting::of_terminal;
 use bench_mail::{Mailbox, Poster};
 use bench_report::Report;
 use ch11_reader::Index;
@@ -29,7 +30,7 @@ fn post_fault<R: Wait + Abort>(rt: &R, gate: &OrderingGate, mailbox: &Mailbox, p
 {
     gate.wait_for_hold();
     let mut poster = poster;
-    let answer = mailbox.post(rt, &mut poster, 0, 5, Action::Fault(true));
+    let answer = mailbox.post(rt, &mut poster, 0, of_terminal(5, Action::Fault(true)));
     assert!(rt; answer.is_ok());
     gate.tell_posted();
 }

@@ -4,6 +4,7 @@ use crate::tests::fixtures::{Bench, bench_of, index_of};
 use crate::tests::gates::{OrderingGate, Rules};
 use crate::tests::hosts::{is_accepted, taking};
 use crate::tests::posting::run_with_hosts;
+use bc_machine::HostAction;
 use bench_report::ChannelReport;
 use mil_host::Action;
 use std::alloc::Global;
@@ -24,12 +25,18 @@ fn first_words(part: &ChannelReport, address: u8) -> Option<u16> {
     let mut count = 0u16;
     let all = part.placed();
     for place in 0..all.len() {
-        let placed = all.get(place);
-        if placed.address != address {
+        let HostAction::Terminal {
+            address: own,
+            action,
+        } = all.get(place).action
+        else {
+            return None;
+        };
+        if own != address {
             continue;
         }
         count = count.wrapping_add(1);
-        match placed.action {
+        match action {
             Action::Vector(word) if word == count => {}
             _ => return None,
         }

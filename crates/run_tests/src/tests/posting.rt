@@ -1,5 +1,6 @@
 //! Live runs beside which two hosts post vector words to each channel: host 0 for terminal 5, and host 1 for terminal 6
 //! at the same time.
+ghost use Rattle.bc_machine.specs.declared.placed.HostAction.TheVariants.{Terminal};
 ghost use Rattle.bench_mail.specs.Mail.{MayPost};
 ghost use Rattle.bench_run.specs.Live.{AreInboxesOf};
 ghost use Rattle.run_tests.specs.Hosts.{MayPostToAll, IsMail};
@@ -8,6 +9,7 @@ ghost use Rattle.std.specs.Prelude.{◌≡◌, ◌++◌, [], ◌∷◌};
 use crate::tests::fixtures::Bench;
 use crate::tests::gates::OrderingGate;
 use crate::tests::hosts::{lives_beside, two_hosts};
+use bc_machine::HostAction;
 use bench_mail::{Inbox, Mailbox, Poster};
 use bench_report::Report;
 use ch11_writer::MemorySink;
@@ -17,6 +19,13 @@ use std::alloc::Global;
 use std::process::Abort;
 use std::sync::Wait;
 use std::thread::{Threads, join};
+
+/// An action of the host of the terminal at an address.
+pub(crate) fn of_terminal(address: u8, action: Action) -> HostAction
+    ensures { result ≡ Terminal address action }
+{
+    HostAction::Terminal { address, action }
+}
 
 /// A host posts the vector words 1 to `words` for the terminal at an address.
 fn post_words<R: Wait + Abort>(
@@ -33,7 +42,7 @@ fn post_words<R: Wait + Abort>(
     let mut poster = poster;
     for word in 0..words {
         let vector = Action::Vector(word + 1);
-        let answer = mailbox.post(rt, &mut poster, host, address, vector);
+        let answer = mailbox.post(rt, &mut poster, host, of_terminal(address, vector));
         assert!(rt; answer.is_ok());
         gate.tell_posted();
     }

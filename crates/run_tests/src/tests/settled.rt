@@ -7,6 +7,8 @@ ghost use Rattle.std.specs.Prelude.{◌≡◌, [], ◌∷◌};
 use crate::tests::fixtures::{Bench, bench_of};
 use crate::tests::gates::{OrderingGate, Rules};
 use crate::tests::hosts::{alone, lives_beside, taking};
+use crate::tests::posting::of_terminal;
+use bc_machine::HostAction;
 use bench_mail::{Inbox, Mailbox, Post, Poster};
 use job_file::Job;
 use mil_host::Action;
@@ -49,7 +51,7 @@ fn post_three<R: Wait + Abort>(
     let mut poster = poster;
     for word in 0..3u16 {
         let vector = Action::Vector(word + 1);
-        let answer = mailbox.post(rt, &mut poster, 0, 5, vector);
+        let answer = mailbox.post(rt, &mut poster, 0, of_terminal(5, vector));
         assert!(rt; answer.is_ok());
         gate.tell_posted();
     }
@@ -99,8 +101,13 @@ fn sets_word(post: &Option<Post>, word: Option<u16>) -> bool {
     match (post, word) {
         (Some(post), Some(word)) => {
             post.host == 0
-                && post.address == 5
-                && matches!(post.action, Action::Vector(set) if set == word)
+                && matches!(
+                    &post.action,
+                    HostAction::Terminal {
+                        address: 5,
+                        action: Action::Vector(set),
+                    } if *set == word
+                )
         }
         (None, None) => true,
         _ => false,
