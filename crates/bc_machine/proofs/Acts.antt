@@ -1,5 +1,5 @@
 -- The actions placed at a message, and its exchange.
-use Rattle.std.proofs.Common.{ap, ◌≡◌, ◌≤◌, ◌+◌, ◌∙◌, ℕ, suc, List, [], ◌∷◌, refl, sym, ap₂, max, arith}
+use Rattle.std.proofs.Common.{ap, ◌≡◌, ◌≤◌, ◌+◌, ◌∙◌, ℕ, suc, List, [], ◌∷◌, length, refl, sym, ap₂, max, arith}
 use Rattle.mil_word.specs.declared.Line.{Line}
 use Rattle.mil_message.specs.declared.forms.Form.{Form}
 use Rattle.mil_line.specs.declared.faults.Fault.{Fault}
@@ -77,3 +77,9 @@ ready_clock placed number b = ap₂ max (ap₂ clock_of (ready_start placed numb
 pub ready_same : (number : ℕ) (ps qs : List Placed) (b : BusState) → placed_at number ps ≡ placed_at number qs → ready ps number b ≡ ready qs number b
 unfolding ready
 ready_same number ps qs b e = ap (all_acted b) e
+
+-- where none is placed, none acts
+pub ready_none : (number : ℕ) (ps : List Placed) (b : BusState) → length ps ≡ 0 → b ≡ ready ps number b
+unfolding ready
+ready_none number [] b none = refl
+ready_none number (p ∷ ps) b none = absurd (omega (arith, none))

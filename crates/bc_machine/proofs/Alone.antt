@@ -1,6 +1,5 @@
 -- Actions that stand in a row alone.
 use Rattle.std.proofs.Common.{◌≡◌, ℕ, None, List, refl, ap}
-use Rattle.controller_host.specs.declared.controls.Control.{Control}
 use Rattle.bc_machine.specs.declared.placed.HostAction.{HostAction}
 use Rattle.bc_machine.specs.declared.placed.HostAction.TheVariants.{Terminal}
 use Rattle.bc_machine.specs.declared.action_rows.KeptAction.{KeptAction}

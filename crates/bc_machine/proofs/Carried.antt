@@ -5,6 +5,7 @@ use Rattle.std.specs.List.{filter_map, AllByRecursion}
 use Rattle.std.specs.Option.{option_map, option_or}
 use Rattle.std.proofs.lemmas.Bool.{eqb-true, and_parts}
 use Rattle.std.proofs.lemmas.List.{drop-append-le, drop_all}
+use Rattle.std.proofs.lemmas.List.Elements.{All-append, All-nil, All-head, All-tail, All-filter}
 use Rattle.std.proofs.lemmas.List.Sums.{sum_by_push}
 use Rattle.std.proofs.Math.Nat.{mod-add-div', add-mul-mod_self_right, suc-mul}
 use Rattle.mil_message.specs.declared.forms.Form.{Form}
@@ -23,6 +24,7 @@ use Rattle.bc_machine.specs.Controller.{control_of}
 use Rattle.bc_machine.specs.Hosting.{placed_at, placed_up_to, set_at, set_by_action, last_set, is_carrier, carried_since, moved_on, source_since, source_at}
 use Rattle.bc_machine.specs.Agendas.{StandsForSources}
 use Rattle.bc_machine.specs.Asking.{controls_at, with_controls}
+use Rattle.bc_machine.specs.Schedules.{MayControl, is_control}
 use Rattle.bc_machine.proofs.Queued.{up_to_added, more_made}
 
 -- ---- what a place was set to last
@@ -253,3 +255,29 @@ stand_added rows ps made one at stand d place is = stand d place is ∙ sym (sou
 pub stand_begins : (ps : List Placed) → StandsForSources [] ps []
 unfolding placed_up_to
 stand_begins ps d place is = refl
+
+-- ---- where the host asks for nothing
+
+pub up_to_all : (P : Placed → Type 0) (n : ℕ) (ps : List Placed) → All P ps → All P (placed_up_to n ps)
+unfolding placed_up_to
+up_to_all P zero ps all = All-nil P
+up_to_all P (suc n) ps all = All-append P (placed_up_to n ps) (placed_at (suc n) ps) (up_to_all P n ps all) (All-filter (λ (q : Placed). eqb q.number (suc n)) P ps all)
+
+sets_none : (a : HostAction) (d : Destination) (place : ℕ) → (is_control a ≡ true → false ≡ true) → set_by_action a d place ≡ None
+sets_none (Terminal address action) d place h = refl
+sets_none (Controller asked) d place h = absurd (let e = h refl in cc)
+
+none_last : (d : Destination) (place : ℕ) (ps : List Placed) → MayControl false ps → last_set d place ps ≡ None
+none_last d place [] free = refl
+none_last d place (p ∷ ps) free =
+    ap₂ (λ (v : Option (ℕ × Source)) (u : Option Source). option_or v (option_map (λ source. (p.number, source)) u))
+    (none_last d place ps (All-tail (λ (q : Placed). is_control q.action ≡ true → false ≡ true) p ps free))
+    (sets_none p.action d place (All-head (λ (q : Placed). is_control q.action ≡ true → false ≡ true) p ps free))
+
+pub none_set : (n : ℕ) (ps : List Placed) (made : List MadeMessage) (d : Destination) (place : ℕ) → MayControl false ps → source_at n ps made d place ≡ None
+none_set n ps made d place free =
+    ap (option_map (source_since d place made)) (none_last d place (placed_up_to n ps) (up_to_all (λ (q : Placed). is_control q.action ≡ true → false ≡ true) n ps free))
+
+pub stand_free : (rows : List SourceRow) (ps : List Placed) (made : List MadeMessage) (m : MadeMessage) → MayControl false ps → StandsForSources rows ps made → StandsForSources rows ps (made ++ m ∷ [])
+stand_free rows ps made m free stand d place is =
+    stand d place is ∙ none_set (length made) ps made d place free ∙ sym (none_set (length (made ++ m ∷ [])) ps (made ++ m ∷ []) d place free)

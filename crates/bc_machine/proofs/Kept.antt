@@ -1,12 +1,12 @@
 -- What an agenda keeps.
-use Rattle.std.proofs.Common.{◌≡◌, ℕ, zero, suc, ◌+◌, ◌-◌, ◌<◌, ◌≤◌, Bool, true, cond, eqb, Option, Some, None, List, [], ◌∷◌, ◌++◌, length, map, refl, sym, ap, ap₂, ◌∙◌, subst, arith}
-use Rattle.std.specs.Prelude.{All, max, min, Result, Ok, Err, OnOk, OnErr}
+use Rattle.std.proofs.Common.{◌≡◌, ℕ, ◌+◌, ◌-◌, ◌<◌, ◌≤◌, Bool, true, cond, eqb, Option, Some, None, List, [], ◌∷◌, ◌++◌, length, map, refl, sym, ap, ap₂, ◌∙◌, subst, arith}
+use Rattle.std.specs.Prelude.{max, min, Result, Ok, Err, OnOk, OnErr}
 use Rattle.std.proofs.lemmas.List.Sums.{length-filter, count_by-le-length}
 use Rattle.std.proofs.lemmas.Option.{slice_get_within}
 use Rattle.std.specs.Option.{option_map, option_or}
 use Rattle.std.proofs.lemmas.Bool.{eq-eqb, and_from}
 use Rattle.std.proofs.lemmas.List.{append-nil, append_assoc, length-append}
-use Rattle.std.proofs.lemmas.List.Elements.{All-append, All-nil, All-head, All-tail, All-filter}
+use Rattle.std.proofs.lemmas.List.Elements.{All-head, All-tail}
 use Rattle.mil_message.specs.declared.forms.Form.{Form}
 use Rattle.controller_host.specs.declared.destinations.Destination.{Destination}
 use Rattle.controller_host.specs.declared.destinations.Destination.TheVariants as to
@@ -27,7 +27,7 @@ use Rattle.bc_machine.specs.Agendas.{AgendaState, agenda_in, with_message, with_
 use Rattle.bc_machine.specs.Asking.{controls_at, with_controls}
 use Rattle.bc_machine.specs.Schedules.{ScheduleState, HaveRoom, sets_sources}
 use Rattle.bc_machine.proofs.Queued.{cursor_begins, cursor_inserted, cursor_own, cursor_added, more_made, more_inserted, more_own}
-use Rattle.bc_machine.proofs.Carried.{next_rows, stand_inserted, stand_own, stand_added, stand_begins}
+use Rattle.bc_machine.proofs.Carried.{next_rows, stand_inserted, stand_own, stand_added, stand_begins, up_to_all}
 
 abbrev pub all_of : Inside → List Placed
 all_of a = a.placed.actions ++ a.posted.actions
@@ -77,12 +77,10 @@ module _ (a b : Inside) (is : IsAgenda a) (placed : b.placed.actions ≡ a.place
         sets = still_sets;
       }
 
-  -- a message of the script was made: from these rows, which go on behind it
-  pub agenda_own : (form : Form) (rows : List SourceRow)
-      → ((d : Destination) (place : ℕ) → IsPlace d place → source_in rows d place ≡ with_controls (controls_at (length a.made + 1) (all_of a)) (source_in a.placed.sources.rows d place) d place)
-      → b.placed.sources.rows ≡ map (advanced_by form) rows
+  -- a message of the script was made, and the rows stand for the sources behind it
+  pub agenda_sent : (form : Form) → StandsForSources b.placed.sources.rows (all_of a) (a.made ++ own form ∷ [])
       → b.made ≡ a.made ++ own form ∷ [] → b.number ≡ a.number + 1 → b.inserted ≡ a.inserted → b.cursor ≡ a.cursor → IsAgenda b
-  agenda_own form rows set carried made number inserts cursor =
+  agenda_sent form stand made number inserts cursor =
       let more = ap length made in
       let long = more_made a.made (own form) in
       let count = ap inserted_in made ∙ more_own a.made form in
@@ -91,12 +89,20 @@ module _ (a b : Inside) (is : IsAgenda a) (placed : b.placed.actions ≡ a.place
         inserted = inserts ∙ is.inserted ∙ sym count;
         cursor = subst (λ (c : Cursor). IsCursor c (all_of b) b.made) (sym cursor) (subst (λ (ps : List Placed). IsCursor a.cursor ps b.made) (sym all_same)
             (subst (IsCursor a.cursor (all_of a)) (sym made) (cursor_own a.cursor (all_of a) a.made form is.cursor)));
-        sources = subst (λ (ps : List Placed). StandsForSources b.placed.sources.rows ps b.made) (sym all_same) (subst (StandsForSources b.placed.sources.rows (all_of a)) (sym made)
-            (subst (λ (rs : List SourceRow). StandsForSources rs (all_of a) (a.made ++ own form ∷ [])) (sym carried)
-            (stand_own (all_of a) a.made form rows (next_rows (all_of a) a.made a.placed.sources.rows rows is.sources set))));
+        sources = subst (λ (ps : List Placed). StandsForSources b.placed.sources.rows ps b.made) (sym all_same) (subst (StandsForSources b.placed.sources.rows (all_of a)) (sym made) stand);
         ready = still_ready;
         sets = still_sets;
       }
+
+  -- the same, from these rows, which go on behind it
+  pub agenda_own : (form : Form) (rows : List SourceRow)
+      → ((d : Destination) (place : ℕ) → IsPlace d place → source_in rows d place ≡ with_controls (controls_at (length a.made + 1) (all_of a)) (source_in a.placed.sources.rows d place) d place)
+      → b.placed.sources.rows ≡ map (advanced_by form) rows
+      → b.made ≡ a.made ++ own form ∷ [] → b.number ≡ a.number + 1 → b.inserted ≡ a.inserted → b.cursor ≡ a.cursor → IsAgenda b
+  agenda_own form rows set carried =
+      agenda_sent form
+      (subst (λ (rs : List SourceRow). StandsForSources rs (all_of a) (a.made ++ own form ∷ [])) (sym carried)
+      (stand_own (all_of a) a.made form rows (next_rows (all_of a) a.made a.placed.sources.rows rows is.sources set)))
 
 -- the cursor was moved
 pub agenda_moved : (a b : Inside) → IsAgenda a → b.placed ≡ a.placed → b.posted ≡ a.posted → b.made ≡ a.made → b.number ≡ a.number → b.inserted ≡ a.inserted → IsCursor b.cursor (all_of a) a.made → IsAgenda b
@@ -190,13 +196,6 @@ set_sets d place ready (p ∷ ps) t e sets =
     by_rest None h (Some s) g is more = All-head (λ (q : Placed). sets_sources q.action ≡ true → ready ≡ true) p ps sets (sets_one p.action d place s g)
     by_rest None h None g is more = absurd cc
 
-up_to_sets : (ready : Bool) (n : ℕ) (ps : List Placed) → HaveRoom ready ps → HaveRoom ready (placed_up_to n ps)
-unfolding placed_up_to
-up_to_sets ready zero ps sets = All-nil (λ (q : Placed). sets_sources q.action ≡ true → ready ≡ true)
-up_to_sets ready (suc n) ps sets =
-    All-append (λ (q : Placed). sets_sources q.action ≡ true → ready ≡ true) (placed_up_to n ps) (placed_at (suc n) ps) (up_to_sets ready n ps sets)
-    (All-filter (λ (q : Placed). eqb q.number (suc n)) (λ (q : Placed). sets_sources q.action ≡ true → ready ≡ true) ps sets)
-
 found_first : (r : SourceRow) (rs : List SourceRow) → source_in (r ∷ rs) r.destination r.place ≡ Some r.source
 found_first r rs =
     ap (λ b. cond b (Some r.source) (source_in rs r.destination r.place)) (and_from (is_same r.destination r.destination) (eqb r.place r.place) (same_itself r.destination) (eq-eqb r.place r.place refl))
@@ -205,7 +204,7 @@ found_first r rs =
 source_ready : (ready : Bool) (n : ℕ) (ps : List Placed) (made : List MadeMessage) (d : Destination) (place : ℕ) (s : Source) (o : Option (ℕ × Source)) → last_set d place (placed_up_to n ps) ≡ o
     → Some s ≡ option_map (source_since d place made) o → HaveRoom ready ps → ready ≡ true
 source_ready ready n ps made d place s None e h sets = absurd cc
-source_ready ready n ps made d place s (Some t) e h sets = set_sets d place ready (placed_up_to n ps) t e (up_to_sets ready n ps sets)
+source_ready ready n ps made d place s (Some t) e h sets = set_sets d place ready (placed_up_to n ps) t e (up_to_all (λ (q : Placed). sets_sources q.action ≡ true → ready ≡ true) n ps sets)
 
 rows_ready : (ready : Bool) (ps : List Placed) (made : List MadeMessage) (rows : List SourceRow) → AreRows rows → StandsForSources rows ps made → HaveRoom ready ps → 0 < length rows → ready ≡ true
 rows_ready ready ps made [] good stand sets some = absurd (omega (arith, some))

@@ -1,5 +1,5 @@
 -- What a message that is sent makes of a controller.
-use Rattle.std.proofs.Common.{◌≡◌, ◌≢◌, ⊎_elim, ℕ, ◌+◌, ◌-◌, ◌*◌, ◌<◌, ◌≤◌, ◌^◌, Bool, true, false, cond, eqb, ne_eqb, Option, Some, None, List, [], ◌∷◌, ◌++◌, length, max, refl, sym, ap, ap₂, ◌∙◌, arith}
+use Rattle.std.proofs.Common.{◌≡◌, ◌≢◌, ⊎_elim, ℕ, ◌+◌, ◌-◌, ◌*◌, ◌<◌, ◌≤◌, ◌^◌, Bool, true, false, cond, eqb, ne_eqb, Option, Some, None, List, [], ◌∷◌, ◌++◌, length, get_or, max, refl, sym, ap, ap₂, ◌∙◌, arith}
 use Rattle.std.specs.Prelude.{slice_get}
 use Rattle.mil_word.specs.declared.Line.{Line}
 use Rattle.mil_message.specs.declared.messages.Message.{Message}
@@ -12,7 +12,7 @@ use Rattle.mil_monitor.specs.declared.Record.{Record}
 use Rattle.mil_monitor.specs.Observed.{observed}
 use Rattle.frame_code.specs.Table.{sends, act, stuck}
 use Rattle.std.proofs.lemmas.Bool.{cases_lt}
-use Rattle.std.proofs.lemmas.Option.{slice_get_past}
+use Rattle.std.proofs.lemmas.Option.{slice_get_past, slice_get_read}
 use Rattle.bc_machine.proofs.Rows.{row_of}
 use Rattle.frame_code.specs.declared.Op.TheVariants as op
 use Rattle.frame_load.specs.Budget.{cost_of, one_period, one_sent}
@@ -27,6 +27,10 @@ use Rattle.bc_machine.specs.Moves.{line_of}
 use Rattle.bc_machine.proofs.Acts.{ready_talks, ready_start}
 use Rattle.bc_machine.proofs.Queued.{more_made}
 use Rattle.bc_machine.proofs.Told.{sent_to, drained_here}
+
+-- what was read at an index stands there
+pub there_is : {A : Type 0} (xs ys : List A) (i : ℕ) (x : A) → ys ≡ xs → x ≡ get_or ys i x → i < length xs → slice_get xs i ≡ Some x
+there_is xs ys i x same is low = slice_get_read xs (length xs) i x refl low (is ∙ ap (λ zs. get_or zs i x) same)
 
 module _ (m : MachineState) (same : m.point.number ≡ length m.made) where
   abbrev pub host_of : AgendaState

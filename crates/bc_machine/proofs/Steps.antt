@@ -4,7 +4,7 @@ use Rattle.std.specs.Prelude.{slice_get, count_by}
 use Rattle.mil_line.specs.Plans.{Planned}
 use Rattle.mil_bus.specs.Exchange.{BusState, now_of}
 use Rattle.mil_bus.specs.declared.outcomes.Outcome.{Outcome}
-use Rattle.frame_code.specs.Table.{Code, Running, Turn, goes_on, halted, stuck, step, act, run, start}
+use Rattle.frame_code.specs.Table.{Code, Running, Turn, goes_on, halted, stuck, step, act, start}
 use Rattle.frame_code.specs.Loadable.{IsLoadable}
 use Rattle.frame_load.specs.Budget.{budget, worst_messages}
 use Rattle.frame_load.specs.Judging.{IsWithin, HasShortPeriods}

@@ -5,13 +5,13 @@ ghost use Rattle.bc_machine.specs.Asking.{controls_at, with_controls, with_rows}
 ghost use Rattle.bc_machine.specs.Controller.{ready};
 ghost use Rattle.bc_machine.specs.Hosting.{first_of, queue_at, sent_form};
 ghost use Rattle.bc_machine.specs.MadeMessages.{own, inserted};
-ghost use Rattle.bc_machine.specs.Schedules.{HaveRoom};
+ghost use Rattle.bc_machine.specs.Schedules.{HaveRoom, MayControl};
 ghost use Rattle.controller_host.specs.declared.destinations.Destination.{Destination};
 ghost use Rattle.controller_host.specs.Destinations.{IsPlace};
 ghost use Rattle.controller_host.specs.Sources.{advanced_by, source_in, sourced};
 ghost use Rattle.mil_bus.specs.Exchange.{now_of};
 ghost use Rattle.std.specs.Prelude.{◌≡◌, ◌<◌, ◌≤◌, ◌+◌, ◌^◌, ◌++◌, ◌∷◌, ℕ, [], length, map, max, min};
-ghost use Rattle.std.specs.Prelude.{IsSome, IfOk, IfErr, OnOk, OnErr, unwrap_or};
+ghost use Rattle.std.specs.Prelude.{IsSome, IfOk, IfErr, OnOk, OnErr, unwrap_or, false};
 
 use crate::Actions;
 use crate::made::{Made, and_inserted, and_own};
@@ -188,6 +188,22 @@ impl Agenda {
         self.number = number;
         self.made = and_own(&self.made, message);
         carried(&mut self.placed, message)
+    }
+
+    /// Makes a message of the script the next one, where the host of the controller has asked for nothing: the actions
+    /// placed at it act, and it goes as it is.
+    pub(crate) fn send_as_is(&mut self, bus: &mut Bus, message: &Message)
+        requires bound { length self.old.made < 2 ^ 31 }
+        requires free { MayControl false self.old.placed }
+        ensures message { sent_form self.old.placed self.old.made message.now ≡ message.now }
+        ensures agenda { self.new ≡ with_message self.old (own message.now) }
+        ensures bus { bus.new ≡ ready self.old.placed (length self.old.made + 1) bus.old }
+        ensures clock { now_of bus.new ≡ now_of bus.old }
+    {
+        let number = self.number + 1;
+        act_both(bus, &self.placed, &self.posted, number);
+        self.number = number;
+        self.made = and_own(&self.made, message);
     }
 
     /// A message of the script as it would be sent next.

@@ -11,7 +11,7 @@ use controller_host::Insertion;
 
 impl Agenda {
     /// Whether the host of the controller may have asked for something.
-    fn has_controls(&self) -> bool
+    pub(crate) fn has_controls(&self) -> bool
         ensures { MayControl result self.now.placed }
     {
         one_of(self.placed.has_controls(), self.posted.has_controls())

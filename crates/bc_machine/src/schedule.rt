@@ -331,6 +331,7 @@ impl Schedule {
     }
 
     /// The actions that are placed at a number act, in their order.
+    #[inline(never)]
     pub fn act_at(&self, bus: &mut Bus, number: u32)
         ensures bus { bus.new ≡ ready self.now.actions number bus.old }
         ensures clock { now_of bus.new ≡ now_of bus.old }
@@ -343,6 +344,18 @@ impl Schedule {
             beside,
             number,
         );
+    }
+
+    /// The same, with no look where there is none.
+    #[inline(always)]
+    fn act_if_any(&self, bus: &mut Bus, number: u32)
+        ensures bus { bus.new ≡ ready self.now.actions number bus.old }
+        ensures clock { now_of bus.new ≡ now_of bus.old }
+    {
+        if self.len() == 0 {
+            return;
+        }
+        self.act_at(bus, number);
     }
 
     /// The same actions and as much room, in memory of their own, where numbers fall with the rows by rising number
@@ -371,6 +384,6 @@ pub fn act_both(bus: &mut Bus, placed: &Schedule, posted: &Schedule, number: u32
     ensures bus { bus.new ≡ ready (placed.now.actions ++ posted.now.actions) number bus.old }
     ensures clock { now_of bus.new ≡ now_of bus.old }
 {
-    placed.act_at(bus, number);
-    posted.act_at(bus, number);
+    placed.act_if_any(bus, number);
+    posted.act_if_any(bus, number);
 }

@@ -8,6 +8,7 @@ ghost use Rattle.bc_machine.specs.Moves.{line_of};
 ghost use Rattle.bc_machine.specs.Running.{moved_by, stepped, answered, latest_record, clock_in, world_in};
 ghost use Rattle.bc_machine.specs.Running.{frames_point};
 ghost use Rattle.bc_machine.specs.Running.{most_inserted, with_inserted, setting, bus_run};
+ghost use Rattle.bc_machine.specs.Schedules.{MayControl};
 ghost use Rattle.frame_code.specs.Table.{sends};
 ghost use Rattle.frame_code.specs.declared.Op.TheVariants as op;
 ghost use Rattle.mil_bus.specs.Exchange.{exchanged, now_of, talk_of};
@@ -15,7 +16,7 @@ ghost use Rattle.mil_line.specs.Ranges.{is_in_range};
 ghost use Rattle.mil_monitor.specs.Observed.{observed};
 ghost use Rattle.std.specs.List.{list_all};
 ghost use Rattle.std.specs.Prelude.{◌≡◌, ◌<◌, ◌≤◌, ◌+◌, ◌-◌, ◌^◌, Some, None, true, if◌then◌else◌, slice_get, length};
-ghost use Rattle.std.specs.Prelude.{unwrap_or};
+ghost use Rattle.std.specs.Prelude.{unwrap_or, false};
 
 use crate::Stepped;
 use crate::outcomes::other;
@@ -106,6 +107,41 @@ impl Parts {
         Stepped::Sent(came.0)
     }
 
+    /// The same, where the host of the controller has asked for nothing: the message goes as it is.
+    fn send_as_is(&mut self, index: u16, alternates: bool) -> Stepped
+        requires taken { self.old.taken < 2 ^ 31 }
+        requires place { self.old.at.place < 4096 }
+        requires message { index < length self.old.code.messages }
+        requires number { self.old.point.number < 2 ^ 31 }
+        requires counted { self.old.point.number ≡ length self.old.made }
+        requires free { MayControl false self.old.placed }
+        requires clock { clock_in self.old ≤ 2 ^ 48 }
+        ensures value { self.new ≡ moved_by
+            (sends (world_in self.old) (slice_get self.old.code.messages index)
+            (line_of alternates self.old.at.line) self.old.at (frames_point self.old)) self.old }
+        ensures answer { result ≡ latest_record self.new.point.state.talks }
+        ensures soon { clock_in self.new ≤ clock_in self.old + 2 ^ 24 }
+    {
+        let (own, message) = &self.program.image().messages()[index as usize];
+        let line = line_for(alternates, self.progress.line, *own);
+        self.agenda.send_as_is(&mut self.bus, message);
+        let faults = self.plan.faults(self.agenda.number());
+        let came = exchange(
+            &mut self.bus,
+            &mut self.talk,
+            line,
+            message,
+            self.progress.gap,
+            faults.as_slice(),
+        );
+        self.progress.last = Some(came.1);
+        self.progress.latest = Some(came.1);
+        self.progress.line = line;
+        self.progress.place += 1;
+        self.progress.taken += 1;
+        Stepped::Sent(came.0)
+    }
+
     /// How many messages are inserted at most: so many that all are at most 1,000,000.
     pub(crate) fn most_inserted(&self) -> u64
         ensures { result ≡ most_inserted self.now.code }
@@ -153,7 +189,8 @@ impl Parts {
     }
 
     /// Sends the message of an index, or first the one that waits longest.
-    pub(crate) fn send_next(&mut self, index: u16, alternates: bool) -> Stepped
+    #[inline(never)]
+    fn send_or_insert(&mut self, index: u16, alternates: bool) -> Stepped
         requires able { IsAble self.old }
         requires there { slice_get self.old.code.operations self.old.at.place
             ≡ Some (if alternates then op.Alt index else op.Send index) }
@@ -165,6 +202,29 @@ impl Parts {
             Some(insertion) => self.insert(&insertion),
             None => self.send(index, alternates),
         }
+    }
+
+    /// Whether the host of the controller may have asked for something.
+    fn has_controls(&self) -> bool
+        ensures { MayControl result self.now.placed }
+    {
+        self.agenda.has_controls()
+    }
+
+    /// Sends the message of an index, or first the one that waits longest, with no look at what waits where the host of
+    /// the controller has asked for nothing.
+    pub(crate) fn send_next(&mut self, index: u16, alternates: bool) -> Stepped
+        requires able { IsAble self.old }
+        requires there { slice_get self.old.code.operations self.old.at.place
+            ≡ Some (if alternates then op.Alt index else op.Send index) }
+        ensures value { self.new ≡ stepped self.old }
+        ensures answer { result ≡ answered self.old }
+        ensures soon { clock_in self.new ≤ clock_in self.old + most_ticks self.old }
+    {
+        if self.has_controls() {
+            return self.send_or_insert(index, alternates);
+        }
+        self.send_as_is(index, alternates)
     }
 
     /// At the end of the program: sends the message that waits longest, if one does.

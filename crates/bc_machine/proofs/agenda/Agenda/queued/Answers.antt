@@ -1,4 +1,4 @@
-use Rattle.std.proofs.Common.{◌-◌, length, ap, arith}
+use Rattle.std.proofs.Common.{length, ap, arith}
 use Rattle.std.proofs.lemmas.List.{length-append, length-drop}
 use Rattle.bc_machine.specs.Agendas.{AgendaState}
 use Rattle.bc_machine.specs.Hosting.{inserts_up_to, inserted_in, queue_at}

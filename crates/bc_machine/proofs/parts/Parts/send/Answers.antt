@@ -1,6 +1,5 @@
-use Rattle.std.proofs.Common.{◌≡◌, ◌<◌, ℕ, List, None, Some, length, get_or, sym, ap, subst, refl, ◌∙◌, arith, rules}
+use Rattle.std.proofs.Common.{◌≡◌, ◌<◌, None, Some, length, sym, ap, subst, refl, ◌∙◌, arith, rules}
 use Rattle.std.specs.Prelude.{slice_get}
-use Rattle.std.proofs.lemmas.Option.{slice_get_read}
 use Rattle.mil_line.specs.Plans.{faults_of}
 use Rattle.mil_bus.specs.Exchange.{exchanged, talk_of}
 use Rattle.frame_code.specs.Table.{sends}
@@ -12,11 +11,8 @@ use Rattle.bc_machine.specs.Moves.{line_of}
 use Rattle.bc_machine.specs.PlainMachine.{state_in}
 use Rattle.bc_machine.specs.Running.{MachineState, world_in, frames_point, most_inserted, moved_by, clock_in}
 use Rattle.bc_machine.proofs.Queued.{more_made}
-use Rattle.bc_machine.proofs.Sent.{sent_is, answer_is, latest_talk}
+use Rattle.bc_machine.proofs.Sent.{sent_is, answer_is, latest_talk, there_is}
 use Rattle.bc_machine.proofs.parts.Parts.send.Goals as goal
-
-there_is : {A : Type 0} (xs ys : List A) (i : ℕ) (x : A) → ys ≡ xs → x ≡ get_or ys i x → i < length xs → slice_get xs i ≡ Some x
-there_is xs ys i x same is low = slice_get_read xs (length xs) i x refl low (is ∙ ap (λ zs. get_or zs i x) same)
 
 pub exchange-came-requires-clause-clock : goal.exchange-came-requires-clause-clock
 exchange-came-requires-clause-clock c = omega (arith, c.send-sourced.ensures.clock, c.requires.clock, ap clock_in c.self.view_is)

@@ -1,4 +1,4 @@
-use Rattle.std.proofs.Common.{false, sym, ap, ◌∙◌}
+use Rattle.std.proofs.Common.{sym, ap, ◌∙◌}
 use Rattle.std.proofs.lemmas.Result.{on_ok_weaker}
 use Rattle.bc_machine.specs.Schedules.{ScheduleState}
 use Rattle.bc_machine.proofs.Marks.{acts_stay}
