@@ -1,5 +1,8 @@
 //! What is wrong with a text, as the readers of scripts, jobs and rules tell it.
 
+use frame_text::Cause;
+use mil_message::BadMessage;
+
 /// What is wrong with a script.
 #[derive(Clone, Copy, Debug, PartialEq, Eq)]
 pub enum ScriptFault {
@@ -25,6 +28,24 @@ pub enum ScriptFault {
     Definitions,
 }
 
+impl ScriptFault {
+    /// The fault that the reader of scripts tells.
+    pub fn of(cause: Cause) -> ScriptFault {
+        match cause {
+            Cause::Byte => ScriptFault::Byte,
+            Cause::Token => ScriptFault::Token,
+            Cause::Number => ScriptFault::Number,
+            Cause::Message(bad) => ScriptFault::Message(MessageFault::of(bad)),
+            Cause::End => ScriptFault::End,
+            Cause::Depth => ScriptFault::Depth,
+            Cause::Range => ScriptFault::Range,
+            Cause::Messages => ScriptFault::Messages,
+            Cause::Name => ScriptFault::Name,
+            Cause::Definitions => ScriptFault::Definitions,
+        }
+    }
+}
+
 /// What is wrong with the numbers of a message.
 #[derive(Clone, Copy, Debug, PartialEq, Eq)]
 pub enum MessageFault {
@@ -38,6 +59,18 @@ pub enum MessageFault {
     SameEnds,
     /// M5: the data word of a mode command.
     ModeWord,
+}
+
+impl MessageFault {
+    fn of(bad: BadMessage) -> MessageFault {
+        match bad {
+            BadMessage::Address => MessageFault::Address,
+            BadMessage::Subaddress => MessageFault::Subaddress,
+            BadMessage::CountOrCode => MessageFault::CountOrCode,
+            BadMessage::SameEnds => MessageFault::SameEnds,
+            BadMessage::ModeWord => MessageFault::ModeWord,
+        }
+    }
 }
 
 /// What is wrong with a line of a job.

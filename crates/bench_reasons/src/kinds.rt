@@ -75,6 +75,12 @@ pub enum Kind {
     WordPlace,
     /// The direction of a command.
     Direction,
+    /// A mode code with a data word that the controller sends (MIL-STD-1553B 4.3.3.5.1.7).
+    ReceiveModeCode,
+    /// The place of the one data word of a mode command.
+    OnlyPlace,
+    /// The tick until which a message is held back.
+    HeldTick,
     /// The address of a terminal in a selector, or `*`.
     AnyAddress,
     /// A subaddress in a selector, or `*`.
@@ -116,7 +122,7 @@ const COUNTED: [&str; 11] = [
     "invalid_word_error",
 ];
 
-/// The last tick that a time of a rule may be.
+/// The last tick that a job or a time of a rule may name: 2^47.
 const LAST_TICK: u64 = 140_737_488_355_328;
 
 /// Whether a word is a time with its unit, at most 2^47 ticks.
@@ -179,6 +185,14 @@ fn choice_slip(word: &[u8], least: u64, greatest: u64) -> Option<Slip> {
     number_slip(word, 7, least, greatest)
 }
 
+/// Whether a word is a mode code with a data word that the controller sends: 17, or 20 to 31.
+fn receive_code_slip(word: &[u8]) -> Option<Slip> {
+    match number_slip(word, 7, 17, 31) {
+        None if matches!(spelled(10, 1, 7, word), Some(18 | 19)) => Some(Slip::Range),
+        slip => slip,
+    }
+}
+
 /// Whether a word is `....`, four hexadecimal digits, or these with a slash and the four of a mask.
 fn datum_slip(word: &[u8]) -> Option<Slip> {
     if word == b"....".as_slice() {
@@ -214,7 +228,8 @@ impl Kind {
                 choice_slip(word, least, greatest)
             }
             Kind::HalfBits => hexadecimal_slip(word, 10, true),
-            Kind::StartTick => number_slip(word, 15, 0, 140_737_488_355_328),
+            Kind::StartTick | Kind::HeldTick => number_slip(word, 15, 0, LAST_TICK),
+            Kind::ReceiveModeCode => receive_code_slip(word),
             Kind::StatusBit | Kind::NewName | Kind::Name => None,
             _ => {
                 let (least, greatest) = self.range();
@@ -248,6 +263,7 @@ impl Kind {
             Kind::SetGap => (21, 255),
             Kind::TransmitSubaddress => (1, 29),
             Kind::ReplyTicks => (0, 255),
+            Kind::OnlyPlace => (1, 1),
             _ => (0, 9_999_999),
         }
     }
@@ -303,6 +319,13 @@ impl Kind {
             Kind::Switch => "on or off stands here",
             Kind::ServiceSwitch => "on, off or once stands here",
             Kind::Direction => "receive or transmit stands here",
+            Kind::ReceiveModeCode => {
+                "mode codes with a data word of the controller are 17 and 20 to 31"
+            }
+            Kind::OnlyPlace => "a mode command has one data word, at place 1",
+            Kind::HeldTick => {
+                "a message is held back until a tick of 0 to 140737488355328, in ticks of 0.1 us"
+            }
             _ => self.allowed_in_rules(),
         }
     }

@@ -1,11 +1,12 @@
 //! Why the text of a script, a job or rules is refused, in words: which of its words is at fault, what is wrong with
 //! it, and what to do. What is said here stands behind a fault's line, and changes nothing of that line.
 //!
-//! It may know: the text of scripts, rules, numbers and words of a text. Its tests: `command_tests`. Its
+//! It may know: messages, the text of scripts, rules, numbers and words of a text. Its tests: `command_tests`. Its
 //! wrong bodies: `edits/`.
 #![tactic(auto)]
 
 mod fault;
+mod inserted;
 mod jobs;
 mod kinds;
 mod lines;

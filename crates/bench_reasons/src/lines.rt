@@ -1,16 +1,16 @@
 //! Why a line of a job is refused.
 
 use crate::fault::LineFault;
-use crate::kinds::Slip;
+use crate::inserted::inserted_reason;
+use crate::kinds::{Kind, Slip};
 use crate::places::{Place, line_of};
 use crate::reason::Reason;
 use crate::repeated::{order_reason, terminal_reason};
 use crate::spans::{count_of_actions, order_of_messages};
 use crate::symbols::Symbol;
 use crate::walk::{Walk, text_of};
-use crate::words::from_nth_word;
 use std::alloc::{AllocError, Global};
-use text_lines::{from_word, next_word, split_word};
+use text_lines::next_word;
 
 /// What is wrong with a word of a line, and the column of its first byte, counted from 1.
 #[derive(Clone, Copy)]
@@ -30,6 +30,7 @@ pub(crate) fn column_at(line: &[u8], left: usize) -> u64 {
 fn slip_of(symbol: Symbol, word: &[u8]) -> Option<Slip> {
     match symbol {
         Symbol::One(kind) | Symbol::Rest(kind) => kind.slip(word),
+        Symbol::Host if word != b"bc".as_slice() => Kind::Address.slip(word),
         _ if symbol.behind(text_of(word)).is_none() => Some(Slip::Word),
         _ => None,
     }
@@ -44,7 +45,8 @@ fn why_of(slip: Slip) -> &'static str {
 }
 
 /// The first word of a line with a slip, where the line is one of a job or of rules, as a symbol says; where words are
-/// looked for, also the first that is left over, or the place of the first that is missing.
+/// looked for, also the first that is left over, or the place of the first that is missing. The words of a message that
+/// a line ends with are not looked at.
 pub(crate) fn find(
     alloc: Global,
     line: &[u8],
@@ -59,15 +61,10 @@ pub(crate) fn find(
         };
         let left = word.len().saturating_add(behind.len());
         let column = column_at(line, left);
-        let Some(symbol) = walk.wanted(text_of(word)) else {
-            return Ok(
-                (slip == Slip::Word).then_some(Found {
-                    word,
-                    column,
-                    why: "nothing more may stand in this line",
-                    remedy: "take it out",
-                }),
-            );
+        let symbol = match walk.wanted(text_of(word)) {
+            None => return Ok(left_over(word, column, slip)),
+            Some(Symbol::Message) => return Ok(None),
+            Some(symbol) => symbol,
         };
         if slip_of(symbol, word) == Some(slip) {
             return Ok(Some(Found {
@@ -83,6 +80,16 @@ pub(crate) fn find(
         rest = behind;
     }
     Ok(missing(&mut walk, line, slip))
+}
+
+/// A word behind all that may stand in a line, where words are looked for.
+fn left_over(word: &[u8], column: u64, slip: Slip) -> Option<Found<'_>> {
+    (slip == Slip::Word).then_some(Found {
+        word,
+        column,
+        why: "nothing more may stand in this line",
+        remedy: "take it out",
+    })
 }
 
 /// The place of a word that is missing at the end of a line.
@@ -136,14 +143,7 @@ pub(crate) fn reason_of(number: u64, found: Option<Found<'_>>) -> Option<Reason>
     Some(Reason::at(place, found.word.len(), found.why, found.remedy))
 }
 
-/// Whether a line asks the host of the controller for something: its words are not told here.
-fn is_of_controller(line: &[u8]) -> bool {
-    let (keyword, _) = split_word(from_word(line));
-    let (host, _) = split_word(from_nth_word(line, 2));
-    keyword == b"at".as_slice() && host == b"bc".as_slice()
-}
-
-/// Why a line is refused for a slip.
+/// Why a line is refused for a slip of one of its words, or for the message that it inserts.
 fn slip_reason(
     alloc: Global,
     text: &[u8],
@@ -151,10 +151,10 @@ fn slip_reason(
     slip: Slip,
 ) -> Result<Option<Reason>, AllocError> {
     let line = line_of(text, number);
-    if is_of_controller(line) {
-        return Ok(None);
+    match reason_of(number, find(alloc, line, Symbol::Entry, slip)?) {
+        Some(reason) => Ok(Some(reason)),
+        None => inserted_reason(alloc, line, number),
     }
-    Ok(reason_of(number, find(alloc, line, Symbol::Entry, slip)?))
 }
 
 /// Why a line is refused for a number that is none or out of its range, or for numbers that do not go together.

@@ -39,4 +39,23 @@ impl Reason {
             other: None,
         }
     }
+
+    /// The reason of a text of one line, where that is the line of this number of a text.
+    pub fn in_line(self, number: u64) -> Reason {
+        let place = |place: Place| Place {
+            line: number,
+            ..place
+        };
+        Reason {
+            place: place(self.place),
+            other: match self.other {
+                None => None,
+                Some(other) => Some(Other {
+                    place: place(other.place),
+                    ..other
+                }),
+            },
+            ..self
+        }
+    }
 }

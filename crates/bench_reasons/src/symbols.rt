@@ -3,15 +3,16 @@
 
 use crate::kinds::Kind;
 use crate::kinds::Kind::{
-    Address, BabbleCount, Channel, Count, DataWord, Direction, EarlyTicks, Gap, HalfBits, Index,
-    LateTicks, LaterIndex, Line, MessageNumber, ModeCode, Name, NewName, PauseTicks, Period,
-    ReplyRun, ResponseTicks, Retries, Run, ServiceSwitch, SetGap, StartTick, StatusBit, Step,
-    Subaddress, Switch, Sync, TransmitSubaddress, Turns, WordPlace,
+    Address, BabbleCount, Channel, Count, DataWord, Direction, EarlyTicks, Gap, HalfBits, HeldTick,
+    Index, LateTicks, LaterIndex, Line, MessageNumber, ModeCode, Name, NewName, OnlyPlace,
+    PauseTicks, Period, ReceiveModeCode, ReplyRun, ResponseTicks, Retries, Run, ServiceSwitch,
+    SetGap, StartTick, StatusBit, Step, Subaddress, Switch, Sync, TransmitSubaddress, Turns,
+    WordPlace,
 };
 use crate::rule_symbols::{allowed_in_rules, behind_in_rules};
 use Symbol::{
-    Action, Block, Condition, Else, Marked, Message, One, OptionalWords, PlannedFault, Rest, Token,
-    Words,
+    Action, Block, Condition, Control, DataTo, Else, HeldBack, Host, Marked, Message, One,
+    OptionalWords, PlannedFault, RampTo, Rest, Token, Words,
 };
 
 /// What may stand next.
@@ -43,8 +44,18 @@ pub enum Symbol {
     Entry,
     /// A planned fault, from its name on.
     PlannedFault,
-    /// An action of a host.
+    /// Who is asked by a line: a terminal's host, by its address, or the controller's.
+    Host,
+    /// An action of a terminal's host.
     Action,
+    /// What the controller's host asks for.
+    Control,
+    /// The command of the messages that data words of the controller go into, and the words.
+    DataTo,
+    /// The command of the messages that have a moving word of the controller, and how it moves.
+    RampTo,
+    /// The tick until which a message is held back, or nothing.
+    HeldBack,
     /// The commands that a host marks as illegal, or as legal again.
     Marked,
     /// A line of rules.
@@ -128,7 +139,7 @@ fn behind_entry_word(word: &str) -> Option<&'static [Symbol]> {
         "channel" => Some(&[One(Channel)]),
         "start" => Some(&[One(StartTick)]),
         "terminal" => Some(&[One(Address)]),
-        "at" => Some(&[One(MessageNumber), One(Address), Action]),
+        "at" => Some(&[One(MessageNumber), Host]),
         "fault" => Some(&[One(MessageNumber), PlannedFault]),
         // the first message, the last, and how far they are apart
         "faults" => Some(&[
@@ -189,6 +200,60 @@ fn behind_action_word(word: &str) -> Option<&'static [Symbol]> {
     }
 }
 
+/// What follows the first word of what the controller's host asks for.
+fn behind_control_word(word: &str) -> Option<&'static [Symbol]> {
+    match word {
+        "data" => Some(&[DataTo]),
+        "ramp" => Some(&[RampTo]),
+        "insert" => Some(&[HeldBack, One(Line), Message]),
+        _ => None,
+    }
+}
+
+/// What follows the first word of the command that data words of the controller go to; mode commands have one.
+fn behind_data_word(word: &str) -> Option<&'static [Symbol]> {
+    match word {
+        "rx" => Some(&[One(Address), One(Subaddress), One(DataWord), Rest(DataWord)]),
+        "brx" => Some(&[One(Subaddress), One(DataWord), Rest(DataWord)]),
+        "mode" => Some(&[One(Address), One(ReceiveModeCode), One(DataWord)]),
+        "bmode" => Some(&[One(ReceiveModeCode), One(DataWord)]),
+        _ => None,
+    }
+}
+
+/// What follows the first word of the command that a moving word of the controller goes to.
+fn behind_ramp_word(word: &str) -> Option<&'static [Symbol]> {
+    match word {
+        "rx" => Some(&[
+            One(Address),
+            One(Subaddress),
+            One(WordPlace),
+            One(DataWord),
+            One(DataWord),
+        ]),
+        "brx" => Some(&[
+            One(Subaddress),
+            One(WordPlace),
+            One(DataWord),
+            One(DataWord),
+        ]),
+        "mode" => Some(&[
+            One(Address),
+            One(ReceiveModeCode),
+            One(OnlyPlace),
+            One(DataWord),
+            One(DataWord),
+        ]),
+        "bmode" => Some(&[
+            One(ReceiveModeCode),
+            One(OnlyPlace),
+            One(DataWord),
+            One(DataWord),
+        ]),
+        _ => None,
+    }
+}
+
 /// What follows the first word of the commands that are marked.
 fn behind_marked_word(word: &str) -> Option<&'static [Symbol]> {
     match word {
@@ -216,7 +281,14 @@ impl Symbol {
             Symbol::Words | Symbol::One(_) | Symbol::Rest(_) => Some(&[]),
             Symbol::Entry => behind_entry_word(token),
             Symbol::PlannedFault => behind_fault_word(token),
+            Symbol::Host if token == "bc" => Some(&[Control]),
+            Symbol::Host => Some(&[Action]),
             Symbol::Action => behind_action_word(token),
+            Symbol::Control => behind_control_word(token),
+            Symbol::DataTo => behind_data_word(token),
+            Symbol::RampTo => behind_ramp_word(token),
+            Symbol::HeldBack if token == "at" => Some(&[One(HeldTick)]),
+            Symbol::HeldBack => None,
             Symbol::Marked => behind_marked_word(token),
             Symbol::Rule
             | Symbol::RuleChannel
@@ -251,6 +323,7 @@ impl Symbol {
             Symbol::Else
                 | Symbol::OptionalWords
                 | Symbol::Rest(_)
+                | Symbol::HeldBack
                 | Symbol::RuleChannel
                 | Symbol::RuleLine
                 | Symbol::RuleFrom
@@ -289,6 +362,11 @@ impl Symbol {
                 "an action is transmit, ramp, busy, service, subsystem, fault, control, vector, selftest, \
                  bit, illegal, legal, response, gap, deaf, mute, broadcast or power"
             }
+            Symbol::Host => "terminal addresses are 0 to 30, and bc is the controller's host",
+            Symbol::Control => "the controller's host asks for data, ramp or insert",
+            Symbol::DataTo | Symbol::RampTo =>
+                "words of the controller go to rx A S, brx S, mode A C or bmode C",
+            Symbol::HeldBack => "at TICK stands here, or the line of the message",
             Symbol::Marked => "mode, receive or transmit stands here",
             _ => allowed_in_rules(self),
         }
