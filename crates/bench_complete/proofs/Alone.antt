@@ -107,6 +107,9 @@ module _ (bytes : List ℕ) (h : Header) (is : packet_at bytes ≡ Ok h) where
   own_rest : with_rest h own ≡ Ok h
   own_rest = sym (rest_front h own (drop h.packet_length bytes) (room_of bytes h is) (omega (arith, own_size))) ∙ ap (with_rest h) whole ∙ (front bytes h is).rest
 
+  pub own_body : body_of h own ≡ body_of h bytes
+  own_body = sym (body_front h own (drop h.packet_length bytes) (room_of bytes h is) (omega (arith, own_size))) ∙ ap (body_of h) whole
+
   pub own_messages : packet_messages h own ≡ packet_messages h bytes
   own_messages = sym (messages_front h own (drop h.packet_length bytes) (room_of bytes h is) (omega (arith, own_size))) ∙ ap (packet_messages h) whole
 

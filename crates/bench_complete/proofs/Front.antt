@@ -1,36 +1,33 @@
 -- The setup records in front of a recording.
-use Rattle.std.proofs.Common.{◌≡◌, ℕ, zero, suc, ◌+◌, ◌<◌, ◌≤◌, Bool, true, false, not, cond, eqb, ◌&&◌, List, [], ◌∷◌, ◌++◌, take, drop, get_or, length, eq-eqb, Option, refl, sym, ap, subst, ◌∙◌, append_assoc, append-nil, arith}
+use Rattle.std.proofs.Common.{◌≡◌, ℕ, suc, ◌+◌, ◌<◌, ◌≤◌, Bool, true, false, not, cond, eqb, ◌&&◌, List, [], ◌∷◌, ◌++◌, take, drop, get_or, length, eq-eqb, Option, refl, sym, ap, subst, ◌∙◌, append_assoc, append-nil, arith}
 use Rattle.std.specs.List.{AllByRecursion, position_or_len}
 use Rattle.std.proofs.lemmas.Bool.{ne_eqb}
 use Rattle.std.proofs.lemmas.List.{append_cancel_left, drop_more}
 use Rattle.std.proofs.lemmas.List.Elements.{filter-append}
 use Rattle.std.specs.Io.KnownBytes.{Appends}
-use Rattle.ch11_reader.specs.declared.packet.Packet.{Packet}
-use Rattle.ch11_reader.specs.Recording.{Found}
-use Rattle.ch11_reader.specs.Listing.{listing}
-use Rattle.bench_complete.specs.Pieces.{Piece, bytes_of, piece_at, goes_over, ends_leading, kept_entries, kept_packets, leading, behind_leading}
+use Rattle.bench_complete.specs.declared.placed.Placed.{Placed}
+use Rattle.bench_complete.specs.Pieces.{Piece, bytes_of, piece_at, goes_over, ends_leading, kept_entries, leading, behind_leading}
 use Rattle.bench_complete.specs.Merging.{of_channel, IsMergeOrder}
-use Rattle.bench_complete.specs.Lanes.{AreInFile, piece_in}
+use Rattle.bench_complete.specs.Lanes.{piece_in}
 use Rattle.bench_complete.proofs.Linked.{no_entry}
-use Rattle.bench_complete.proofs.Sound.{kept_is}
 use Rattle.bench_complete.proofs.Running.{appends_both, appends_nothing}
 
--- ---- by the entries of an index
+-- ---- by where they stand
 
-abbrev pub front_size : List Packet → ℕ
+abbrev pub front_size : List Placed → ℕ
 front_size es = position_or_len (λ e. ends_leading e.header) es
 
 one_more : (n : ℕ) → 1 + n ≡ suc n
 one_more n = omega arith
 
-module _ (file : List ℕ) (e : Packet) (es : List Packet) where
+module _ (file : List ℕ) (e : Placed) (es : List Placed) where
   abbrev own : Piece
   own = piece_at file e.offset e.header
 
-  kept_more : (l : List Packet) → goes_over e.header ≡ true → kept_entries file (e ∷ l) ≡ own ∷ kept_entries file l
+  kept_more : (l : List Placed) → goes_over e.header ≡ true → kept_entries file (e ∷ l) ≡ own ∷ kept_entries file l
   kept_more l over = ap (λ (b : Bool). cond b (own ∷ kept_entries file l) (kept_entries file l)) over
 
-  kept_out : (l : List Packet) → goes_over e.header ≡ false → kept_entries file (e ∷ l) ≡ kept_entries file l
+  kept_out : (l : List Placed) → goes_over e.header ≡ false → kept_entries file (e ∷ l) ≡ kept_entries file l
   kept_out l out = ap (λ (b : Bool). cond b (own ∷ kept_entries file l) (kept_entries file l)) out
 
   size_by : (over setup : Bool) → goes_over e.header ≡ over → eqb e.header.kind 1 ≡ setup → front_size (e ∷ es) ≡ cond (not (over && not setup)) (1 + front_size es) 0
@@ -64,44 +61,31 @@ module _ (file : List ℕ) (e : Packet) (es : List Packet) where
   behind_by false setup o s is =
       ap behind_leading (kept_out es o) ∙ is ∙ sym (ap rest (size_by false setup o s ∙ one_more (front_size es)))
 
-pub front_entries : (file : List ℕ) (es : List Packet) → leading (kept_entries file es) ≡ kept_entries file (take (front_size es) es)
+pub front_entries : (file : List ℕ) (es : List Placed) → leading (kept_entries file es) ≡ kept_entries file (take (front_size es) es)
 front_entries file [] = refl
 front_entries file (e ∷ es) = front_by file e es (goes_over e.header) (eqb e.header.kind 1) refl refl (front_entries file es)
 
-pub behind_entries : (file : List ℕ) (es : List Packet) → behind_leading (kept_entries file es) ≡ kept_entries file (drop (front_size es) es)
+pub behind_entries : (file : List ℕ) (es : List Placed) → behind_leading (kept_entries file es) ≡ kept_entries file (drop (front_size es) es)
 behind_entries file [] = refl
 behind_entries file (e ∷ es) = behind_by file e es (goes_over e.header) (eqb e.header.kind 1) refl refl (behind_entries file es)
 
-pub in_front : (file : List ℕ) (n : ℕ) (es : List Packet) → AreInFile file es → AreInFile file (take n es)
-in_front file zero es all i e is = absurd (cc)
-in_front file (suc n) [] all i e is = absurd (cc)
-in_front file (suc n) (x ∷ es) all zero e is = all zero e is
-in_front file (suc n) (x ∷ es) all (suc i) e is = in_front file n es (λ j f. all (suc j) f) i e is
+-- the same where they are parted where they no longer lead
+pub front_placed : (file : List ℕ) (es front : List Placed) (n : ℕ) → n ≡ front_size es → front ≡ take n es → leading (kept_entries file es) ≡ kept_entries file front
+front_placed file es front n size is = front_entries file es ∙ ap (λ (k : ℕ). kept_entries file (take k es)) (sym size) ∙ ap (kept_entries file) (sym is)
 
-pub in_rest : (file : List ℕ) (n : ℕ) (es : List Packet) → AreInFile file es → AreInFile file (drop n es)
-in_rest file zero es all = all
-in_rest file (suc n) [] all = all
-in_rest file (suc n) (x ∷ es) all = in_rest file n es (λ j f. all (suc j) f)
-
--- the same of packets that were found, whose entries are parted where they no longer lead
-pub front_found : (file : List ℕ) (ps : List Found) (es front : List Packet) (n : ℕ) → es ≡ listing ps → n ≡ front_size es → front ≡ take n es → leading (kept_packets file ps) ≡ kept_entries file front
-front_found file ps es front n listed size is =
-    ap leading (sym (ap (kept_entries file) listed ∙ kept_is file [] ps)) ∙ front_entries file es ∙ ap (λ (k : ℕ). kept_entries file (take k es)) (sym size) ∙ ap (kept_entries file) (sym is)
-
-pub rest_found : (file : List ℕ) (ps : List Found) (es rest : List Packet) (n : ℕ) → es ≡ listing ps → n ≡ front_size es → rest ≡ drop n es → behind_leading (kept_packets file ps) ≡ kept_entries file rest
-rest_found file ps es rest n listed size is =
-    ap behind_leading (sym (ap (kept_entries file) listed ∙ kept_is file [] ps)) ∙ behind_entries file es ∙ ap (λ (k : ℕ). kept_entries file (drop k es)) (sym size) ∙ ap (kept_entries file) (sym is)
+pub rest_placed : (file : List ℕ) (es rest : List Placed) (n : ℕ) → n ≡ front_size es → rest ≡ drop n es → behind_leading (kept_entries file es) ≡ kept_entries file rest
+rest_placed file es rest n size is = behind_entries file es ∙ ap (λ (k : ℕ). kept_entries file (drop k es)) (sym size) ∙ ap (kept_entries file) (sym is)
 
 -- a writer got those of entries that no longer are ahead
-pub record HasWritten (file : List ℕ) (es ahead : List Packet) (got gets : Option (List ℕ)) : Type 0 where
+pub record HasWritten (file : List ℕ) (es ahead : List Placed) (got gets : Option (List ℕ)) : Type 0 where
   pub done : List ℕ
   pub taken : Appends got gets done
   pub whole : done ++ bytes_of (kept_entries file ahead) ≡ bytes_of (kept_entries file es)
 
-pub none_written : (file : List ℕ) (es : List Packet) (got : Option (List ℕ)) → HasWritten file es es got got
+pub none_written : (file : List ℕ) (es : List Placed) (got : Option (List ℕ)) → HasWritten file es es got got
 none_written file es got = record { done = []; taken = appends_nothing got; whole = refl }
 
-pub one_written : (file : List ℕ) (es ahead : List Packet) (e : Packet) (got gets now : Option (List ℕ)) → goes_over e.header ≡ true → HasWritten file es (e ∷ ahead) got gets
+pub one_written : (file : List ℕ) (es ahead : List Placed) (e : Placed) (got gets now : Option (List ℕ)) → goes_over e.header ≡ true → HasWritten file es (e ∷ ahead) got gets
     → Appends gets now (piece_at file e.offset e.header).bytes → HasWritten file es ahead got now
 one_written file es ahead e got gets now over w new =
     let bytes : List ℕ = (piece_at file e.offset e.header).bytes in
@@ -112,32 +96,32 @@ one_written file es ahead e got gets now over w new =
       whole = append_assoc w.done bytes (bytes_of (kept_entries file ahead)) ∙ ap (λ (l : List ℕ). w.done ++ l) (sym front) ∙ w.whole;
     }
 
-pub one_left_out : (file : List ℕ) (es ahead : List Packet) (e : Packet) (got gets : Option (List ℕ)) → goes_over e.header ≡ false → HasWritten file es (e ∷ ahead) got gets → HasWritten file es ahead got gets
+pub one_left_out : (file : List ℕ) (es ahead : List Placed) (e : Placed) (got gets : Option (List ℕ)) → goes_over e.header ≡ false → HasWritten file es (e ∷ ahead) got gets → HasWritten file es ahead got gets
 one_left_out file es ahead e got gets out w =
     let front : bytes_of (kept_entries file (e ∷ ahead)) ≡ bytes_of (kept_entries file ahead) = ap bytes_of (kept_out file e [] ahead out) in
     record { done = w.done; taken = w.taken; whole = ap (λ (l : List ℕ). w.done ++ l) (sym front) ∙ w.whole }
 
-pub all_written : (file : List ℕ) (es : List Packet) (got gets : Option (List ℕ)) → HasWritten file es [] got gets → Appends got gets (bytes_of (kept_entries file es))
+pub all_written : (file : List ℕ) (es : List Placed) (got gets : Option (List ℕ)) → HasWritten file es [] got gets → Appends got gets (bytes_of (kept_entries file es))
 all_written file es got gets w = subst (Appends got gets) (sym (append-nil w.done) ∙ w.whole) w.taken
 
 -- the packet at a place, which is written or left out
-pub next_written : (file : List ℕ) (es : List Packet) (i : ℕ) (got gets now : Option (List ℕ)) → i < length es → ((get_or es i no_entry).header.kind ≡ 3 → ⊥) → HasWritten file es (drop i es) got gets
+pub next_written : (file : List ℕ) (es : List Placed) (i : ℕ) (got gets now : Option (List ℕ)) → i < length es → ((get_or es i no_entry).header.kind ≡ 3 → ⊥) → HasWritten file es (drop i es) got gets
     → Appends gets now (piece_in file (get_or es i no_entry)).bytes → HasWritten file es (drop (i + 1) es) got now
 next_written file es i got gets now lt other w new =
-    let e : Packet = get_or es i no_entry in
-    one_written file es (drop (i + 1) es) e got gets now (ap not (ne_eqb e.header.kind 3 other)) (subst (λ (l : List Packet). HasWritten file es l got gets) (drop_more es i no_entry lt) w) new
+    let e : Placed = get_or es i no_entry in
+    one_written file es (drop (i + 1) es) e got gets now (ap not (ne_eqb e.header.kind 3 other)) (subst (λ (l : List Placed). HasWritten file es l got gets) (drop_more es i no_entry lt) w) new
 
-pub next_left : (file : List ℕ) (es : List Packet) (i : ℕ) (got gets : Option (List ℕ)) → i < length es → (get_or es i no_entry).header.kind ≡ 3 → HasWritten file es (drop i es) got gets
+pub next_left : (file : List ℕ) (es : List Placed) (i : ℕ) (got gets : Option (List ℕ)) → i < length es → (get_or es i no_entry).header.kind ≡ 3 → HasWritten file es (drop i es) got gets
     → HasWritten file es (drop (i + 1) es) got gets
 next_left file es i got gets lt index w =
-    let e : Packet = get_or es i no_entry in
-    one_left_out file es (drop (i + 1) es) e got gets (ap not (eq-eqb e.header.kind 3 index)) (subst (λ (l : List Packet). HasWritten file es l got gets) (drop_more es i no_entry lt) w)
+    let e : Placed = get_or es i no_entry in
+    one_left_out file es (drop (i + 1) es) e got gets (ap not (eq-eqb e.header.kind 3 index)) (subst (λ (l : List Placed). HasWritten file es l got gets) (drop_more es i no_entry lt) w)
 
 bounded : (ends : Bool) (n m : ℕ) → n ≤ m → cond (not ends) (1 + n) 0 ≤ suc m
 bounded true n m le = omega arith
 bounded false n m le = omega (arith, le)
 
-pub front_within : (es : List Packet) → front_size es ≤ length es
+pub front_within : (es : List Placed) → front_size es ≤ length es
 front_within [] = omega arith
 front_within (e ∷ es) = bounded (ends_leading e.header) (front_size es) (length es) (front_within es)
 

@@ -8,7 +8,7 @@ use Rattle.std.proofs.lemmas.Bool.{eq-eqb, ne_eqb, cases_eq, ltb-false, eqb-true
 use Rattle.std.proofs.lemmas.List.Elements.{Contains-append_right, Contains-append_cases, Contains-get_or}
 use Rattle.std.proofs.lemmas.List.Sorted.{Contains-permutation, IsPermutation-sym, sum_by_pushed, sum_by_popped}
 use Rattle.std.proofs.lemmas.List.Sums.{sum_by_more_le, sum_by-le}
-use Rattle.ch11_reader.specs.declared.packet.Packet.{Packet}
+use Rattle.bench_complete.specs.declared.placed.Placed.{Placed}
 use Rattle.bench_complete.specs.declared.head.Head.{Head}
 use Rattle.bench_complete.specs.declared.times.Times.{Times}
 use Rattle.bench_complete.specs.Pieces.{Piece}
@@ -47,7 +47,7 @@ all_contained P (y ∷ ys) (suc k) x all lt is = all_contained P ys k x all.1 (o
 
 -- ---- heads
 
-module _ (file : List ℕ) (es : List Packet) (t : Times) where
+module _ (file : List ℕ) (es : List Placed) (t : Times) where
   on_own : (channel : ℕ) (h : Head) → h.channel ≡ channel → on_channel channel h ≡ 1
   on_own channel h e = rw (eq-eqb h.channel channel e) refl
 

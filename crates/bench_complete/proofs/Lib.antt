@@ -11,6 +11,9 @@ pub mod Unique
 pub mod Planned
 pub mod Alone
 pub mod Again
+pub mod Entered
+pub mod Refused
+pub mod Looking
 pub mod Added
 pub mod Readable
 pub mod Stays

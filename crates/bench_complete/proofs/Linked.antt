@@ -3,55 +3,52 @@ use Rattle.std.proofs.Common.{◌≡◌, ◌⊎◌, inl, inr, ℕ, zero, suc, �
 use Rattle.std.proofs.lemmas.Bool.{eq-eqb, ne_eqb, cases_eq}
 use Rattle.std.proofs.lemmas.List.{drop_all, length-set, length-replicate, get_or-replicate, get_or-set_same, get_or-set_other}
 use Rattle.std.proofs.lemmas.Option.{slice_get_within}
-use Rattle.ch11_reader.specs.declared.packet.Packet.{Packet}
+use Rattle.bench_complete.specs.declared.placed.Placed.{Placed}
 use Rattle.bench_complete.specs.Pieces.{Piece, goes_over, kept_entries}
 use Rattle.bench_complete.specs.Merging.{of_channel}
 use Rattle.bench_complete.specs.Lanes.{lane, piece_in, IsNext, AreLinked}
 
 -- what a place past the end is read as
-abbrev pub no_entry : Packet
+abbrev pub no_entry : Placed
 no_entry = record {
   offset = 0;
   header = record { channel = 0; packet_length = 0; data_length = 0; version = 0; sequence = 0; flags = 0; kind = 0; counter = 0 };
-  before = 0;
-  count = 0;
-  sequence_jump = false;
 }
 
-pub split_at : (es : List Packet) (i : ℕ) (e : Packet) → slice_get es i ≡ Some e → drop i es ≡ e ∷ drop (suc i) es
+pub split_at : (es : List Placed) (i : ℕ) (e : Placed) → slice_get es i ≡ Some e → drop i es ≡ e ∷ drop (suc i) es
 split_at [] i e is = absurd (cc)
-split_at (x ∷ xs) zero e is = let same : x ≡ e = cc in ap (λ (y : Packet). y ∷ xs) same
+split_at (x ∷ xs) zero e is = let same : x ≡ e = cc in ap (λ (y : Placed). y ∷ xs) same
 split_at (x ∷ xs) (suc i) e is = split_at xs i e is
 
-pub lane_left : (channel : ℕ) (e : Packet) (es : List Packet) → goes_over e.header ≡ false → lane channel (e ∷ es) ≡ lane channel es
+pub lane_left : (channel : ℕ) (e : Placed) (es : List Placed) → goes_over e.header ≡ false → lane channel (e ∷ es) ≡ lane channel es
 lane_left channel e es over = rw over refl
 
-pub lane_same : (channel : ℕ) (e : Packet) (es : List Packet) → goes_over e.header ≡ true → e.header.channel ≡ channel → lane channel (e ∷ es) ≡ e ∷ lane channel es
+pub lane_same : (channel : ℕ) (e : Placed) (es : List Placed) → goes_over e.header ≡ true → e.header.channel ≡ channel → lane channel (e ∷ es) ≡ e ∷ lane channel es
 lane_same channel e es over is = rw (over, eq-eqb e.header.channel channel is) refl
 
-pub lane_other : (channel : ℕ) (e : Packet) (es : List Packet) → goes_over e.header ≡ true → (e.header.channel ≡ channel → ⊥) → lane channel (e ∷ es) ≡ lane channel es
+pub lane_other : (channel : ℕ) (e : Placed) (es : List Placed) → goes_over e.header ≡ true → (e.header.channel ≡ channel → ⊥) → lane channel (e ∷ es) ≡ lane channel es
 lane_other channel e es over ne = rw (over, ne_eqb e.header.channel channel ne) refl
 
 -- the packets of a lane
-lane_by : (file : List ℕ) (channel : ℕ) (e : Packet) (es : List Packet) (over same : Bool) → of_channel channel (kept_entries file es) ≡ map (piece_in file) (lane channel es)
+lane_by : (file : List ℕ) (channel : ℕ) (e : Placed) (es : List Placed) (over same : Bool) → of_channel channel (kept_entries file es) ≡ map (piece_in file) (lane channel es)
     → goes_over e.header ≡ over → eqb e.header.channel channel ≡ same → of_channel channel (kept_entries file (e ∷ es)) ≡ map (piece_in file) (lane channel (e ∷ es))
 lane_by file channel e es false same behind o s = rw o behind
 lane_by file channel e es true false behind o s = rw (o, s) behind
 lane_by file channel e es true true behind o s = rw (o, s) (ap (λ (l : List Piece). piece_in file e ∷ l) behind)
 
-pub lane_is : (file : List ℕ) (channel : ℕ) (es : List Packet) → of_channel channel (kept_entries file es) ≡ map (piece_in file) (lane channel es)
+pub lane_is : (file : List ℕ) (channel : ℕ) (es : List Placed) → of_channel channel (kept_entries file es) ≡ map (piece_in file) (lane channel es)
 lane_is file channel [] = refl
 lane_is file channel (e ∷ es) = lane_by file channel e es (goes_over e.header) (eqb e.header.channel channel) (lane_is file channel es) refl refl
 
 -- ---- links
 
-past_the_end : (es : List Packet) (e : Packet) → slice_get es (length es) ≡ Some e → ⊥
+past_the_end : (es : List Placed) (e : Placed) → slice_get es (length es) ≡ Some e → ⊥
 past_the_end es e is = let within = slice_get_within es (length es) e is in omega (arith, within)
 
-at_end : (es : List Packet) (channel : ℕ) → IsNext es channel (length es) (length es)
+at_end : (es : List Placed) (channel : ℕ) → IsNext es channel (length es) (length es)
 at_end es channel = record { order = omega arith; within = omega arith; same = refl; there = λ e is. absurd (past_the_end es e is) }
 
-pub no_links : (es : List Packet) (first next : List ℕ) → first ≡ replicate 65536 (length es) → next ≡ replicate (length es) (length es) → AreLinked es (length es) first next
+pub no_links : (es : List Placed) (first next : List ℕ) → first ≡ replicate 65536 (length es) → next ≡ replicate (length es) (length es) → AreLinked es (length es) first next
 no_links es first next f n = record {
   within = omega arith;
   channels = ap length f ∙ length-replicate 65536 (length es);
@@ -61,7 +58,7 @@ no_links es first next f n = record {
   beyond = λ channel le. ap (lane channel) (drop_all (length es) es (omega arith));
 }
 
-module _ (es : List Packet) (place : ℕ) (e : Packet) (there : slice_get es place ≡ Some e) where
+module _ (es : List Placed) (place : ℕ) (e : Placed) (there : slice_get es place ≡ Some e) where
   past : (channel : ℕ) (at : ℕ) → lane channel (drop place es) ≡ lane channel (drop (suc place) es) → IsNext es channel (suc place) at → IsNext es channel place at
   past channel at same n = record { order = omega (arith, n.order); within = n.within; same = same ∙ n.same; there = n.there }
 
@@ -70,7 +67,7 @@ module _ (es : List Packet) (place : ℕ) (e : Packet) (there : slice_get es pla
     order = omega arith;
     within = let within = slice_get_within es place e there in omega (arith, within);
     same = refl;
-    there = λ x is. let same : e ≡ x = cc in subst (λ (y : Packet). (goes_over y.header ≡ true) × (y.header.channel ≡ e.header.channel)) same (over, refl);
+    there = λ x is. let same : e ≡ x = cc in subst (λ (y : Placed). (goes_over y.header ≡ true) × (y.header.channel ≡ e.header.channel)) same (over, refl);
   }
 
   -- a packet that is left out changes no link
@@ -90,11 +87,11 @@ module _ (es : List Packet) (place : ℕ) (e : Packet) (there : slice_get es pla
       skips : (channel : ℕ) → lane channel (drop place es) ≡ lane channel (drop (suc place) es)
       skips channel = ap (lane channel) (split_at es place e there) ∙ lane_left channel e (drop (suc place) es) over
 
-      not_here : (i : ℕ) (x : Packet) → i ≡ place → slice_get es i ≡ Some x → goes_over x.header ≡ true → ⊥
+      not_here : (i : ℕ) (x : Placed) → i ≡ place → slice_get es i ≡ Some x → goes_over x.header ≡ true → ⊥
       not_here i x same is goes =
           let at : slice_get es place ≡ Some x = ap (slice_get es) (sym same) ∙ is in
           let one : e ≡ x = cc in
-          let goes_here : goes_over e.header ≡ true = ap (λ (y : Packet). goes_over y.header) one ∙ goes in
+          let goes_here : goes_over e.header ≡ true = ap (λ (y : Placed). goes_over y.header) one ∙ goes in
           absurd (cc)
 
   -- a packet that goes over is linked in front of those of its channel
@@ -122,14 +119,14 @@ module _ (es : List Packet) (place : ℕ) (e : Packet) (there : slice_get es pla
       within : place < length es
       within = slice_get_within es place e there
 
-      next_by : (i : ℕ) (x : Packet) → place ≤ i → slice_get es i ≡ Some x → goes_over x.header ≡ true → (i ≡ place) ⊎ (i ≡ place → ⊥)
+      next_by : (i : ℕ) (x : Placed) → place ≤ i → slice_get es i ≡ Some x → goes_over x.header ≡ true → (i ≡ place) ⊎ (i ≡ place → ⊥)
           → IsNext es x.header.channel (suc i) (get_or (set next place (get_or first e.header.channel 0)) i 0)
       next_by i x le is goes (inl same) =
           let at : get_or (set next place (get_or first e.header.channel 0)) place 0 ≡ get_or first e.header.channel 0 = get_or-set_same next place (get_or first e.header.channel 0) 0 (omega (arith, within, a.places)) in
           let found : slice_get es place ≡ Some x = ap (slice_get es) (sym same) ∙ is in
           let one : e ≡ x = cc in
           subst (λ (k : ℕ). IsNext es x.header.channel (suc k) (get_or (set next place (get_or first e.header.channel 0)) k 0)) (sym same)
-          (subst (λ (y : Packet). IsNext es y.header.channel (suc place) (get_or (set next place (get_or first e.header.channel 0)) place 0)) one
+          (subst (λ (y : Placed). IsNext es y.header.channel (suc place) (get_or (set next place (get_or first e.header.channel 0)) place 0)) one
           (subst (IsNext es e.header.channel (suc place)) (sym at) (a.first_is e.header.channel small)))
       next_by i x le is goes (inr ne) =
           subst (IsNext es x.header.channel (suc i)) (sym (get_or-set_other next place i (get_or first e.header.channel 0) 0 ne)) (a.next_is i x (omega (arith, le, ne)) is goes)

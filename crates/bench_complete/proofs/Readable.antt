@@ -11,15 +11,15 @@ use Rattle.bench_complete.specs.declared.extent.Extent.{Extent}
 use Rattle.bench_complete.specs.declared.fault.CompleteFault.{CompleteFault}
 use Rattle.bench_complete.specs.declared.times.Times.{Times}
 use Rattle.bench_complete.specs.Pieces.{Piece, kept_packets, leading, behind_leading}
-use Rattle.bench_complete.specs.Merging.{of_channel, IsMerge}
+use Rattle.bench_complete.specs.Merging.{of_channel}
 use Rattle.bench_complete.specs.TimePackets.{time_piece, times_from, times_in}
 use Rattle.bench_complete.specs.SetupRecord.{setup_piece}
 use Rattle.bench_complete.specs.Complete.{IsComplete, plan_for, extent_of, low_of, times_between, front_of}
-use Rattle.bench_complete.specs.Judging.{AllReadAt, is_setup, judged_additions, judged_recording, misuse, unless_misused}
+use Rattle.bench_complete.specs.Judging.{AllReadAt, is_setup, judged_additions, judged_recording}
 use Rattle.bench_complete.specs.Laws.{AreOptions, ReadingStays}
 use Rattle.bench_complete.proofs.Merged.{of_channel-same, of_channel-other}
 use Rattle.bench_complete.proofs.Sound.{all_read}
-use Rattle.bench_complete.proofs.Planned.{planned, first_small, small}
+use Rattle.bench_complete.proofs.Planned.{AreBelow, first_small, found_below, low_is, low_small, small}
 use Rattle.bench_complete.proofs.Channels.{all_append, all_merged}
 use Rattle.bench_complete.proofs.Front.{channel_all}
 use Rattle.bench_complete.proofs.Again.{IsWhole, AreWhole, messages_in, found_from, read_again, heard, kept_whole, kept_heard}
@@ -52,10 +52,6 @@ front_silent (Some text) version counter channel = times_silent_by channel (setu
 sound_setup : (setup : Bool) (r : Result (List Found) CompleteFault) (f : CompleteFault) (ps : List Found) → cond setup r (Err f) ≡ Ok ps → (setup ≡ true) × (r ≡ Ok ps)
 sound_setup true r f ps is = (refl, is)
 sound_setup false r f ps is = cc
-
-not_misused : (m : Option CompleteFault) (ps : List Found) → unless_misused m ps ≡ Ok ps → m ≡ None
-not_misused None ps is = refl
-not_misused (Some f) ps is = cc
 
 channel_is : (a : Additions) (start : Option UtcSecond) (x : Option Extent) → (times_between a start x).channel ≡ a.time_channel
 channel_is a None None = refl
@@ -112,15 +108,16 @@ module _ (file bytes : List ℕ) (a : Additions) (ps : List Found) (small_bytes 
   judgement : (is_setup setup ≡ true) × (judged_recording file (Ok ps) a ≡ Ok ps)
   judgement = sound_setup (is_setup setup) (judged_recording file (Ok ps) a) _ ps sound
 
+  below : AreBelow (kept_packets file ps)
+  below = found_below file ps all
+
   low_below : low_of (extent_of parts) < 2 ^ 48
-  low_below =
-      let p = planned file ps a extent times _ all refl (not_misused (misuse file ps a) ps judgement.1) refl refl judgement.0 in
-      subst (λ (k : ℕ). k < 2 ^ 48) p.lowest p.few
+  low_below = subst (λ (k : ℕ). k < 2 ^ 48) (low_is a a.start extent (kept_packets file ps) refl) (low_small (kept_packets file ps) a extent below refl)
 
   times_end : times.first + (times.end - times.first) ≤ 28147498
   times_end =
-      let s = small file ps a extent all refl in
-      let f = first_small file ps a extent all refl in
+      let s = small (kept_packets file ps) a extent below refl in
+      let f = first_small (kept_packets file ps) a extent below refl in
       omega (arith, s.end, f)
 
   abbrev kept : List Piece

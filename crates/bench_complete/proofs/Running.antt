@@ -4,7 +4,7 @@ use Rattle.std.specs.Ordering.{is_lt}
 use Rattle.std.specs.BinaryHeap.{IsHeap, IsUpperBound, KeepsHeap, PopsGreatest}
 use Rattle.std.specs.Io.KnownBytes.{Appends}
 use Rattle.std.proofs.lemmas.List.Sorted.{Contains-permutation, IsPermutation-sym, sum_by_pushed, sum_by_popped}
-use Rattle.ch11_reader.specs.declared.packet.Packet.{Packet}
+use Rattle.bench_complete.specs.declared.placed.Placed.{Placed}
 use Rattle.bench_complete.specs.declared.head.Head.{Head}
 use Rattle.bench_complete.specs.declared.times.Times.{Times}
 use Rattle.bench_complete.specs.Pieces.{Piece, bytes_of}
@@ -24,18 +24,18 @@ pub appends_nothing : (old : Option (List ℕ)) → Appends old old []
 appends_nothing None = tt
 appends_nothing (Some xs) = sym (append-nil xs)
 
-module _ (file : List ℕ) (es : List Packet) (t : Times) where
-  -- packets were merged and written, and the heap has the heads of those that are left
+module _ (file : List ℕ) (es : List Placed) (t : Times) (known : Option (List ℕ)) where
+  -- packets were merged, and where the file is known written, and the heap has the heads of those that are left
   pub record IsMerging (heads : List Head) (got gets : Option (List ℕ)) : Type 0 where
     pub rest : ℕ → List Piece
     pub done : List Piece
     pub are : AreHeads file es t heads rest
     pub on : IsOn (parts_of file es t) rest done
     pub heap : IsHeap head_cmp heads
-    pub taken : Appends got gets (bytes_of done)
+    pub taken : known ≡ Some file → Appends got gets (bytes_of done)
 
   pub begins : (heads : List Head) (got : Option (List ℕ)) → AreHeads file es t heads (λ k. of_channel k (parts_of file es t)) → IsHeap head_cmp heads → IsMerging heads got got
-  begins heads got are heap = record { rest = λ k. of_channel k (parts_of file es t); done = []; are = are; on = nothing_done (parts_of file es t); heap = heap; taken = appends_nothing got }
+  begins heads got are heap = record { rest = λ k. of_channel k (parts_of file es t); done = []; are = are; on = nothing_done (parts_of file es t); heap = heap; taken = λ is. appends_nothing got }
 
   in_heap : (heads others : List Head) (x : Head) → IsPermutation heads (x ∷ others) → Contains heads x
   in_heap heads others x perm = Contains-permutation (x ∷ others) heads x (IsPermutation-sym heads (x ∷ others) perm) (0, omega arith, refl)
@@ -65,7 +65,7 @@ module _ (file : List ℕ) (es : List Packet) (t : Times) where
       (subst (Stands file es t n) (sym (ap (put rest x.channel ps) f.0 ∙ put-same rest x.channel ps)) (f.2 p ps s)) push
 
   pub merges_on : (heads others more : List Head) (x : Head) (got gets then : Option (List ℕ)) (r : Option Head) → (m : IsMerging heads got gets) → IsPermutation heads (x ∷ others)
-      → PopsGreatest head_cmp heads x others → ((p : Piece) (ps : List Piece) → Stands file es t x (p ∷ ps) → Appends gets then p.bytes)
+      → PopsGreatest head_cmp heads x others → (known ≡ Some file → (p : Piece) (ps : List Piece) → Stands file es t x (p ∷ ps) → Appends gets then p.bytes)
       → Follows file es t x r → Pushes r others more → KeepsHeap head_cmp others more → IsMerging more got then
   merges_on heads others more x got gets then r m perm greatest written f push keeps =
       let z = popped heads others x got gets m perm in
@@ -78,12 +78,12 @@ module _ (file : List ℕ) (es : List Packet) (t : Times) where
         are = heads_after others more x m.rest z.first z.others r (takes file es t heads others x m.rest m.are perm) s f push;
         on = one_more (parts_of file es t) m.rest m.done x.channel z.first z.others z.is own (stands_first heads m.rest x z.first z.others m.are s g.1) m.on;
         heap = keeps g.0;
-        taken = subst (Appends got then) (sym (bytes_of-push m.done z.first)) (appends_both got gets then (bytes_of m.done) z.first.bytes m.taken (written z.first z.others s));
+        taken = λ is. subst (Appends got then) (sym (bytes_of-push m.done z.first)) (appends_both got gets then (bytes_of m.done) z.first.bytes (m.taken is) (written is z.first z.others s));
       }
 
-  pub merged : (heads : List Head) (got gets : Option (List ℕ)) → length heads ≡ 0 → IsMerging heads got gets → Merges (parts_of file es t) got gets
-  merged [] got gets none m = record { merged = m.done; merge = all_done (parts_of file es t) m.rest m.done (none_left file es t m.rest m.are) m.on; taken = m.taken }
-  merged (h ∷ hs) got gets none m = absurd (omega (arith, none))
+  pub merged : (heads : List Head) (got gets : Option (List ℕ)) → length heads ≡ 0 → IsMerging heads got gets → known ≡ Some file → Merges (parts_of file es t) got gets
+  merged [] got gets none m is = record { merged = m.done; merge = all_done (parts_of file es t) m.rest m.done (none_left file es t m.rest m.are) m.on; taken = m.taken is }
+  merged (h ∷ hs) got gets none m is = absurd (omega (arith, none))
 
   -- each step leaves fewer
   pub fewer : (heads others more : List Head) (x : Head) (r : Option Head) → IsPermutation heads (x ∷ others) → 0 < steps es t x → Follows file es t x r → Pushes r others more

@@ -10,14 +10,13 @@ use Rattle.ch11_header.specs.HeaderReading.{header_in, fields_of, with_lawful_le
 use Rattle.ch11_f1.specs.declared.error.BodyError.{BodyError}
 use Rattle.ch11_f1.specs.BodyReading.{Message, messages_in}
 use Rattle.ch11_reader.specs.declared.error.Fault.{Fault}
-use Rattle.ch11_reader.specs.declared.packet.Packet.{Packet}
-use Rattle.ch11_reader.specs.Listing.{listed_behind, listing_behind}
 use Rattle.ch11_reader.specs.Recording.{Found, holds_messages, body_of, packet_messages, with_body, with_rest, with_header, packet_at, packets_from, packets_in}
 use Rattle.ch11_reader.specs.Skipping.{stretches_from, packets_among, packets_read, first_stretch, first_size}
 use Rattle.ch11_reader.proofs.Joined.{first_of, nothing_found}
 use Rattle.bench_complete.specs.Pieces.{Piece, piece_at, goes_over, kept_packets, kept_entries}
 use Rattle.bench_complete.specs.Judging.{ReadsAt, AllReadAt}
-use Rattle.bench_complete.specs.Lanes.{AreInFile}
+use Rattle.bench_complete.specs.Listing.{places_of}
+use Rattle.bench_complete.specs.declared.placed.Placed.{Placed}
 
 -- ---- a header's counter
 
@@ -132,19 +131,12 @@ read_stretches (suc most) offset file (b ∷ bs) small behind =
 pub all_stretches_read : (file : List ℕ) → AreBytes file → AllReadAt file (packets_read file)
 all_stretches_read file small = read_stretches (length file) 0 file file small refl
 
--- ---- the entries of an index
+-- ---- where packets stand
 
-pub kept_is : (file : List ℕ) (earlier ps : List Found) → kept_entries file (listing_behind earlier ps) ≡ kept_packets file ps
-kept_is file earlier [] = refl
-kept_is file earlier (p ∷ ps) = ap (λ (l : List Piece). cond (goes_over p.header) (piece_at file p.offset p.header ∷ l) l) (kept_is file (p ∷ earlier) ps)
+pub kept_is : (file : List ℕ) (ps : List Found) → kept_entries file (places_of ps) ≡ kept_packets file ps
+kept_is file [] = refl
+kept_is file (p ∷ ps) = ap (λ (l : List Piece). cond (goes_over p.header) (piece_at file p.offset p.header ∷ l) l) (kept_is file ps)
 
-pub any_is : (test : ℕ → Header → Bool) (earlier ps : List Found) → list_any (λ (e : Packet). test e.offset e.header) (listing_behind earlier ps) ≡ list_any (λ (p : Found). test p.offset p.header) ps
-any_is test earlier [] = refl
-any_is test earlier (p ∷ ps) = ap (λ (b : Bool). test p.offset p.header || b) (any_is test (p ∷ earlier) ps)
-
-pub in_file : (file : List ℕ) (earlier ps : List Found) → AllReadAt file ps → AreInFile file (listing_behind earlier ps)
-in_file file earlier [] all i e is = absurd (cc)
-in_file file earlier (p ∷ ps) all zero e is =
-    let same : listed_behind earlier p ≡ e = cc in
-    subst (λ (x : Packet). x.offset + x.header.packet_length ≤ length file) same all.0.within
-in_file file earlier (p ∷ ps) all (suc i) e is = in_file file (p ∷ earlier) ps all.1 i e is
+pub any_is : (test : Header → Bool) (ps : List Found) → list_any (λ (e : Placed). test e.header) (places_of ps) ≡ list_any (λ (p : Found). test p.header) ps
+any_is test [] = refl
+any_is test (p ∷ ps) = ap (λ (b : Bool). test p.header || b) (any_is test ps)

@@ -1,10 +1,12 @@
 -- What a head stands for.
-use Rattle.std.proofs.Common.{◌≡◌, ◌⊎◌, inl, inr, ℕ, zero, suc, ◌+◌, ◌-◌, ◌<◌, ◌≤◌, Bool, cond, eqb, ltb, List, [], ◌∷◌, ◌++◌, length, map, drop, get_or, Option, None, Some, MatchOption, refl, sym, ap, subst, ◌∙◌, append-nil, arith}
+use Rattle.std.proofs.Common.{◌≡◌, ◌⊎◌, inl, inr, ℕ, zero, suc, ◌+◌, ◌-◌, ◌<◌, ◌≤◌, Bool, cond, eqb, ltb, List, [], ◌∷◌, ◌++◌, length, map, drop, get_or, slice_get, Option, None, Some, MatchOption, Result, Ok, Err, refl, sym, ap, subst, ◌∙◌, append-nil, arith}
 use Rattle.std.proofs.lemmas.Bool.{lt-ltb, le-ltb, cases_eq, cases_lt}
 use Rattle.std.proofs.lemmas.List.{drop_all, get_or_default}
 use Rattle.std.proofs.lemmas.List.Elements.{filter-append}
 use Rattle.std.proofs.lemmas.Option.{slice_get_within}
-use Rattle.ch11_reader.specs.declared.packet.Packet.{Packet}
+use Rattle.std.specs.Result.{OnOk}
+use Rattle.std.specs.Io.KnownBytes.{Appends}
+use Rattle.bench_complete.specs.declared.placed.Placed.{Placed}
 use Rattle.bench_complete.specs.declared.head.Head.{Head}
 use Rattle.bench_complete.specs.declared.head.Source.{Source}
 use Rattle.bench_complete.specs.declared.head.Source.TheVariants.{Recorded, Time}
@@ -12,17 +14,17 @@ use Rattle.bench_complete.specs.declared.times.Times.{Times}
 use Rattle.bench_complete.specs.Pieces.{Piece, kept_entries}
 use Rattle.bench_complete.specs.Merging.{of_channel}
 use Rattle.bench_complete.specs.TimePackets.{time_piece, times_from, times_in}
-use Rattle.bench_complete.specs.Lanes.{lane, piece_in, IsNext, AreLinked, IsRecordedHead, IsTimed, IsFrom, Stands, Follows, Pushes, AreHeads, begun, parts_of, steps, steps_by}
+use Rattle.bench_complete.specs.Lanes.{lane, piece_in, IsNext, AreLinked, IsRecordedHead, IsTimed, IsFrom, IsThere, Stands, Follows, Pushes, AreHeads, begun, parts_of, steps, steps_by}
 use Rattle.bench_complete.proofs.Merged.{of_channel-same, of_channel-other}
 use Rattle.bench_complete.proofs.Linked.{split_at, lane_same, lane_is}
 use Rattle.bench_complete.proofs.Heads.{no_heads, same_heads, adds}
 
 -- ---- packets of a recording
 
-pub stands_recorded : (file : List ℕ) (es : List Packet) (t : Times) (channel i place : ℕ) (h : Head) → IsNext es channel i place → IsRecordedHead es place h
+pub stands_recorded : (file : List ℕ) (es : List Placed) (t : Times) (channel i place : ℕ) (h : Head) → IsNext es channel i place → IsRecordedHead es place h
     → (h.channel ≡ channel) × Stands file es t h (map (piece_in file) (lane channel (drop i es)))
 stands_recorded file es t channel i place h n r =
-    let e : Packet = r.entry in
+    let e : Placed = r.entry in
     let at = n.there e r.there in
     let own : h.channel ≡ channel = r.channel ∙ at.1 in
     let lanes : lane channel (drop i es) ≡ e ∷ lane channel (drop (suc place) es) =
@@ -38,7 +40,7 @@ stands_recorded file es t channel i place h n r =
       },
     )
 
-pub no_next : (es : List Packet) (channel i place : ℕ) → IsNext es channel i place → length es ≤ place → lane channel (drop i es) ≡ []
+pub no_next : (es : List Placed) (channel i place : ℕ) → IsNext es channel i place → length es ≤ place → lane channel (drop i es) ≡ []
 no_next es channel i place n le = n.same ∙ ap (lane channel) (drop_all place es le)
 
 -- ---- time packets
@@ -54,7 +56,7 @@ module _ (t : Times) where
   times_off channel ne (suc count) second =
       of_channel-other channel (time_piece t second) (times_from t count (second + 1)) ne ∙ times_off channel ne count (second + 1)
 
-pub stands_timed : (file : List ℕ) (es : List Packet) (t : Times) (second : ℕ) (h : Head) → t.first ≤ second → IsTimed t second h → Stands file es t h (times_from t (t.end - second) second)
+pub stands_timed : (file : List ℕ) (es : List Placed) (t : Times) (second : ℕ) (h : Head) → t.first ≤ second → IsTimed t second h → Stands file es t h (times_from t (t.end - second) second)
 stands_timed file es t second h low r =
     let count : t.end - second ≡ suc (t.end - (second + 1)) = omega (arith, r.within) in
     record {
@@ -67,19 +69,24 @@ stands_timed file es t second h low r =
 
 -- ---- what follows
 
-front : (file : List ℕ) (es : List Packet) (t : Times) (h : Head) (s : Source) (p : Piece) (ps : List Piece) → h.source ≡ s → (z : Stands file es t h (p ∷ ps)) → IsFrom file es t h.channel s p ps
+get_or_there : (es : List Placed) (place : ℕ) (e other : Placed) → slice_get es place ≡ Some e → get_or es place other ≡ e
+get_or_there [] place e other is = absurd (cc)
+get_or_there (x ∷ es) zero e other is = cc
+get_or_there (x ∷ es) (suc place) e other is = get_or_there es place e other is
+
+front : (file : List ℕ) (es : List Placed) (t : Times) (h : Head) (s : Source) (p : Piece) (ps : List Piece) → h.source ≡ s → (z : Stands file es t h (p ∷ ps)) → IsFrom file es t h.channel s p ps
 front file es t h s p ps e z =
     let one : z.first ≡ p = cc in
     let others : z.others ≡ ps = cc in
     subst (λ (x : Source). IsFrom file es t h.channel x p ps) e (subst (λ (l : List Piece). IsFrom file es t h.channel h.source p l) others
     (subst (λ (q : Piece). IsFrom file es t h.channel h.source q z.others) one z.from))
 
-front_channel : (file : List ℕ) (es : List Packet) (t : Times) (h : Head) (p : Piece) (ps : List Piece) → (z : Stands file es t h (p ∷ ps)) → h.channel ≡ p.header.channel
+front_channel : (file : List ℕ) (es : List Placed) (t : Times) (h : Head) (p : Piece) (ps : List Piece) → (z : Stands file es t h (p ∷ ps)) → h.channel ≡ p.header.channel
 front_channel file es t h p ps z =
     let one : z.first ≡ p = cc in
     z.ahead.channel ∙ ap (λ (q : Piece). q.header.channel) one
 
-module _ (file : List ℕ) (es : List Packet) (t : Times) (first next : List ℕ) (links : AreLinked es 0 first next) where
+module _ (file : List ℕ) (es : List Placed) (t : Times) (first next : List ℕ) (links : AreLinked es 0 first next) where
   next_of : (h : Head) (place : ℕ) (p : Piece) (ps : List Piece) → h.source ≡ Recorded place → Stands file es t h (p ∷ ps)
       → IsNext es h.channel (suc place) (get_or next place 0) × (place < length es) × (ps ≡ map (piece_in file) (lane h.channel (drop (suc place) es)))
   next_of h place p ps e z =
@@ -111,19 +118,58 @@ module _ (file : List ℕ) (es : List Packet) (t : Times) (first next : List ℕ
       let same : at ≡ get_or next place 0 = is ∙ get_or_default next place at 0 (omega (arith, n.1, links.places)) in
       follows_recorded h place rest r e stands (subst (λ (k : ℕ). MatchOption r (length es ≤ k) (IsRecordedHead es k)) same m)
 
+module _ (file : List ℕ) (es : List Placed) (t : Times) (h : Head) where
+  -- a head stands for a packet of the recording, or for a time packet
+  from_source : (s : Source) (rest : List Piece) → h.source ≡ s → (z : Stands file es t h rest) → IsFrom file es t h.channel s z.first z.others
+  from_source s rest e z = subst (λ (x : Source). IsFrom file es t h.channel x z.first z.others) e z.from
+
+  there_by : (s : Source) (rest : List Piece) → h.source ≡ s → Stands file es t h rest → IsThere es t s
+  there_by (Recorded place) rest e z = let f = from_source (Recorded place) rest e z in slice_get_within es place f.0 f.1
+  there_by (Time second) rest e z = let (low, within, is, others) = from_source (Time second) rest e z in (low, within)
+
+  pub is_there : (rest : List Piece) → Stands file es t h rest → IsThere es t h.source
+  is_there rest z = there_by h.source rest refl z
+
+  -- the packet of a head
+  own_recorded : (place : ℕ) (other : Placed) (p : Piece) (ps : List Piece) → h.source ≡ Recorded place → Stands file es t h (p ∷ ps) → p ≡ piece_in file (get_or es place other)
+  own_recorded place other p ps e z =
+      let (entry, there, over, is, others) = front file es t h (Recorded place) p ps e z in
+      is ∙ ap (piece_in file) (sym (get_or_there es place entry other there))
+
+  pub follows_timed : (second : ℕ) (rest : List Piece) (r : Option Head) → h.source ≡ Time second → Stands file es t h rest → MatchOption r (t.end ≤ second + 1) (IsTimed t (second + 1)) → Follows file es t h r
+  follows_timed second rest None e z m = λ p ps y.
+      let (low, within, is, others) = front file es t h (Time second) p ps e y in
+      let none : t.end - (second + 1) ≡ 0 = omega (arith, m) in
+      others ∙ ap (λ (k : ℕ). times_from t k (second + 1)) none
+  follows_timed second rest (Some x) e z m =
+      let (low, within, is, behind) = from_source (Time second) rest e z in
+      let fewer : t.end - (second + 1) < t.end - second = omega (arith, within) in (
+        m.channel ∙ sym (z.ahead.channel ∙ ap (λ (q : Piece). q.header.channel) is),
+        subst (λ (s : Source). steps_by es t s < steps es t h) (sym m.source) (subst (λ (s : Source). t.end - (second + 1) < steps_by es t s) (sym e) fewer),
+        λ p ps y.
+            let (low, within, is, others) = front file es t h (Time second) p ps e y in
+            subst (Stands file es t x) (sym others) (stands_timed file es t (second + 1) x (omega (arith, low)) m),
+      )
+
+-- what was written of a packet of the recording is what its head stands for
+pub own_written : {E : Type 0} (r : Result (Unit {0}) E) (es : List Placed) (t : Times) (h : Head) (place : ℕ) (other : Placed) (known got gets : Option (List ℕ)) → h.source ≡ Recorded place
+    → OnOk r ((file : List ℕ) → known ≡ Some file → Appends got gets (piece_in file (get_or es place other)).bytes)
+    → OnOk r ((file : List ℕ) → known ≡ Some file → (p : Piece) (ps : List Piece) → Stands file es t h (p ∷ ps) → Appends got gets p.bytes)
+own_written (Ok u) es t h place other known got gets e w = λ file is p ps z. subst (λ (q : Piece). Appends got gets q.bytes) (sym (own_recorded file es t h place other p ps e z)) (w file is)
+own_written (Err f) es t h place other known got gets e w = w
+
 -- a head has a step left
-pub some_step : (file : List ℕ) (es : List Packet) (t : Times) (h : Head) (s : Source) (rest : List Piece) → h.source ≡ s → Stands file es t h rest → 0 < steps es t h
+pub some_step : (file : List ℕ) (es : List Placed) (t : Times) (h : Head) (s : Source) (rest : List Piece) → h.source ≡ s → Stands file es t h rest → 0 < steps es t h
 some_step file es t h (Recorded place) rest e stands =
-    let f : IsFrom file es t h.channel (Recorded place) stands.first stands.others = subst (λ (x : Source). IsFrom file es t h.channel x stands.first stands.others) e stands.from in
-    let within = slice_get_within es place f.0 f.1 in
+    let within = there_by file es t h (Recorded place) rest e stands in
     subst (λ (x : Source). 0 < steps_by es t x) (sym e) (omega (arith, within))
 some_step file es t h (Time second) rest e stands =
-    let f : IsFrom file es t h.channel (Time second) stands.first stands.others = subst (λ (x : Source). IsFrom file es t h.channel x stands.first stands.others) e stands.from in
-    subst (λ (x : Source). 0 < steps_by es t x) (sym e) (omega (arith, f.1))
+    let within = there_by file es t h (Time second) rest e stands in
+    subst (λ (x : Source). 0 < steps_by es t x) (sym e) (omega (arith, within.1))
 
 -- ---- the first heads
 
-pub time_heads : (file : List ℕ) (es : List Packet) (t : Times) (r : Option Head) (new : List Head) → MatchOption r (t.end ≤ t.first) (IsTimed t t.first) → Pushes r [] new → AreHeads file es t new (begun file es t 0)
+pub time_heads : (file : List ℕ) (es : List Placed) (t : Times) (r : Option Head) (new : List Head) → MatchOption r (t.end ≤ t.first) (IsTimed t t.first) → Pushes r [] new → AreHeads file es t new (begun file es t 0)
 time_heads file es t None new m p =
     let none : t.end - t.first ≡ 0 = omega (arith, m) in
     let nothing : times_in t ≡ [] = ap (λ (k : ℕ). times_from t k t.first) none in
@@ -136,7 +182,7 @@ time_heads file es t (Some h) new m p =
     (λ k ne. sym (ap (λ (l : List Piece). of_channel k (times_in t) ++ l) (none k) ∙ append-nil (of_channel k (times_in t)) ∙ times_off t k (λ e. ne (sym e ∙ sym m.channel)) (t.end - t.first) t.first))
     (subst (Stands file es t h) (sym (ap (begun file es t 0) m.channel ∙ own)) (stands_timed file es t t.first h (omega arith) m)) p
 
-module _ (file : List ℕ) (es : List Packet) (t : Times) where
+module _ (file : List ℕ) (es : List Placed) (t : Times) where
   -- the channel itself comes in, and the others stay
   begun_more : (channel k : ℕ) → (k ≡ channel → ⊥) → begun file es t channel k ≡ begun file es t (channel + 1) k
   begun_more channel k ne = ap (λ (b : Bool). of_channel k (times_in t) ++ cond b (of_channel k (kept_entries file es)) []) (elim (cases_lt k channel) [
@@ -168,7 +214,7 @@ module _ (file : List ℕ) (es : List Packet) (t : Times) where
   channel_heads channel place None heads new free n m p a =
       let none : lane channel es ≡ [] = no_next es channel 0 place n m in
       let same : begun file es t channel channel ≡ begun file es t (channel + 1) channel =
-      begun_before channel ∙ sym (begun_with channel ∙ ap (λ (l : List Packet). of_channel channel (times_in t) ++ map (piece_in file) l) none ∙ append-nil (of_channel channel (times_in t))) in
+      begun_before channel ∙ sym (begun_with channel ∙ ap (λ (l : List Placed). of_channel channel (times_in t) ++ map (piece_in file) l) none ∙ append-nil (of_channel channel (times_in t))) in
       subst (λ (l : List Head). AreHeads file es t l (begun file es t (channel + 1))) (sym p) (same_heads file es t heads (begun file es t channel) (begun file es t (channel + 1))
       (λ k. elim (cases_eq k channel) [ inl is ↦ ap (begun file es t channel) is ∙ same ∙ ap (begun file es t (channel + 1)) (sym is) | inr ne ↦ begun_more channel k ne ]) a)
   channel_heads channel place (Some h) heads new free n m p a =

@@ -6,8 +6,9 @@ use Rattle.ch11_reader.specs.Recording.{Found}
 use Rattle.bench_complete.specs.declared.additions.Additions.{Additions}
 use Rattle.bench_complete.specs.declared.additions.UtcSecond.{UtcSecond}
 use Rattle.bench_complete.specs.declared.extent.Extent.{Extent}
+use Rattle.bench_complete.specs.declared.placed.Placed.{Placed}
 use Rattle.bench_complete.specs.declared.times.Times.{Times}
-use Rattle.bench_complete.specs.Pieces.{Piece, bytes_of, kept_packets, leading, behind_leading}
+use Rattle.bench_complete.specs.Pieces.{Piece, bytes_of, kept_entries, kept_packets, leading, behind_leading}
 use Rattle.bench_complete.specs.Merging.{IsMerge}
 use Rattle.bench_complete.specs.TimePackets.{times_in}
 use Rattle.bench_complete.specs.SetupRecord.{setup_piece}
@@ -68,6 +69,10 @@ plan_of setup version times kept = record {
   front = setup_pieces setup version (times ++ kept) ++ leading kept;
   parts = times ++ behind_leading kept;
 }
+
+-- the plan for packets of a file by where they stand
+abbrev pub plan_by : Option (List ℕ) → Times → List Placed → List ℕ → Plan
+plan_by setup t es file = plan_of setup t.version (times_in t) (kept_entries file es)
 
 -- the plan for the packets of a file and what is to be added
 abbrev pub plan_for : List ℕ → List Found → Additions → Plan

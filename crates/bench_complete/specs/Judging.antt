@@ -6,15 +6,15 @@ use Rattle.std.specs.List.{list_any, AllByRecursion}
 use Rattle.ch11_header.specs.Kinds.{setup_record, time_data}
 use Rattle.ch11_header.specs.declared.header.Header.{Header}
 use Rattle.ch11_reader.specs.declared.error.Refusal.{Refusal}
-use Rattle.ch11_reader.specs.declared.packet.Packet.{Packet}
 use Rattle.ch11_reader.specs.Recording.{Found, body_of, found_or_none, packet_messages, packet_at}
 use Rattle.bench_clock.specs.TimeBody.{is_time_body}
 use Rattle.bench_complete.specs.declared.additions.Additions.{Additions}
 use Rattle.bench_complete.specs.declared.extent.Extent.{Extent}
 use Rattle.bench_complete.specs.declared.fault.CompleteFault.{CompleteFault}
 use Rattle.bench_complete.specs.declared.fault.CompleteFault.TheVariants as faults
+use Rattle.bench_complete.specs.declared.placed.Placed.{Placed}
 use Rattle.bench_complete.specs.declared.times.Times.{Times}
-use Rattle.bench_complete.specs.Pieces.{kept_packets}
+use Rattle.bench_complete.specs.Pieces.{kept_entries, kept_packets}
 use Rattle.bench_complete.specs.Merging.{of_channel}
 use Rattle.bench_complete.specs.TimePackets.{times_in}
 use Rattle.bench_complete.specs.Complete.{Plan, Completes, plan_for, extent_of, low_of}
@@ -28,10 +28,14 @@ has_kind kind ps = list_any (λ (p : Found). p.header.kind == kind) ps
 abbrev pub has_channel : ℕ → List Found → Bool
 has_channel channel ps = list_any (λ (p : Found). p.header.channel == channel) ps
 
--- the packet with this header at an offset of a file tells the time of day: it is of type 11, and its body that of a
+-- the packet with this header that begins these bytes tells the time of day: it is of type 11, and its body that of a
 -- time packet
+abbrev pub tells_time_by : Header → List ℕ → Bool
+tells_time_by h bytes = (h.kind == time_data) && is_time_body (body_of h bytes)
+
+-- the packet with this header at an offset of a file does
 abbrev pub tells_time : List ℕ → ℕ → Header → Bool
-tells_time file offset h = (h.kind == time_data) && is_time_body (body_of h (drop offset file))
+tells_time file offset h = tells_time_by h (drop offset file)
 
 -- a time packet is among them
 abbrev pub has_time : List ℕ → List Found → Bool
@@ -65,12 +69,12 @@ misuse file ps a = misuse_of (is_some a.setup && has_kind setup_record ps)
     (is_some a.start && has_channel a.time_channel ps)
     (is_some a.start && is_too_long (extent_of (kept_packets file ps)))
 
--- the same by the entries of an index
-abbrev pub misuse_by : List ℕ → List Packet → Additions → Option Extent → Option CompleteFault
-misuse_by file es a x =
-    misuse_of (is_some a.setup && list_any (λ (e : Packet). e.header.kind == setup_record) es)
-    (is_timed_twice a (list_any (λ (e : Packet). tells_time file e.offset e.header) es))
-    (is_some a.start && list_any (λ (e : Packet). e.header.channel == a.time_channel) es)
+-- the same by where the packets stand, whether a time packet is among them, and their extent
+abbrev pub misuse_by : List Placed → Bool → Additions → Option Extent → Option CompleteFault
+misuse_by es timed a x =
+    misuse_of (is_some a.setup && list_any (λ (e : Placed). e.header.kind == setup_record) es)
+    (is_timed_twice a timed)
+    (is_some a.start && list_any (λ (e : Placed). e.header.channel == a.time_channel) es)
     (is_some a.start && is_too_long x)
 
 abbrev pub unless_misused : Option CompleteFault → List Found → Result (List Found) CompleteFault
@@ -87,11 +91,11 @@ abbrev pub judged_additions : List ℕ → Result (List Found) Refusal → Addit
 judged_additions file read a =
     if is_setup (option_map (λ text. text.now) a.setup) then judged_recording file read a else Err faults.SetupSize
 
--- what each refusal of judging says: it is the first fault; want of memory only where the size of the setup text is
--- right and the recording can be read
+-- what each refusal of judging says: it is the first fault; want of memory, and a reader that fails, may come with any
+-- recording, but only where the size of the setup text is right
 abbrev pub RefusesCompletion : List ℕ → Result (List Found) Refusal → Additions → CompleteFault → Type 0
-RefusesCompletion file read a faults.Memory = (is_setup (option_map (λ text. text.now) a.setup) ≡ true)
-    × (read ≡ Ok (found_or_none read))
+RefusesCompletion file read a faults.Memory = is_setup (option_map (λ text. text.now) a.setup) ≡ true
+RefusesCompletion file read a faults.Reader = is_setup (option_map (λ text. text.now) a.setup) ≡ true
 RefusesCompletion file read a faults.SetupSize = judged_additions file read a ≡ Err faults.SetupSize
 RefusesCompletion file read a (faults.Refused r) = judged_additions file read a ≡ Err (faults.Refused r)
 RefusesCompletion file read a faults.SetupTwice = judged_additions file read a ≡ Err faults.SetupTwice
@@ -101,13 +105,13 @@ RefusesCompletion file read a faults.TooLong = judged_additions file read a ≡ 
 RefusesCompletion file read a faults.Device = ⊥
 
 -- what judging comes to: a plan, or a refusal
-abbrev pub Plans : List ℕ → Result (List Found) Refusal → Additions → Result Plan CompleteFault → Type 0
-Plans file read a (Ok c) = (ps : List Found) × (judged_additions file read a ≡ Ok ps) × (c ≡ plan_for file ps a)
+abbrev pub Plans : List ℕ → Result (List Found) Refusal → Additions → Result (Option Plan) CompleteFault → Type 0
+Plans file read a (Ok c) = (ps : List Found) × (judged_additions file read a ≡ Ok ps) × (c ≡ Some (plan_for file ps a))
 Plans file read a (Err f) = RefusesCompletion file read a f
 
--- what stops the writing of a file: want of memory, or the writer
+-- what stops the writing of a file: want of memory, the reader or the writer
 abbrev pub StopsWriting : CompleteFault → Type 0
-StopsWriting f = (f ≡ faults.Memory) ⊎ (f ≡ faults.Device)
+StopsWriting f = (f ≡ faults.Memory) ⊎ ((f ≡ faults.Reader) ⊎ (f ≡ faults.Device))
 
 -- what completing a recording fails with: a refusal of judging; or where nothing is refused, what stops the writing
 abbrev pub Fails : List ℕ → Result (List Found) Refusal → Additions → CompleteFault → Type 0
@@ -124,13 +128,12 @@ pub record ReadsAt (file : List ℕ) (p : Found) : Type 0 where
 abbrev pub AllReadAt : List ℕ → List Found → Type 0
 AllReadAt file ps = AllByRecursion (ReadsAt file) ps
 
--- what a plan rests on
-pub record IsPlanned (file : List ℕ) (ps : List Found) (t : Times) (low : ℕ) (setup : Option (List ℕ)) : Type 0 where
-  pub sound : AllReadAt file ps
+-- what a plan rests on, whatever the bytes of the packets are
+pub record IsPlanned (es : List Placed) (t : Times) (low : ℕ) (setup : Option (List ℕ)) : Type 0 where
   pub small : IsSmall t
-  pub lowest : low ≡ low_of (extent_of (times_in t ++ kept_packets file ps))
+  pub lowest : (file : List ℕ) → low ≡ low_of (extent_of (times_in t ++ kept_entries file es))
   pub few : low < 2 ^ 48
-  pub free : t.first < t.end → of_channel t.channel (kept_packets file ps) ≡ []
+  pub free : (file : List ℕ) → t.first < t.end → of_channel t.channel (kept_entries file es) ≡ []
   pub text : is_setup setup ≡ true
 
 -- a recording that could be read was completed: a writer got the file of its plan

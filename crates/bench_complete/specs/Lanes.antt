@@ -1,48 +1,49 @@
 -- The packets that each channel still has to give, and the heads of the channels.
 use Rattle.std.specs.Prelude.{◌≡◌, ℕ, suc, ◌+◌, ◌-◌, ◌*◌, ◌<◌, ◌≤◌, ◌==◌, ◌&&◌, true, if◌then◌else◌, List, [], ◌∷◌}
-use Rattle.std.specs.Prelude.{◌++◌, length, map, drop, sum_by, slice_get, slice_index, nat_lt, None, Some, Contains}
+use Rattle.std.specs.Prelude.{◌++◌, length, map, take, drop, sum_by, slice_get, slice_index, nat_lt, None, Some}
+use Rattle.std.specs.Prelude.{Contains}
 use Rattle.std.specs.List.Sorted.{IsPermutation}
 use Rattle.std.specs.Ordering.{nat_cmp, on, flip_args, then_cmp}
 use Rattle.std.specs.declared.cmp.Ordering.{Ordering}
 use Rattle.std.specs.declared.option.Option.{Option}
 use Rattle.std.specs.Io.KnownBytes.{Appends}
-use Rattle.ch11_reader.specs.declared.packet.Packet.{Packet}
 use Rattle.bench_complete.specs.declared.head.Head.{Head}
 use Rattle.bench_complete.specs.declared.head.Source.{Source}
 use Rattle.bench_complete.specs.declared.head.Source.TheVariants.{Recorded, Time}
+use Rattle.bench_complete.specs.declared.placed.Placed.{Placed}
 use Rattle.bench_complete.specs.declared.times.Times.{Times}
 use Rattle.bench_complete.specs.Pieces.{Piece, piece_at, goes_over, bytes_of, kept_entries}
 use Rattle.bench_complete.specs.Merging.{of_channel, turn, IsMerge}
 use Rattle.bench_complete.specs.TimePackets.{time_piece, times_from, times_in}
 
 -- the entries of a channel that go over
-abbrev pub lane : ℕ → List Packet → List Packet
+abbrev pub lane : ℕ → List Placed → List Placed
 lane channel [] = []
 lane channel (e ∷ es) = if goes_over e.header && (e.header.channel == channel) then e ∷ lane channel es
     else lane channel es
 
 -- the packet of a file that an entry tells of
-abbrev pub piece_in : List ℕ → Packet → Piece
+abbrev pub piece_in : List ℕ → Placed → Piece
 piece_in file e = piece_at file e.offset e.header
 
--- each entry's packet ends in the file
-abbrev pub AreInFile : List ℕ → List Packet → Type 0
-AreInFile file es = (i : ℕ) (e : Packet) → slice_get es i ≡ Some e → e.offset + e.header.packet_length ≤ length file
+-- these bytes stand in a file at an offset
+abbrev pub StandsAt : List ℕ → ℕ → List ℕ → Type 0
+StandsAt file offset bytes = bytes ≡ take (length bytes) (drop offset file)
 
 -- the first packet of a channel from a place on stands at another; that is the number of packets where there is none
-pub record IsNext (es : List Packet) (channel from place : ℕ) : Type 0 where
+pub record IsNext (es : List Placed) (channel from place : ℕ) : Type 0 where
   pub order : from ≤ place
   pub within : place ≤ length es
   pub same : lane channel (drop from es) ≡ lane channel (drop place es)
-  pub there : (e : Packet) → slice_get es place ≡ Some e → (goes_over e.header ≡ true) × (e.header.channel ≡ channel)
+  pub there : (e : Placed) → slice_get es place ≡ Some e → (goes_over e.header ≡ true) × (e.header.channel ≡ channel)
 
 -- packets are linked from a place on: each channel's first, and the next of its channel behind each
-pub record AreLinked (es : List Packet) (from : ℕ) (first next : List ℕ) : Type 0 where
+pub record AreLinked (es : List Placed) (from : ℕ) (first next : List ℕ) : Type 0 where
   pub within : from ≤ length es
   pub channels : length first ≡ 65536
   pub places : length next ≡ length es
   pub first_is : (channel : ℕ) → channel < 65536 → IsNext es channel from (slice_index first channel)
-  pub next_is : (i : ℕ) (e : Packet) → from ≤ i → slice_get es i ≡ Some e → goes_over e.header ≡ true
+  pub next_is : (i : ℕ) (e : Placed) → from ≤ i → slice_get es i ≡ Some e → goes_over e.header ≡ true
       → IsNext es e.header.channel (suc i) (slice_index next i)
   pub beyond : (channel : ℕ) → 65536 ≤ channel → lane channel (drop from es) ≡ []
 
@@ -53,25 +54,30 @@ pub record IsAhead (h : Head) (p : Piece) : Type 0 where
   pub channel : h.channel ≡ p.header.channel
 
 -- a packet and those of its channel behind it, by where it comes from
-abbrev pub IsFrom : List ℕ → List Packet → Times → ℕ → Source → Piece → List Piece → Type 0
+abbrev pub IsFrom : List ℕ → List Placed → Times → ℕ → Source → Piece → List Piece → Type 0
 IsFrom file es t channel (Recorded place) p ps =
-    (e : Packet) × (slice_get es place ≡ Some e) × (goes_over e.header ≡ true) × (p ≡ piece_in file e)
+    (e : Placed) × (slice_get es place ≡ Some e) × (goes_over e.header ≡ true) × (p ≡ piece_in file e)
     × (ps ≡ map (piece_in file) (lane channel (drop (suc place) es)))
 IsFrom file es t channel (Time second) p ps =
     (t.first ≤ second) × (second < t.end) × (p ≡ time_piece t second)
     × (ps ≡ times_from t (t.end - (second + 1)) (second + 1))
 
 -- a head stands for the first of the packets that its channel has left
-pub record Stands (file : List ℕ) (es : List Packet) (t : Times) (h : Head) (rest : List Piece) : Type 0 where
+pub record Stands (file : List ℕ) (es : List Placed) (t : Times) (h : Head) (rest : List Piece) : Type 0 where
   pub first : Piece
   pub others : List Piece
   pub is : rest ≡ first ∷ others
   pub ahead : IsAhead h first
   pub from : IsFrom file es t h.channel h.source first others
 
+-- there is what a head comes from
+abbrev pub IsThere : List Placed → Times → Source → Type 0
+IsThere es t (Recorded place) = place < length es
+IsThere es t (Time second) = (t.first ≤ second) × (second < t.end)
+
 -- the head of the packet at a place of a recording
-pub record IsRecordedHead (es : List Packet) (place : ℕ) (h : Head) : Type 0 where
-  pub entry : Packet
+pub record IsRecordedHead (es : List Placed) (place : ℕ) (h : Head) : Type 0 where
+  pub entry : Placed
   pub there : slice_get es place ≡ Some entry
   pub counter : h.counter ≡ entry.header.counter
   pub turn : h.turn ≡ turn entry.header.kind
@@ -87,15 +93,15 @@ pub record IsTimed (t : Times) (second : ℕ) (h : Head) : Type 0 where
   pub source : h.source ≡ Time second
 
 -- how many steps a head's channel has before it at most
-abbrev pub steps_by : List Packet → Times → Source → ℕ
+abbrev pub steps_by : List Placed → Times → Source → ℕ
 steps_by es t (Recorded place) = length es - place
 steps_by es t (Time second) = t.end - second
 
-abbrev pub steps : List Packet → Times → Head → ℕ
+abbrev pub steps : List Placed → Times → Head → ℕ
 steps es t h = steps_by es t h.source
 
 -- what stands behind the first packet of a head's channel
-abbrev pub Follows : List ℕ → List Packet → Times → Head → Option Head → Type 0
+abbrev pub Follows : List ℕ → List Placed → Times → Head → Option Head → Type 0
 Follows file es t h None = (p : Piece) (ps : List Piece) → Stands file es t h (p ∷ ps) → ps ≡ []
 Follows file es t h (Some n) =
     (n.channel ≡ h.channel) × (steps es t n < steps es t h)
@@ -106,7 +112,7 @@ abbrev pub on_channel : ℕ → Head → ℕ
 on_channel channel h = if h.channel == channel then 1 else 0
 
 -- the heads of all channels that have packets left, one each
-pub record AreHeads (file : List ℕ) (es : List Packet) (t : Times) (heads : List Head)
+pub record AreHeads (file : List ℕ) (es : List Placed) (t : Times) (heads : List Head)
     (rest : ℕ → List Piece) : Type 0 where
   pub sound : (h : Head) → Contains heads h → Stands file es t h (rest h.channel)
   pub whole : (channel : ℕ) (p : Piece) (ps : List Piece) → rest channel ≡ p ∷ ps → (h : Head) × Contains heads h
@@ -119,7 +125,7 @@ head_cmp = flip_args (then_cmp (on (λ (h : Head). h.counter) nat_cmp)
     (then_cmp (on (λ (h : Head). h.turn) nat_cmp) (on (λ (h : Head). h.channel) nat_cmp)))
 
 -- the packets that are merged
-abbrev pub parts_of : List ℕ → List Packet → Times → List Piece
+abbrev pub parts_of : List ℕ → List Placed → Times → List Piece
 parts_of file es t = times_in t ++ kept_entries file es
 
 -- a head, where there is one, went into a heap
@@ -128,7 +134,7 @@ Pushes None old new = new ≡ old
 Pushes (Some h) old new = IsPermutation (h ∷ old) new
 
 -- the time packets of a channel, and for the first channels those of the recording
-abbrev pub begun : List ℕ → List Packet → Times → ℕ → ℕ → List Piece
+abbrev pub begun : List ℕ → List Placed → Times → ℕ → ℕ → List Piece
 begun file es t most channel = of_channel channel (times_in t)
     ++ (if nat_lt channel most then of_channel channel (kept_entries file es) else [])
 

@@ -5,6 +5,7 @@ pub mod TimePackets
 pub mod SetupRecord
 pub mod Complete
 pub mod Judging
+pub mod Listing
 pub mod Lanes
 pub mod Laws
 pub mod UtcText

@@ -2,8 +2,8 @@
 use Rattle.std.specs.Prelude.{ℕ, ◌==◌, ◌&&◌, Bool, not, if◌then◌else◌, List, [], ◌∷◌, ◌++◌, take, drop}
 use Rattle.ch11_header.specs.declared.header.Header.{Header}
 use Rattle.ch11_header.specs.Kinds.{recording_index, setup_record}
-use Rattle.ch11_reader.specs.declared.packet.Packet.{Packet}
 use Rattle.ch11_reader.specs.Recording.{Found}
+use Rattle.bench_complete.specs.declared.placed.Placed.{Placed}
 
 -- a packet: what its header says, and all of its bytes
 pub record Piece : Type 0 where
@@ -29,8 +29,8 @@ kept_packets file [] = []
 kept_packets file (p ∷ ps) = if goes_over p.header then piece_at file p.offset p.header ∷ kept_packets file ps
     else kept_packets file ps
 
--- the same by the entries of an index
-abbrev pub kept_entries : List ℕ → List Packet → List Piece
+-- the same by where they stand
+abbrev pub kept_entries : List ℕ → List Placed → List Piece
 kept_entries file [] = []
 kept_entries file (e ∷ es) = if goes_over e.header then piece_at file e.offset e.header ∷ kept_entries file es
     else kept_entries file es

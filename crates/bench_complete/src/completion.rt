@@ -1,11 +1,12 @@
 //! A recording that was judged, and the complete file of it.
-ghost use Rattle.bench_complete.specs.Complete.{Completes, low_by, plan_for, times_between};
-ghost use Rattle.bench_complete.specs.Judging.{AllReadAt, Fails, IsCompleted, Plans, RefusesCompletion, StopsWriting};
-ghost use Rattle.bench_complete.specs.Judging.{is_setup};
-ghost use Rattle.bench_complete.specs.Judging.{misuse};
-ghost use Rattle.ch11_reader.specs.Recording.{packets_in};
+ghost use Rattle.bench_complete.specs.Complete.{Completes, Plan, low_by, plan_for, times_between};
+ghost use Rattle.bench_complete.specs.Judging.{Fails, IsCompleted, Plans, RefusesCompletion, StopsWriting};
+ghost use Rattle.bench_complete.specs.Judging.{is_setup, misuse};
+ghost use Rattle.bench_complete.specs.Listing.{AreSmall, IsListed};
+ghost use Rattle.ch11_reader.specs.Recording.{Found, packets_in};
 ghost use Rattle.ch11_reader.specs.Skipping.{packets_read, skips_in};
-ghost use Rattle.std.specs.Prelude.{◌≡◌, ◌≤◌, true, option_map, Ok, OnOk, IfOk, IfErr, MatchResult, None, Some};
+ghost use Rattle.std.specs.Prelude.{◌≡◌, ◌≤◌, ℕ, List, true, option_map, Ok, OnOk, IfOk, IfErr, MatchResult, None};
+ghost use Rattle.std.specs.Prelude.{Some};
 
 use crate::additions::Additions;
 use crate::extent::{Extent, extent_of};
@@ -14,37 +15,42 @@ use crate::judging::{is_setup, judge};
 use crate::lanes::Lanes;
 use crate::leading::{leading, write_packets};
 use crate::links::link;
+use crate::listing::{Listed, SoundListed, list, list_sound};
 use crate::merge::merge;
+use crate::original::Original;
+use crate::placed::Placed;
+use crate::places::Places;
 use crate::setup::write_front;
 use crate::times::{SECOND, Times};
-use ch11_reader::{Index, Skip, SkippingIndex};
+use ch11_reader::Skip;
+use ch11_stream::Advance;
 use std::alloc::Global;
-use std::io::Write;
+use std::io::{Read, Write};
 use std::marker::Model;
 
-/// A recording that can be completed: what stands in the complete file.
+/// A recording that can be completed: what stands in the complete file. Where each packet stands is kept, some 40 bytes
+/// of each, and the packets are read there once more. Contracts see the plan of it, where the recording's bytes are
+/// known.
 #[derive(Drop)]
-pub struct Completion<'a> {
-    file: &'a [u8],
-    index: Index<'a>,
+pub struct Completion<'a, S: Places> {
+    original: Original<S>,
+    packets: Vec<Placed>,
     setup: Option<&'a [u8]>,
     times: Times,
     low: u64,
 }
 
-impl<'a> Model for Completion<'a> {
-    ghost use Rattle.bench_complete.specs.Complete.{Plan, plan_of};
+impl<'a, S: Places> Model for Completion<'a, S> {
+    ghost use Rattle.bench_complete.specs.Complete.{Plan, plan_by};
     ghost use Rattle.bench_complete.specs.Judging.{IsPlanned};
-    ghost use Rattle.bench_complete.specs.Pieces.{kept_packets};
-    ghost use Rattle.bench_complete.specs.TimePackets.{times_in};
-    ghost use Rattle.std.specs.Prelude.{option_map};
+    ghost use Rattle.std.specs.Prelude.{Option, option_map};
 
-    ghost Value = { Plan };
+    ghost Value = { Option Plan };
 
-    ghost view = { λ c. plan_of (option_map (λ text. text.now) c.setup) c.times.version (times_in c.times)
-        (kept_packets c.file.now c.index) };
+    ghost view = { λ c. option_map (plan_by (option_map (λ text. text.now) c.setup) c.times c.packets.items)
+        c.original };
 
-    ghost invariant = { λ c. IsPlanned c.file.now c.index c.times c.low (option_map (λ text. text.now) c.setup) };
+    ghost invariant = { λ c. IsPlanned c.packets.items c.times c.low (option_map (λ text. text.now) c.setup) };
 }
 
 /// The time packets that are asked for, between the counters of a recording.
@@ -90,95 +96,106 @@ fn lowest(times: &Times, extent: Option<Extent>) -> u64
     }
 }
 
-impl<'a> Completion<'a> {
-    /// The completion of packets.
+impl<'a, S: Places + Drop> Completion<'a, S> {
+    /// The completion of packets that were listed.
     fn of(
-        file: &'a [u8],
-        index: Index<'a>,
+        original: Original<S>,
+        listed: Listed,
         additions: &Additions<'a>,
-    ) -> Result<Completion<'a>, CompleteFault>
-        requires sound { AllReadAt file.now index }
+    ) -> Result<Completion<'a, S>, CompleteFault>
+        requires small { AreSmall listed.packets.items }
         requires text { is_setup (option_map (λ text. text.now) additions.now.setup) ≡ true }
-        ensures { MatchResult result
-            (λ c. (misuse file.now index.entry additions.now ≡ None)
-            × (c ≡ plan_for file.now index.entry additions.now))
-            (λ f. misuse file.now index.entry additions.now ≡ Some f) }
+        ensures { (file : List ℕ) (ps : List Found) → original ≡ Some file → IsListed file ps listed
+            → MatchResult result
+            (λ c. (misuse file ps additions.now ≡ None) × (c ≡ Some (plan_for file ps additions.now)))
+            (λ f. misuse file ps additions.now ≡ Some f) }
     {
-        let extent = extent_of(index.packets());
-        if let Err(fault) = judge(file, additions, index.packets(), extent) {
+        let packets = listed.packets.as_slice();
+        let extent = extent_of(packets);
+        if let Err(fault) = judge(additions, packets, listed.timed, extent) {
             return Err(fault);
         }
         let times = times_of(additions, extent);
         let low = lowest(&times, extent);
         Ok(Completion {
-            file,
-            index,
+            original,
+            packets: listed.packets,
             setup: additions.setup,
             times,
             low,
         })
     }
 
-    /// Reads a recording and judges what is to be added to it. The size of a setup text is judged first, then the
-    /// recording, then the usage faults that hang on it. Memory is answered only where that size is right and the
-    /// recording can be read.
-    pub fn plan(
+    /// Reads a recording from its first byte on and judges what is to be added to it; its packets are read again at
+    /// their places, which are of the same bytes. The size of a setup text is judged first, then the recording, then
+    /// the usage faults that hang on it. Want of memory, and a reader that fails, come only where that size is right.
+    pub fn plan<R: Advance + Drop>(
         alloc: Global,
-        file: &'a [u8],
+        input: R,
+        places: S,
         additions: &Additions<'a>,
-    ) -> Result<Completion<'a>, CompleteFault>
-        ensures { Plans file.now (packets_in file.now) additions.now result }
+    ) -> Result<Completion<'a, S>, CompleteFault>
+        ensures { (file : List ℕ) → R.remaining input ≡ Some file → S.bytes places ≡ Some file
+            → Plans file (packets_in file) additions.now result }
     {
         if !is_setup(additions.setup) {
             return Err(CompleteFault::SetupSize);
         }
-        let index = Index::build(alloc, file)?;
-        Completion::of(file, index, additions)
+        let listed = list(alloc, input)?;
+        Completion::of(Original::over(alloc, places), listed, additions)
     }
 
     /// The same for whatever is sound in a recording, with the bytes that were skipped. No recording is refused for a
     /// fault of its own, and the faults that hang on it are those of the packets that are sound.
-    pub fn plan_skipping(
+    pub fn plan_skipping<R: Read + Drop>(
         alloc: Global,
-        file: &'a [u8],
+        input: R,
+        places: S,
         additions: &Additions<'a>,
-    ) -> Result<(Completion<'a>, Vec<Skip>), CompleteFault>
-        ensures planned { IfOk result (λ x. x.0 ≡ plan_for file.now (packets_read file.now) additions.now) }
-        ensures skipped { IfOk result (λ x. x.1.items ≡ skips_in file.now) }
-        ensures judged { IfOk result (λ x. misuse file.now (packets_read file.now) additions.now ≡ None) }
-        ensures refused { IfErr result (λ f. RefusesCompletion file.now (Ok (packets_read file.now)) additions.now f) }
+    ) -> Result<(Completion<'a, S>, Vec<Skip>), CompleteFault>
+        ensures planned { (file : List ℕ) → R.remaining input ≡ Some file → S.bytes places ≡ Some file
+            → IfOk result (λ x. x.0 ≡ Some (plan_for file (packets_read file) additions.now)) }
+        ensures skipped { (file : List ℕ) → R.remaining input ≡ Some file
+            → IfOk result (λ x. x.1.items ≡ skips_in file) }
+        ensures judged { (file : List ℕ) → R.remaining input ≡ Some file → S.bytes places ≡ Some file
+            → IfOk result (λ x. misuse file (packets_read file) additions.now ≡ None) }
+        ensures refused { (file : List ℕ) → R.remaining input ≡ Some file → S.bytes places ≡ Some file
+            → IfErr result (λ f. RefusesCompletion file (Ok (packets_read file)) additions.now f) }
     {
         if !is_setup(additions.setup) {
             return Err(CompleteFault::SetupSize);
         }
-        let SkippingIndex { index, skips } = Index::build_skipping(alloc, file)?;
-        let completion = Completion::of(file, index, additions)?;
-        Ok((completion, skips))
+        let SoundListed { listed, skips } = list_sound(alloc, input)?;
+        match Completion::of(Original::over(alloc, places), listed, additions) {
+            Ok(completion) => Ok((completion, skips)),
+            Err(fault) => Err(fault),
+        }
     }
 
     /// Writes the complete file: the setup record that is added, those that stand in front of the recording, and behind
-    /// them all other packets, merged. Where it fails, it answers Memory
+    /// them all other packets, merged. Where it fails, it answers Memory, Reader
     /// or Device, and the writer may have got some of the file.
-    pub fn write<W: Write>(&self, alloc: Global, out: &mut W) -> Result<(), CompleteFault>
-        ensures written { OnOk result (Completes self.now (W.contents out.old) (W.contents out.new)) }
+    pub fn write<W: Write>(&mut self, alloc: Global, out: &mut W) -> Result<(), CompleteFault>
+        ensures written { OnOk result ((plan : Plan) → self.old ≡ Some plan
+            → Completes plan (W.contents out.old) (W.contents out.new)) }
+        ensures stays { self.new ≡ self.old }
         ensures stopped { IfErr result StopsWriting }
     {
-        let packets = self.index.packets();
+        let packets = self.packets.as_slice();
         let (front, others) = packets.split_at(leading(packets));
         let lanes = Lanes {
-            file: self.file,
             packets: others,
             times: self.times,
         };
         let links = link(alloc, lanes.packets)?;
         let heads = lanes.heads(alloc, &links)?;
         write_front(self.times.version, self.low, self.setup, out)?;
-        write_packets(self.file, front, out)?;
-        merge(&lanes, &links, heads, out)
+        write_packets(&mut self.original, front, out)?;
+        merge(&lanes, &links, heads, &mut self.original, out)
     }
 }
 
-/// Completes a recording: a fault of `Completion::plan`, and where it plans, one of `Completion::write`.
+/// Completes a recording in memory: a fault of `Completion::plan`, and where it plans, one of `Completion::write`.
 pub fn complete<W: Write>(
     alloc: Global,
     file: &[u8],
@@ -189,6 +206,8 @@ pub fn complete<W: Write>(
         (W.contents out.new)) }
     ensures failed { IfErr result (Fails file.now (packets_in file.now) additions.now) }
 {
-    let completion = Completion::plan(alloc, file, additions)?;
-    completion.write(alloc, out)
+    match Completion::plan(alloc, file, file, additions) {
+        Ok(mut completion) => completion.write(alloc, out),
+        Err(refused) => Err(refused),
+    }
 }

@@ -1,11 +1,11 @@
 //! From when to when a recording lasts.
 ghost use Rattle.bench_complete.specs.Complete.{widened, extent_of};
 ghost use Rattle.bench_complete.specs.Pieces.{kept_entries};
-ghost use Rattle.std.specs.Prelude.{◌≡◌, ℕ, ◌+◌, ◌-◌, ◌/◌, ◌<◌, ◌^◌, List};
+ghost use Rattle.std.specs.Prelude.{◌≡◌, ℕ, ◌+◌, ◌-◌, ◌/◌, List};
 
+use crate::placed::Placed;
 use crate::times::SECOND;
 use ch11_header::kinds::RECORDING_INDEX;
-use ch11_reader::Packet;
 
 /// The lowest and the highest counter, in ticks of 0.1 µs.
 #[derive(Clone, Copy, Debug)]
@@ -41,7 +41,7 @@ fn widened(extent: Option<Extent>, counter: u64) -> Option<Extent>
 }
 
 /// The extent of the packets that go over; None where there is none.
-pub(crate) fn extent_of(packets: &[Packet]) -> Option<Extent>
+pub(crate) fn extent_of(packets: &[Placed]) -> Option<Extent>
     ensures { (file : List ℕ) → result ≡ extent_of (kept_entries file packets.now) }
 {
     let mut extent = None;

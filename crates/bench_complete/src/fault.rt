@@ -3,11 +3,12 @@ ghost use Rattle.bench_complete.specs.Faults.{fault_of_reading};
 ghost use Rattle.bench_complete.specs.declared.fault.CompleteFault.TheVariants.{Device, Memory};
 ghost use Rattle.std.specs.Prelude.{◌≡◌};
 
-use ch11_reader::{ReadError, Refusal};
+use ch11_reader::Refusal;
+use ch11_stream::StreamFault;
 use std::alloc::{AllocError, AllocFailed};
 use std::io;
 
-/// Why a recording was not completed. The variants stand in the order in which they are judged, but for the last two.
+/// Why a recording was not completed. The variants stand in the order in which they are judged, but for the last three.
 #[derive(Clone, Copy, Debug, PartialEq, Eq)]
 pub enum CompleteFault {
     /// A usage fault: the text of the setup record has no byte, or more than 524,000.
@@ -31,17 +32,21 @@ pub enum CompleteFault {
     /// Memory was refused.
     Memory,
 
+    /// The reader failed, or the recording has become shorter since its packets were listed.
+    Reader,
+
     /// The writer failed, which may have got some of the file.
     Device,
 }
 
-impl From<ReadError> for CompleteFault {
+impl From<StreamFault> for CompleteFault {
     ghost from_gives = { λ cause e. e ≡ fault_of_reading cause };
 
-    fn from(cause: ReadError) -> CompleteFault {
+    fn from(cause: StreamFault) -> CompleteFault {
         match cause {
-            ReadError::Refused(refusal) => CompleteFault::Refused(refusal),
-            ReadError::Memory => CompleteFault::Memory,
+            StreamFault::Refused(refusal) => CompleteFault::Refused(refusal),
+            StreamFault::Memory => CompleteFault::Memory,
+            StreamFault::Device => CompleteFault::Reader,
         }
     }
 }

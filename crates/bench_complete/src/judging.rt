@@ -1,16 +1,17 @@
 //! Usage faults.
 ghost use Rattle.bench_complete.specs.Judging.{is_setup, is_timed_twice, is_too_long, misuse_by, misuse_of};
-ghost use Rattle.bench_complete.specs.Judging.{tells_time};
+ghost use Rattle.bench_complete.specs.Judging.{tells_time_by};
 ghost use Rattle.ch11_reader.specs.Recording.{body_of};
 ghost use Rattle.std.specs.List.{list_any};
-ghost use Rattle.std.specs.Prelude.{◌≡◌, ◌==◌, ◌&&◌, MatchResult, None, Some, drop, option_map};
+ghost use Rattle.std.specs.Prelude.{◌≡◌, ◌==◌, ◌&&◌, MatchResult, None, Some, option_map};
 
 use crate::additions::{Additions, MOST_SETUP};
 use crate::extent::Extent;
 use crate::fault::CompleteFault;
+use crate::placed::Placed;
 use bench_clock::is_time_body;
+use ch11_header::Header;
 use ch11_header::kinds::{SETUP_RECORD, TIME_DATA};
-use ch11_reader::Packet;
 
 /// The most time packets of a file.
 const MOST_TIMES: u64 = 1_000_000;
@@ -26,14 +27,14 @@ pub(crate) fn is_setup(setup: Option<&[u8]>) -> bool
 }
 
 /// Whether a packet of this type is among them.
-fn has_kind(packets: &[Packet], kind: u8) -> bool
+fn has_kind(packets: &[Placed], kind: u8) -> bool
     ensures { result ≡ list_any (λ e. e.header.kind == kind) packets.now }
 {
     packets.iter().any(|packet| packet.header.kind == kind)
 }
 
 /// Whether a packet of this channel is among them.
-fn has_channel(packets: &[Packet], channel: u16) -> bool
+fn has_channel(packets: &[Placed], channel: u16) -> bool
     ensures { result ≡ list_any (λ e. e.header.channel == channel) packets.now }
 {
     packets
@@ -41,31 +42,23 @@ fn has_channel(packets: &[Packet], channel: u16) -> bool
         .any(|packet| packet.header.channel == channel)
 }
 
-/// The body of a packet of a file.
-fn body_in<'a>(file: &'a [u8], packet: &Packet) -> &'a [u8]
-    ensures { result.now ≡ body_of packet.now.header (drop packet.now.offset file.now) }
+/// The body of the packet that has this header and begins these bytes.
+fn body_in<'a>(header: &Header, bytes: &'a [u8]) -> &'a [u8]
+    ensures { result.now ≡ body_of header.now bytes.now }
 {
-    let from = file.get(packet.offset..).unwrap_or(&[]);
-    let behind = from.get(packet.header.body_start()..).unwrap_or(&[]);
-    let size = behind.len().min(packet.header.data_length as usize);
+    let behind = bytes.get(header.body_start()..).unwrap_or(&[]);
+    let size = behind.len().min(header.data_length as usize);
     &behind[..size]
 }
 
-/// Whether a packet of a file is a time packet.
-fn tells_time(file: &[u8], packet: &Packet) -> bool
-    ensures { result ≡ tells_time file.now packet.now.offset packet.now.header }
+/// Whether the packet that has this header and begins these bytes is a time packet.
+pub(crate) fn tells_time(header: &Header, bytes: &[u8]) -> bool
+    ensures { result ≡ tells_time_by header.now bytes.now }
 {
-    if packet.header.kind != TIME_DATA {
+    if header.kind != TIME_DATA {
         return false;
     }
-    is_time_body(body_in(file, packet))
-}
-
-/// Whether a time packet is among the packets of a file.
-fn has_time(file: &[u8], packets: &[Packet]) -> bool
-    ensures { result ≡ list_any (λ e. tells_time file.now e.offset e.header) packets.now }
-{
-    packets.iter().any(|packet| tells_time(file, packet))
+    is_time_body(body_in(header, bytes))
 }
 
 /// Whether there would be more than 1,000,000 time packets.
@@ -118,20 +111,20 @@ fn is_timed_twice(additions: &Additions<'_>, timed: bool) -> bool
     )
 }
 
-/// Judges what is to be added to the packets of a file.
+/// Judges what is to be added to packets of this extent, among which there is a time packet or not.
 pub(crate) fn judge(
-    file: &[u8],
     additions: &Additions<'_>,
-    packets: &[Packet],
+    packets: &[Placed],
+    has_time: bool,
     extent: Option<Extent>,
 ) -> Result<(), CompleteFault>
-    ensures { MatchResult result (λ _. misuse_by file.now packets.now additions.now extent ≡ None)
-        (λ f. misuse_by file.now packets.now additions.now extent ≡ Some f) }
+    ensures { MatchResult result (λ _. misuse_by packets.now has_time additions.now extent ≡ None)
+        (λ f. misuse_by packets.now has_time additions.now extent ≡ Some f) }
 {
     let timed = additions.start.is_some();
     first_fault(
         both(additions.setup.is_some(), has_kind(packets, SETUP_RECORD)),
-        is_timed_twice(additions, has_time(file, packets)),
+        is_timed_twice(additions, has_time),
         both(timed, has_channel(packets, additions.time_channel)),
         both(timed, is_too_long(extent)),
     )

@@ -1,19 +1,21 @@
 //! The packets that are merged, channel by channel.
+ghost use Rattle.bench_complete.specs.Judging.{StopsWriting};
 ghost use Rattle.bench_complete.specs.Lanes as spec;
 ghost use Rattle.bench_complete.specs.Merging.{of_channel};
 ghost use Rattle.bench_complete.specs.Pieces.{Piece, kept_entries};
 ghost use Rattle.std.specs.BinaryHeap.{IsHeap, KeepsHeap, heap_items};
 ghost use Rattle.std.specs.Io.KnownBytes.{Appends};
-ghost use Rattle.std.specs.Prelude.{◌≡◌, ◌<◌, ◌≤◌, List, [], ◌∷◌, length, IfOk, IfErr, OnOk, MatchOption};
+ghost use Rattle.std.specs.Prelude.{◌≡◌, ◌<◌, ◌≤◌, ℕ, List, [], ◌∷◌, length, Some, IfOk, IfErr, OnOk, MatchOption};
 
 use crate::fault::CompleteFault;
 use crate::head::{Head, Source, turn};
-use crate::leading::write_packet;
 use crate::links::{CHANNELS, Links};
+use crate::original::Original;
+use crate::placed::Placed;
+use crate::places::Places;
 use crate::time_packet::write_time;
 use crate::times::{SECOND, Times};
 use ch11_header::kinds::TIME_DATA;
-use ch11_reader::Packet;
 use std::alloc::{AllocError, Global};
 use std::collections::BinaryHeap;
 use std::io::Write;
@@ -21,8 +23,7 @@ use std::io::Write;
 /// The packets of a recording, and the time packets beside them.
 #[derive(Clone, Copy)]
 pub(crate) struct Lanes<'a> {
-    pub(crate) file: &'a [u8],
-    pub(crate) packets: &'a [Packet],
+    pub(crate) packets: &'a [Placed],
     pub(crate) times: Times,
 }
 
@@ -72,9 +73,10 @@ impl<'a> Lanes<'a> {
     pub(crate) fn behind(&self, links: &Links, head: &Head) -> Option<Head>
         requires small { spec.IsSmall self.now.times }
         requires linked { spec.AreLinked self.now.packets.now 0 links.now.first.items links.now.next.items }
-        requires stands { (rest : List Piece)
-            × spec.Stands self.now.file.now self.now.packets.now self.now.times head.now rest }
-        ensures { spec.Follows self.now.file.now self.now.packets.now self.now.times head.now result }
+        requires there { spec.IsThere self.now.packets.now self.now.times head.now.source }
+        requires stands { (file : List ℕ) → (rest : List Piece)
+            × spec.Stands file self.now.packets.now self.now.times head.now rest }
+        ensures { (file : List ℕ) → spec.Follows file self.now.packets.now self.now.times head.now result }
     {
         match head.source {
             Source::Recorded(place) => self.recorded(links.next[place]),
@@ -86,8 +88,8 @@ impl<'a> Lanes<'a> {
     fn first_head(&self, alloc: Global) -> Result<BinaryHeap<Head>, AllocError>
         requires small { spec.IsSmall self.now.times }
         ensures heads { IfOk result
-            (λ heads. spec.AreHeads self.now.file.now self.now.packets.now self.now.times (heap_items heads)
-            (spec.begun self.now.file.now self.now.packets.now self.now.times 0)) }
+            (λ heads. (file : List ℕ) → spec.AreHeads file self.now.packets.now self.now.times (heap_items heads)
+            (spec.begun file self.now.packets.now self.now.times 0)) }
         ensures heap { IfOk result (λ heads. IsHeap spec.head_cmp (heap_items heads)) }
     {
         let mut heads = BinaryHeap::new(alloc);
@@ -99,11 +101,11 @@ impl<'a> Lanes<'a> {
     pub(crate) fn heads(&self, alloc: Global, links: &Links) -> Result<BinaryHeap<Head>, AllocError>
         requires small { spec.IsSmall self.now.times }
         requires linked { spec.AreLinked self.now.packets.now 0 links.now.first.items links.now.next.items }
-        requires free { self.now.times.first < self.now.times.end
-            → of_channel self.now.times.channel (kept_entries self.now.file.now self.now.packets.now) ≡ [] }
+        requires free { (file : List ℕ) → self.now.times.first < self.now.times.end
+            → of_channel self.now.times.channel (kept_entries file self.now.packets.now) ≡ [] }
         ensures heads { IfOk result
-            (λ heads. spec.AreHeads self.now.file.now self.now.packets.now self.now.times (heap_items heads)
-            (λ channel. of_channel channel (spec.parts_of self.now.file.now self.now.packets.now self.now.times))) }
+            (λ heads. (file : List ℕ) → spec.AreHeads file self.now.packets.now self.now.times (heap_items heads)
+            (λ channel. of_channel channel (spec.parts_of file self.now.packets.now self.now.times))) }
         ensures heap { IfOk result (λ heads. IsHeap spec.head_cmp (heap_items heads)) }
     {
         let mut heads = self.first_head(alloc)?;
@@ -114,19 +116,23 @@ impl<'a> Lanes<'a> {
     }
 
     /// Writes the packet of a head.
-    pub(crate) fn write<W: Write>(&self, head: &Head, out: &mut W) -> Result<(), CompleteFault>
+    pub(crate) fn write<S: Places, W: Write>(
+        &self,
+        original: &mut Original<S>,
+        head: &Head,
+        out: &mut W,
+    ) -> Result<(), CompleteFault>
         requires small { spec.IsSmall self.now.times }
-        requires within { spec.AreInFile self.now.file.now self.now.packets.now }
-        requires stands { (rest : List Piece)
-            × spec.Stands self.now.file.now self.now.packets.now self.now.times head.now rest }
-        ensures written { OnOk result
-            ((p : Piece) (ps : List Piece)
-            → spec.Stands self.now.file.now self.now.packets.now self.now.times head.now (p ∷ ps)
+        requires there { spec.IsThere self.now.packets.now self.now.times head.now.source }
+        ensures written { OnOk result ((file : List ℕ) → original.old ≡ Some file
+            → (p : Piece) (ps : List Piece)
+            → spec.Stands file self.now.packets.now self.now.times head.now (p ∷ ps)
             → Appends (W.contents out.old) (W.contents out.new) p.bytes) }
-        ensures stopped { IfErr result (λ f. f ≡ CompleteFault.Device) }
+        ensures stays { original.new ≡ original.old }
+        ensures stopped { IfErr result StopsWriting }
     {
         match head.source {
-            Source::Recorded(place) => { write_packet(self.file, &self.packets[place], out) }
+            Source::Recorded(place) => original.write_packet(&self.packets[place], out),
             Source::Time(second) => write_time(&self.times, second, out),
         }
     }

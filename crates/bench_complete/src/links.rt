@@ -1,10 +1,10 @@
 //! For each packet of a recording the next one of its channel.
 ghost use Rattle.bench_complete.specs.Lanes.{AreLinked};
 ghost use Rattle.bench_complete.specs.Pieces.{goes_over};
-ghost use Rattle.std.specs.Prelude.{◌≡◌, ◌<◌, ◌≤◌, length, vec_len, slice_index, slice_set, if◌then◌else◌, IfOk};
+ghost use Rattle.std.specs.Prelude.{◌≡◌, ◌<◌, vec_len, slice_index, slice_set, if◌then◌else◌, IfOk};
 
+use crate::placed::Placed;
 use ch11_header::kinds::RECORDING_INDEX;
-use ch11_reader::Packet;
 use std::alloc::{AllocError, Global};
 
 /// How many channels there can be.
@@ -20,7 +20,7 @@ pub(crate) struct Links {
 }
 
 /// Links a packet in front of those of its channel that stand behind it, unless it is left out.
-fn link_packet(packet: &Packet, place: usize, first: &mut Vec<usize>, next: &mut Vec<usize>)
+fn link_packet(packet: &Placed, place: usize, first: &mut Vec<usize>, next: &mut Vec<usize>)
     requires channels { vec_len first.old ≡ 65536 }
     requires place { place < vec_len next.old }
     ensures channel { packet.now.header.channel < 65536 }
@@ -40,7 +40,7 @@ fn link_packet(packet: &Packet, place: usize, first: &mut Vec<usize>, next: &mut
 }
 
 /// The links of packets. A packet that is left out is linked to nothing.
-pub(crate) fn link(alloc: Global, packets: &[Packet]) -> Result<Links, AllocError>
+pub(crate) fn link(alloc: Global, packets: &[Placed]) -> Result<Links, AllocError>
     ensures { IfOk result (λ l. AreLinked packets.now 0 l.first.items l.next.items) }
 {
     let none = packets.len();

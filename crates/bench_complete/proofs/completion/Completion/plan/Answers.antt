@@ -1,6 +1,10 @@
-use Rattle.std.proofs.Common.{arith}
-use Rattle.bench_complete.proofs.Sound.{all_read}
+use Rattle.std.proofs.Common.{rules, ◌∙◌}
+use Rattle.ch11_reader.specs.Indexed.{found_in}
+use Rattle.ch11_reader.specs.Recording.{packets_in}
+use Rattle.bench_complete.proofs.Refused.{plans}
 use Rattle.bench_complete.proofs.completion.Completion.plan.Goals as goal
 
-pub of-requires-clause-sound : goal.of-requires-clause-sound
-of-requires-clause-sound c = all_read c.args.file.now c.in_ok-index.index (λ k. omega (arith, c.type_inv.file k)) c.in_ok-index.ensures
+pub returns : goal.returns
+returns g c file is known =
+    let found = c.in_ok-listed.ensures.listed file is in
+    plans file (found_in file) (packets_in file) c.args.additions.now (search rules) found.0 c.of.result (c.of.ensures file (found_in file) (c.over.ensures ∙ known) found.1)

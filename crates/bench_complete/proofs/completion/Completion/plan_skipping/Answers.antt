@@ -1,8 +1,9 @@
-use Rattle.std.proofs.Common.{sym, subst, arith}
-use Rattle.bench_complete.specs.Judging.{AllReadAt}
-use Rattle.bench_complete.proofs.Sound.{all_stretches_read}
+use Rattle.std.proofs.Common.{rules, Ok, refl, ◌∙◌}
+use Rattle.ch11_reader.specs.Skipping.{packets_read}
+use Rattle.bench_complete.proofs.Refused.{refuses}
 use Rattle.bench_complete.proofs.completion.Completion.plan_skipping.Goals as goal
 
-pub of-requires-clause-sound : goal.of-requires-clause-sound
-of-requires-clause-sound c =
-    subst (AllReadAt c.args.file.now) (sym c.in_ok-index.ensures.read) (all_stretches_read c.args.file.now (λ k. omega (arith, c.type_inv.file k)))
+pub returns-in-Err-clause-refused : goal.returns-in-Err-clause-refused
+returns-in-Err-clause-refused g c file is known =
+    refuses file (packets_read file) (Ok (packets_read file)) c.args.additions.now (search rules) refl c.in-Err.fault
+    (c.in-Err.ensures file (packets_read file) (c.over.ensures ∙ known) (c.in_ok-listed.ensures.listed file is))

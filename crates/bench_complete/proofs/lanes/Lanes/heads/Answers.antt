@@ -12,14 +12,14 @@ channels-preserved c =
     let next : IsNext c.args.self.now.packets.now c.channels.channel 0 c.index.result.now =
     subst (IsNext c.args.self.now.packets.now c.channels.channel 0) (sym place) (c.requires.linked.first_is c.channels.channel c.channels-test.true) in
     record {
-      heads = channel_heads c.args.self.now.file.now c.args.self.now.packets.now c.args.self.now.times c.channels.channel c.index.result.now c.recorded.result
-          (heap_items c.channels.heads) (heap_items c.push_some.new.heads) c.requires.free next c.recorded.ensures c.in_ok-push_some.ensures.pushed c.channels.invariant.heads;
+      heads = λ file. channel_heads file c.args.self.now.packets.now c.args.self.now.times c.channels.channel c.index.result.now c.recorded.result
+          (heap_items c.channels.heads) (heap_items c.push_some.new.heads) (c.requires.free file) next c.recorded.ensures c.in_ok-push_some.ensures.pushed (c.channels.invariant.heads file);
       heap = c.in_ok-push_some.ensures.heap c.channels.invariant.heap;
     }
 
 pub returns-clause-heads : goal.returns-clause-heads
-returns-clause-heads c =
+returns-clause-heads c = λ file.
     let all : c.channels.channel ≡ 65536 = omega (arith, c.channels-test.false, c.channels.auto.channel-end) in
-    all_heads c.args.self.now.file.now c.args.self.now.packets.now c.args.self.now.times (heap_items c.channels.heads) c.args.links.now.first.items c.args.links.now.next.items c.requires.linked
-    (subst (λ (k : ℕ). AreHeads c.args.self.now.file.now c.args.self.now.packets.now c.args.self.now.times (heap_items c.channels.heads) (begun c.args.self.now.file.now c.args.self.now.packets.now c.args.self.now.times k))
-    all c.channels.invariant.heads)
+    all_heads file c.args.self.now.packets.now c.args.self.now.times (heap_items c.channels.heads) c.args.links.now.first.items c.args.links.now.next.items c.requires.linked
+    (subst (λ (k : ℕ). AreHeads file c.args.self.now.packets.now c.args.self.now.times (heap_items c.channels.heads) (begun file c.args.self.now.packets.now c.args.self.now.times k))
+    all (c.channels.invariant.heads file))
