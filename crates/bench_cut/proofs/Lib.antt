@@ -1,0 +1,13 @@
+pub mod Again
+pub mod Choices
+pub mod Copies
+pub mod Facts
+pub mod Going
+pub mod Headers
+pub mod Jumps
+pub mod Known
+pub mod Laned
+pub mod Pieces
+pub mod Read
+pub mod Streamed
+pub mod Writing

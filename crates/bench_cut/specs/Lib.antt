@@ -1,0 +1,10 @@
+pub mod Chosen
+pub mod Cut
+pub mod Heads
+pub mod Lanes
+pub mod Laws
+pub mod Numbers
+pub mod Packets
+pub mod Parts
+pub mod Short
+pub mod Streaming
