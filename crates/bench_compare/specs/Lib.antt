@@ -1,0 +1,7 @@
+pub mod Channels
+pub mod Chosen
+pub mod Compared
+pub mod Counting
+pub mod Differences
+pub mod Lanes
+pub mod Laws
