@@ -15,3 +15,4 @@ mod Cases
 mod Putting
 mod Losing
 mod Missing
+mod Skipping

@@ -8,6 +8,7 @@ use Rattle.std.proofs.lemmas.List.{take_all}
 use Rattle.std.proofs.lemmas.List.Elements.{filter-append}
 use Rattle.ch11_reader.specs.Contents.{capped}
 use Rattle.ch11_reader.specs.declared.packet.Packet.{Packet}
+use Rattle.ch11_reader.specs.declared.skip.Skip.{Skip}
 use Rattle.bench_dump.proofs.Steps.{appends_both}
 use Rattle.judge_rules.specs.declared.rules.Rule.{Rule}
 use Rattle.bench_judge.specs.declared.packets.PacketTally.{PacketTally}
@@ -46,33 +47,33 @@ lines-more rule line packets p got mid gets before one =
     let same = ap (flat_map line) (filter-append (misses_packet rule) packets (p ∷ [])) ∙ flat_map-append line (packets_missed rule packets) here in
     subst (Appends got gets) (sym same) (appends_both got mid gets (flat_map line (packets_missed rule packets)) (flat_map line here) before one)
 
-pub told-none : (rule : Rule) (most : ℕ) → IsPacketTelling rule most [] [] most
-told-none rule most = record { told = sym (ap (flat_map told_packet) (take_all most [] (omega arith))); left = omega arith }
+pub told-none : (skips : List Skip) (rule : Rule) (most : ℕ) → IsPacketTelling skips rule most [] [] most
+told-none skips rule most = record { told = sym (ap (flat_map (told_packet skips)) (take_all most [] (omega arith))); left = omega arith }
 
-pub told-same : (rule : Rule) (most : ℕ) (packets : List Packet) (p : Packet) (text : List ℕ) (left : ℕ) → IsPacketTelling rule most packets text left → misses_packet rule p ≡ false → IsPacketTelling rule most (packets ++ p ∷ []) text left
-told-same rule most packets p text left t is =
+pub told-same : (skips : List Skip) (rule : Rule) (most : ℕ) (packets : List Packet) (p : Packet) (text : List ℕ) (left : ℕ) → IsPacketTelling skips rule most packets text left → misses_packet rule p ≡ false → IsPacketTelling skips rule most (packets ++ p ∷ []) text left
+told-same skips rule most packets p text left t is =
     let kept = missed-same rule packets p is in record {
-      told = t.told ∙ ap (λ (xs : List Packet). flat_map told_packet (take most xs)) (sym kept);
+      told = t.told ∙ ap (λ (xs : List Packet). flat_map (told_packet skips) (take most xs)) (sym kept);
       left = t.left ∙ ap (λ (xs : List Packet). most - length xs) (sym kept);
     }
 
-pub told-full : (rule : Rule) (most : ℕ) (packets : List Packet) (p : Packet) (text : List ℕ) (left : ℕ) → IsPacketTelling rule most packets text left → left ≡ 0 → IsPacketTelling rule most (packets ++ p ∷ []) text left
-told-full rule most packets p text left t full = go (misses_packet rule p) refl
+pub told-full : (skips : List Skip) (rule : Rule) (most : ℕ) (packets : List Packet) (p : Packet) (text : List ℕ) (left : ℕ) → IsPacketTelling skips rule most packets text left → left ≡ 0 → IsPacketTelling skips rule most (packets ++ p ∷ []) text left
+told-full skips rule most packets p text left t full = go (misses_packet rule p) refl
   where
-    go : (b : Bool) → misses_packet rule p ≡ b → IsPacketTelling rule most (packets ++ p ∷ []) text left
-    go false is = told-same rule most packets p text left t is
+    go : (b : Bool) → misses_packet rule p ≡ b → IsPacketTelling skips rule most (packets ++ p ∷ []) text left
+    go false is = told-same skips rule most packets p text left t is
     go true is =
         let many : most ≤ length (packets_missed rule packets) = omega (arith, t.left, full) in
         let grown = missed-one rule packets p is in record {
-          told = t.told ∙ ap (flat_map told_packet) (sym (ap (take most) grown ∙ take_full most (packets_missed rule packets) p many));
+          told = t.told ∙ ap (flat_map (told_packet skips)) (sym (ap (take most) grown ∙ take_full most (packets_missed rule packets) p many));
           left = omega (arith, full, many, ap length grown, length-append (packets_missed rule packets) (p ∷ []));
         }
 
-pub told-one : (rule : Rule) (most : ℕ) (packets : List Packet) (p : Packet) (text now : List ℕ) (left : ℕ) → IsPacketTelling rule most packets text left → misses_packet rule p ≡ true → 0 < left → now ≡ text ++ told_packet p
-    → IsPacketTelling rule most (packets ++ p ∷ []) now (left - 1)
-told-one rule most packets p text now left t is some put =
+pub told-one : (skips : List Skip) (rule : Rule) (most : ℕ) (packets : List Packet) (p : Packet) (text now : List ℕ) (left : ℕ) → IsPacketTelling skips rule most packets text left → misses_packet rule p ≡ true → 0 < left → now ≡ text ++ told_packet skips p
+    → IsPacketTelling skips rule most (packets ++ p ∷ []) now (left - 1)
+told-one skips rule most packets p text now left t is some put =
     let few : length (packets_missed rule packets) < most = omega (arith, t.left, some) in
     let grown = missed-one rule packets p is in record {
-      told = put ∙ ap (λ (l : List ℕ). l ++ told_packet p) t.told ∙ sym (ap (λ (xs : List Packet). flat_map told_packet (take most xs)) grown ∙ told_one told_packet most (packets_missed rule packets) p few);
+      told = put ∙ ap (λ (l : List ℕ). l ++ told_packet skips p) t.told ∙ sym (ap (λ (xs : List Packet). flat_map (told_packet skips) (take most xs)) grown ∙ told_one (told_packet skips) most (packets_missed rule packets) p few);
       left = omega (arith, t.left, some, ap length grown, length-append (packets_missed rule packets) (p ∷ []));
     }

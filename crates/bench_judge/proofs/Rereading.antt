@@ -4,6 +4,7 @@ use Rattle.std.specs.Prelude.{Bool, true, false, Option, Result, Ok, Err}
 use Rattle.std.specs.Io.KnownBytes.{Appends}
 use Rattle.std.specs.List.{flat_map}
 use Rattle.std.proofs.lemmas.List.{nil_from_length}
+use Rattle.ch11_reader.specs.declared.skip.Skip.{Skip}
 use Rattle.ch11_reader.specs.Indexed.{found_in}
 use Rattle.ch11_reader.specs.Recording.{Found}
 use Rattle.ch11_stream.specs.Folding.{FoldsPackets}
@@ -41,17 +42,17 @@ same_folds P Q (Ok x) file on is = (is.0, on (found_in file) x is.1)
 same_folds P Q (Err e) file on is = is
 
 -- the lines of what misses a rule, where it is about packets, and where it is not
-pub lines_whole : (rule : Rule) (p : Passed) → is_whole rule.check ≡ true → flat_map (packet_line rule.line) (packets_missed rule p.packets) ≡ missed_lines rule p
-lines_whole rule p is = rw is refl
+pub lines_whole : (skips : List Skip) (rule : Rule) (p : Passed) → is_whole rule.check ≡ true → flat_map (packet_line skips rule.line) (packets_missed rule p.packets) ≡ missed_lines skips rule p
+lines_whole skips rule p is = rw is refl
 
-pub lines_other : (rule : Rule) (p : Passed) → is_whole rule.check ≡ false → miss_lines rule p.origins p.messages ≡ missed_lines rule p
-lines_other rule p is = rw is refl
+pub lines_other : (skips : List Skip) (rule : Rule) (p : Passed) → is_whole rule.check ≡ false → miss_lines rule p.origins p.messages ≡ missed_lines skips rule p
+lines_other skips rule p is = rw is refl
 
 -- no lines where none misses it
-pub lines_none : (rule : Rule) (p : Passed) → missed_count rule p ≡ 0 → missed_lines rule p ≡ []
-lines_none rule p none = go (is_whole rule.check) refl
+pub lines_none : (skips : List Skip) (rule : Rule) (p : Passed) → missed_count rule p ≡ 0 → missed_lines skips rule p ≡ []
+lines_none skips rule p none = go (is_whole rule.check) refl
   where
-    go : (b : Bool) → is_whole rule.check ≡ b → missed_lines rule p ≡ []
+    go : (b : Bool) → is_whole rule.check ≡ b → missed_lines skips rule p ≡ []
     go true is =
         let empty : packets_missed rule p.packets ≡ [] = nil_from_length (packets_missed rule p.packets) (rw is at none) in
         rw (is, empty) refl
@@ -60,8 +61,8 @@ lines_none rule p none = go (is_whole rule.check) refl
         rw (is, empty) refl
 
 -- what is told of the first, in both cases
-pub told_whole : (most : ℕ) (rule : Rule) (p : Passed) → is_whole rule.check ≡ true → flat_map told_packet (take most (packets_missed rule p.packets)) ≡ told_first most rule p
-told_whole most rule p is = rw is refl
+pub told_whole : (skips : List Skip) (most : ℕ) (rule : Rule) (p : Passed) → is_whole rule.check ≡ true → flat_map (told_packet skips) (take most (packets_missed rule p.packets)) ≡ told_first skips most rule p
+told_whole skips most rule p is = rw is refl
 
-pub told_other : (most : ℕ) (rule : Rule) (p : Passed) → is_whole rule.check ≡ false → flat_map (told_moment rule p.origins) (take most (reverse (missed rule p.origins p.messages))) ≡ told_first most rule p
-told_other most rule p is = rw is refl
+pub told_other : (skips : List Skip) (most : ℕ) (rule : Rule) (p : Passed) → is_whole rule.check ≡ false → flat_map (told_moment rule p.origins) (take most (reverse (missed rule p.origins p.messages))) ≡ told_first skips most rule p
+told_other skips most rule p is = rw is refl

@@ -4,6 +4,7 @@ use Rattle.std.specs.Prelude.{Bool, true, false, Option, Some, slice_get}
 use Rattle.std.specs.Io.KnownBytes.{Appends}
 use Rattle.std.specs.List.{flat_map}
 use Rattle.std.proofs.lemmas.Grind.{flat_map-append}
+use Rattle.ch11_reader.specs.declared.skip.Skip.{Skip}
 use Rattle.ch11_layout.specs.Stamps.{Recorded, time_of}
 use Rattle.bench_dump.proofs.Steps.{appends_both, appends_nothing}
 use Rattle.judge_rules.specs.declared.rules.Rule.{Rule}
@@ -66,21 +67,21 @@ pub told : (number channel : ℕ) (m : Recorded) (history : List Viewed) → num
 told number channel m history is = rw is refl
 
 -- one rule more
-lines-append : (xs ys : List Rule) (p : Passed) → rules_lines (xs ++ ys) p ≡ rules_lines xs p ++ rules_lines ys p
-lines-append [] ys p = refl
-lines-append (x ∷ xs) ys p =
-    ap (λ (l : List ℕ). verdict_lines x p ++ l) (lines-append xs ys p) ∙ sym (append_assoc (verdict_lines x p) (rules_lines xs p) (rules_lines ys p))
+lines-append : (skips : List Skip) (xs ys : List Rule) (p : Passed) → rules_lines skips (xs ++ ys) p ≡ rules_lines skips xs p ++ rules_lines skips ys p
+lines-append skips [] ys p = refl
+lines-append skips (x ∷ xs) ys p =
+    ap (λ (l : List ℕ). verdict_lines skips x p ++ l) (lines-append skips xs ys p) ∙ sym (append_assoc (verdict_lines skips x p) (rules_lines skips xs p) (rules_lines skips ys p))
 
-lines-more : (rules : List Rule) (place : ℕ) (rule : Rule) (p : Passed) → slice_get rules place ≡ Some rule → rules_lines (take (place + 1) rules) p ≡ rules_lines (take place rules) p ++ verdict_lines rule p
-lines-more rules place rule p there =
-    ap (λ (rs : List Rule). rules_lines rs p) (rw add-one (take_more rules place rule there))
-    ∙ lines-append (take place rules) (rule ∷ []) p
-    ∙ ap (λ (l : List ℕ). rules_lines (take place rules) p ++ l) (append-nil (verdict_lines rule p))
+lines-more : (skips : List Skip) (rules : List Rule) (place : ℕ) (rule : Rule) (p : Passed) → slice_get rules place ≡ Some rule → rules_lines skips (take (place + 1) rules) p ≡ rules_lines skips (take place rules) p ++ verdict_lines skips rule p
+lines-more skips rules place rule p there =
+    ap (λ (rs : List Rule). rules_lines skips rs p) (rw add-one (take_more rules place rule there))
+    ∙ lines-append skips (take place rules) (rule ∷ []) p
+    ∙ ap (λ (l : List ℕ). rules_lines skips (take place rules) p ++ l) (append-nil (verdict_lines skips rule p))
 
-pub rules-more : (rules : List Rule) (place : ℕ) (rule : Rule) (p : Passed) (got mid gets : Option (List ℕ)) → slice_get rules place ≡ Some rule → Appends got mid (rules_lines (take place rules) p)
-    → Appends mid gets (verdict_lines rule p) → Appends got gets (rules_lines (take (place + 1) rules) p)
-rules-more rules place rule p got mid gets there before line =
-    subst (Appends got gets) (sym (lines-more rules place rule p there)) (appends_both got mid gets (rules_lines (take place rules) p) (verdict_lines rule p) before line)
+pub rules-more : (skips : List Skip) (rules : List Rule) (place : ℕ) (rule : Rule) (p : Passed) (got mid gets : Option (List ℕ)) → slice_get rules place ≡ Some rule → Appends got mid (rules_lines skips (take place rules) p)
+    → Appends mid gets (verdict_lines skips rule p) → Appends got gets (rules_lines skips (take (place + 1) rules) p)
+rules-more skips rules place rule p got mid gets there before line =
+    subst (Appends got gets) (sym (lines-more skips rules place rule p there)) (appends_both got mid gets (rules_lines skips (take place rules) p) (verdict_lines skips rule p) before line)
 
 -- as many verdicts are not held as rules
 pub same-held : (rules : List Rule) (p : Passed) (verdicts : List RuleVerdict) → AreVerdicts rules p verdicts → not_held verdicts ≡ rules_not_held rules p
@@ -92,5 +93,5 @@ same-held (r ∷ rs) p (v ∷ vs) are =
     let rest = same-held rs p vs (record { many = omega (arith, are.many); each = λ k rule verdict asked has. are.each (suc k) rule verdict asked has }) in
     rw (first, rest) refl
 
-pub whole-text : (rules : List Rule) (p : Passed) (verdicts : List RuleVerdict) → AreVerdicts rules p verdicts → rules_lines rules p ++ last_line (length verdicts) (not_held verdicts) ≡ verdict_text rules p
-whole-text rules p verdicts are = rw (are.many, same-held rules p verdicts are) refl
+pub whole-text : (skips : List Skip) (rules : List Rule) (p : Passed) (verdicts : List RuleVerdict) → AreVerdicts rules p verdicts → rules_lines skips rules p ++ last_line (length verdicts) (not_held verdicts) ≡ verdict_text skips rules p
+whole-text skips rules p verdicts are = rw (are.many, same-held rules p verdicts are) refl

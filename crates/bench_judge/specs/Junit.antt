@@ -2,6 +2,7 @@
 use Rattle.std.specs.Prelude.{ℕ, zero, suc, ◌-◌, ◌==◌, if◌then◌else◌, List, [], ◌∷◌, ◌++◌, length, take, reverse, codes}
 use Rattle.std.specs.Prelude.{decimal}
 use Rattle.std.specs.List.{flat_map}
+use Rattle.ch11_reader.specs.declared.skip.Skip.{Skip}
 use Rattle.text_lines.specs.Words.{Text}
 use Rattle.judge_rules.specs.declared.rules.Check.{Check}
 use Rattle.judge_rules.specs.declared.rules.Rule.{Rule}
@@ -73,24 +74,25 @@ abbrev pub case_end : Text → Text → Check → RuleVerdict → List ℕ → L
 case_end file name check v told = if v.held then codes "\"/>\n" else failure file name check v told
 
 -- what is told of the first messages that miss a rule, so many of them, or of the first packets
-abbrev pub told_first : ℕ → Rule → Passed → List ℕ
-told_first most rule p =
-    if is_whole rule.check then flat_map told_packet (take most (packets_missed rule p.packets))
+abbrev pub told_first : List Skip → ℕ → Rule → Passed → List ℕ
+told_first skips most rule p =
+    if is_whole rule.check then flat_map (told_packet skips) (take most (packets_missed rule p.packets))
     else flat_map (told_moment rule p.origins) (take most (reverse (missed rule p.origins p.messages)))
 
 -- of the first hundred, and nothing where none misses it
-abbrev pub told_lines : Rule → RuleVerdict → Passed → List ℕ
-told_lines rule v p = if v.missed == 0 then [] else told_first 100 rule p
+abbrev pub told_lines : List Skip → Rule → RuleVerdict → Passed → List ℕ
+told_lines skips rule v p = if v.missed == 0 then [] else told_first skips 100 rule p
 
-abbrev pub case_text : Text → Text → Rule → RuleVerdict → Passed → List ℕ
-case_text file text rule v p = case_head v (rule_text text v.line)
-    ++ case_end file (rule_text text v.line) rule.check v (told_lines rule v p)
+abbrev pub case_text : Text → Text → List Skip → Rule → RuleVerdict → Passed → List ℕ
+case_text file text skips rule v p = case_head v (rule_text text v.line)
+    ++ case_end file (rule_text text v.line) rule.check v (told_lines skips rule v p)
 
 -- a test case for each rule and its verdict, in their order
-abbrev pub cases : Text → Text → List Rule → List RuleVerdict → Passed → List ℕ
-cases file text [] verdicts p = []
-cases file text (rule ∷ rules) [] p = []
-cases file text (rule ∷ rules) (v ∷ verdicts) p = case_text file text rule v p ++ cases file text rules verdicts p
+abbrev pub cases : Text → Text → List Skip → List Rule → List RuleVerdict → Passed → List ℕ
+cases file text skips [] verdicts p = []
+cases file text skips (rule ∷ rules) [] p = []
+cases file text skips (rule ∷ rules) (v ∷ verdicts) p =
+    case_text file text skips rule v p ++ cases file text skips rules verdicts p
 
 -- ---- the file
 
@@ -108,7 +110,8 @@ suite_head verdicts =
     codes "<?xml version=\"1.0\" encoding=\"UTF-8\"?>\n<testsuite name=\"bench judge\" tests=\""
     ++ (decimal (length verdicts) ++ (codes "\" failures=\"" ++ (decimal (not_held verdicts) ++ codes "\">\n")))
 
--- the file of rules, which the text of a file spells, with the verdict on each on a recording
-unfoldable pub junit : Text → Text → List Rule → List RuleVerdict → Lost → Passed → List ℕ
-junit file text rules verdicts lost p =
-    suite_head verdicts ++ (properties lost ++ (cases file text rules verdicts p ++ codes "</testsuite>\n"))
+-- the file of rules, which the text of a file spells, with the verdict on each on a recording, of whose file these bytes
+-- were skipped
+unfoldable pub junit : Text → Text → List Skip → List Rule → List RuleVerdict → Lost → Passed → List ℕ
+junit file text skips rules verdicts lost p =
+    suite_head verdicts ++ (properties lost ++ (cases file text skips rules verdicts p ++ codes "</testsuite>\n"))

@@ -4,6 +4,7 @@ pub mod Checks
 pub mod Kept
 pub mod Losses
 pub mod Packets
+pub mod Skips
 pub mod Verdicts
 pub mod Told
 pub mod Lines

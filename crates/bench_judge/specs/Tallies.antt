@@ -5,6 +5,7 @@ use Rattle.std.specs.List.{flat_map}
 use Rattle.std.specs.Io.KnownBytes.{Appends}
 use Rattle.ch11_f1.specs.BodyReading.{Message}
 use Rattle.ch11_reader.specs.declared.packet.Packet.{Packet}
+use Rattle.ch11_reader.specs.declared.skip.Skip.{Skip}
 use Rattle.ch11_layout.specs.Stamps.{recorded, time_of}
 use Rattle.ch11_layout.specs.declared.stamps.StampKind.{StampKind}
 use Rattle.judge_rules.specs.declared.rules.Rule.{Rule}
@@ -77,8 +78,9 @@ pub record IsTelling (rule : Rule) (origins : Origins) (most : ℕ) (history : L
   pub left : telling.left ≡ most - length (missed rule origins history)
 
 -- the first packets that missed the rule so far, at most so many, were told, and so many more will be
-pub record IsPacketTelling (rule : Rule) (most : ℕ) (packets : List Packet) (text : List ℕ) (more : ℕ) : Type 0 where
-  pub told : text ≡ flat_map told_packet (take most (packets_missed rule packets))
+pub record IsPacketTelling (skips : List Skip) (rule : Rule) (most : ℕ) (packets : List Packet) (text : List ℕ)
+    (more : ℕ) : Type 0 where
+  pub told : text ≡ flat_map (told_packet skips) (take most (packets_missed rule packets))
   pub left : more ≡ most - length (packets_missed rule packets)
 
 -- a text was told and one less is left, or none was left

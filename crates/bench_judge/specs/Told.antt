@@ -8,6 +8,7 @@ use Rattle.ch11_layout.specs.Layouts.{first_gap, second_gap}
 use Rattle.ch11_layout.specs.Replies.{data_count, data_words, statuses}
 use Rattle.ch11_layout.specs.Stamps.{Recorded, has_time}
 use Rattle.ch11_reader.specs.declared.packet.Packet.{Packet}
+use Rattle.ch11_reader.specs.declared.skip.Skip.{Skip}
 use Rattle.judge_rules.specs.declared.rules.Bounds.{Bounds}
 use Rattle.judge_rules.specs.declared.rules.Datum.{Datum}
 use Rattle.judge_rules.specs.declared.rules.Rule.{Rule}
@@ -18,6 +19,7 @@ use Rattle.judge_rules.specs.declared.rules.Check.TheVariants.{Count, CountOf, D
 use Rattle.bench_judge.specs.declared.verdicts.Miss.{Miss}
 use Rattle.bench_judge.specs.Checks.{data_word, step_from}
 use Rattle.bench_judge.specs.Selection.{Origins}
+use Rattle.bench_judge.specs.Skips.{file_place}
 use Rattle.bench_judge.specs.Verdicts.{Moment, latest, miss_of}
 
 -- a word as four hexadecimal digits, and behind a space
@@ -153,18 +155,18 @@ abbrev pub told_moment : Rule → Origins → Moment → List ℕ
 told_moment rule origins x =
     told_at (miss_of x) rule.check (latest rule origins x.channel x.earlier) x.message
 
--- a packet that misses a rule, and why
+-- a packet that misses a rule, by where it begins in a file of which these bytes were skipped, and why
 abbrev pub packet_why : Packet → List ℕ
 packet_why p =
     if has_overflow p.header then codes ": overflow flag, expected none"
     else codes ": sequence number " ++ (decimal p.header.sequence ++ codes ", expected the next of its channel")
 
-unfoldable pub packet_told : List ℕ → Packet → List ℕ
-packet_told label p =
-    label ++ (decimal p.offset ++ (codes " channel " ++ (decimal p.header.channel ++ packet_why p)))
+unfoldable pub packet_told : List ℕ → List Skip → Packet → List ℕ
+packet_told label skips p =
+    label ++ (decimal (file_place skips p.offset) ++ (codes " channel " ++ (decimal p.header.channel ++ packet_why p)))
 
-abbrev pub told_packet : Packet → List ℕ
-told_packet p = packet_told (codes "\npacket ") p
+abbrev pub told_packet : List Skip → Packet → List ℕ
+told_packet skips p = packet_told (codes "\npacket ") skips p
 
 -- a count that is not met
 unfoldable pub told_count : Check → ℕ → List ℕ

@@ -129,7 +129,7 @@ fn shown_misses<S: Reopen>(
     recording: &S,
     names: ChannelNames<'_>,
     rule: &Rule,
-    origins: &[Option<u64>],
+    judged: Judged<'_>,
     missed: u64,
 ) -> Result<Vec<u8>, PassFault>
     ensures { missed ≡ 0 → IfOk result (λ shown. shown.items ≡ []) }
@@ -139,7 +139,8 @@ fn shown_misses<S: Reopen>(
         let wanted = Wanted {
             alloc,
             rule,
-            origins,
+            origins: judged.origins,
+            skips: judged.skips,
             most: SHOWN as usize,
         };
         write_first(recording, wanted, names, line, &mut shown)?;
@@ -167,7 +168,7 @@ fn write_rule<S: Reopen, W: Write>(
     channels: ChannelNames<'_>,
     name: &[u8],
     rule: &Rule,
-    origins: &[Option<u64>],
+    judged: Judged<'_>,
     verdict: &RuleVerdict,
     out: &mut W,
 ) -> Result<(), PassFault>
@@ -177,7 +178,7 @@ fn write_rule<S: Reopen, W: Write>(
     let mut text = Vec::new(alloc);
     put_rule(&mut text, name, &rule.check, verdict)?;
     let missed = verdict.missed;
-    let shown = shown_misses(alloc, line, recording, channels, rule, origins, missed)?;
+    let shown = shown_misses(alloc, line, recording, channels, rule, judged, missed)?;
     out.write_all(text.as_slice())?;
     out.write_all(shown.as_slice())?;
     write_more(verdict.missed, out)?;
@@ -206,9 +207,8 @@ fn write_rules<S: Reopen, W: Write>(
             return Ok(());
         };
         let name = names.at(verdict.line);
-        let origins = judged.origins;
         write_rule(
-            alloc, &mut line, recording, channels, name, rule, origins, verdict, out,
+            alloc, &mut line, recording, channels, name, rule, judged, verdict, out,
         )?;
         rules = more;
         verdicts = others;

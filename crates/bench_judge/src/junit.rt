@@ -117,11 +117,12 @@ fn told_of<S: Reopen>(
     alloc: Global,
     recording: &S,
     rule: &Rule,
-    origins: &[Option<u64>],
+    judged: Judged<'_>,
     verdict: &RuleVerdict,
 ) -> Result<Vec<u8>, PassFault>
     ensures { (file : List ℕ) → S.bytes recording.now ≡ Some file
-        → IfOk result (λ told. told.items ≡ spec.told_lines rule.now verdict.now (passed_of origins.now file)) }
+        → IfOk result (λ told. told.items ≡ spec.told_lines judged.entry.skips.now rule.now verdict.now
+        (passed_of judged.entry.origins.now file)) }
 {
     if verdict.missed == 0 {
         return Ok(Vec::new(alloc));
@@ -131,7 +132,8 @@ fn told_of<S: Reopen>(
         Wanted {
             alloc,
             rule,
-            origins,
+            origins: judged.origins,
+            skips: judged.skips,
             most: TOLD,
         },
     )
@@ -144,18 +146,18 @@ fn put_case_end<S: Reopen>(
     recording: &S,
     named: Named<'_>,
     rule: &Rule,
-    origins: &[Option<u64>],
+    judged: Judged<'_>,
     verdict: &RuleVerdict,
 ) -> Result<(), PassFault>
     ensures { (file : List ℕ) → S.bytes recording.now ≡ Some file
         → OnOk result (text.new.items
         ≡ text.old.items ++ spec.case_end named.entry.file.now named.entry.name.now rule.now.check verdict.now
-        (spec.told_lines rule.now verdict.now (passed_of origins.now file))) }
+        (spec.told_lines judged.entry.skips.now rule.now verdict.now (passed_of judged.entry.origins.now file))) }
 {
     if verdict.held {
         return Ok(text.extend_from_slice(b"\"/>\n")?);
     }
-    let told = told_of(*text.allocator(), recording, rule, origins, verdict)?;
+    let told = told_of(*text.allocator(), recording, rule, judged, verdict)?;
     Ok(put_failure(text, named, &rule.check, verdict, told.as_slice())?)
 }
 
@@ -165,16 +167,16 @@ fn put_case<S: Reopen>(
     recording: &S,
     named: Named<'_>,
     rule: &Rule,
-    origins: &[Option<u64>],
+    judged: Judged<'_>,
     verdict: &RuleVerdict,
 ) -> Result<(), PassFault>
     ensures { (file : List ℕ) → S.bytes recording.now ≡ Some file
         → OnOk result (text.new.items ≡ text.old.items ++ (spec.case_head verdict.now named.entry.name.now
         ++ spec.case_end named.entry.file.now named.entry.name.now rule.now.check verdict.now
-        (spec.told_lines rule.now verdict.now (passed_of origins.now file)))) }
+        (spec.told_lines judged.entry.skips.now rule.now verdict.now (passed_of judged.entry.origins.now file)))) }
 {
     put_case_head(text, named.name, verdict)?;
-    put_case_end(text, recording, named, rule, origins, verdict)
+    put_case_end(text, recording, named, rule, judged, verdict)
 }
 
 /// Appends the test case of each rule.
@@ -185,8 +187,8 @@ fn put_cases<S: Reopen>(
 ) -> Result<(), PassFault>
     ensures { (file : List ℕ) → S.bytes recording.now ≡ Some file
         → OnOk result (text.new.items ≡ text.old.items
-        ++ spec.cases judged.entry.file.now judged.entry.text.now judged.entry.rules.now judged.entry.verdicts.now
-        (passed_of judged.entry.origins.now file)) }
+        ++ spec.cases judged.entry.file.now judged.entry.text.now judged.entry.skips.now judged.entry.rules.now
+        judged.entry.verdicts.now (passed_of judged.entry.origins.now file)) }
 {
     let mut names = Names::of(judged.text);
     let mut rules = judged.rules;
@@ -200,7 +202,7 @@ fn put_cases<S: Reopen>(
             file: judged.file,
             name,
         };
-        put_case(text, recording, named, rule, judged.origins, verdict)?;
+        put_case(text, recording, named, rule, judged, verdict)?;
         rules = more;
         verdicts = others;
     }
@@ -260,8 +262,8 @@ pub fn junit_text<S: Reopen>(
     lost: Lost,
 ) -> Result<Vec<u8>, PassFault>
     ensures { (file : List ℕ) → S.bytes recording.now ≡ Some file → IfOk result (λ made. made.items
-        ≡ spec.junit judged.entry.file.now judged.entry.text.now judged.entry.rules.now judged.entry.verdicts.now lost
-        (passed_of judged.entry.origins.now file)) }
+        ≡ spec.junit judged.entry.file.now judged.entry.text.now judged.entry.skips.now judged.entry.rules.now
+        judged.entry.verdicts.now lost (passed_of judged.entry.origins.now file)) }
 {
     let mut text = Vec::new(alloc);
     put_suite_head(&mut text, judged.verdicts)?;

@@ -8,11 +8,12 @@ ghost use Rattle.std.specs.Io.KnownBytes.{Appends};
 ghost use Rattle.std.specs.Prelude.{◌≡◌, ◌+◌, ◌<◌, ◌^◌, ◌∷◌, List, ℕ, Option, length, OnOk};
 
 use crate::fault::PrintFault;
+use crate::skips::file_place;
 use crate::tallies::Tally;
 use crate::verdicts::{Miss, RuleVerdict, not_held};
 use ch11_f1::Messages;
 use ch11_layout::{StampKind, View};
-use ch11_reader::Packet;
+use ch11_reader::{Packet, Skip};
 use judge_rules::Rule;
 use std::io;
 use std::io::Write;
@@ -84,12 +85,18 @@ pub(crate) fn write_messages<W: Write>(
     Ok(())
 }
 
-/// Writes that a packet misses the rule of a line.
-pub(crate) fn write_packet<W: Write>(out: &mut W, line: u64, packet: &Packet) -> io::Result<()>
-    ensures { OnOk result (Appends (W.contents out.old) (W.contents out.new) (packet_line line packet.now)) }
+/// Writes that a packet misses the rule of a line, by where it begins in the file of which these bytes were skipped.
+pub(crate) fn write_packet<W: Write>(
+    out: &mut W,
+    line: u64,
+    packet: &Packet,
+    skips: &[Skip],
+) -> io::Result<()>
+    ensures { OnOk result (Appends (W.contents out.old) (W.contents out.new)
+        (packet_line skips.now line packet.now)) }
 {
-    let (offset, channel) = (packet.offset, packet.header.channel);
-    write!(out, "missed {line} packet {offset} channel {channel}\n")
+    let (place, channel) = (file_place(skips, packet.offset), packet.header.channel);
+    write!(out, "missed {line} packet {place} channel {channel}\n")
 }
 
 /// Writes that the count of a rule is not met, of which this is the verdict.

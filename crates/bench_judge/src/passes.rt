@@ -20,7 +20,7 @@ use crate::pass_fault::PassFault;
 use crate::tallies::Tally;
 use crate::verdicts::RuleVerdict;
 use bench_watch::Reopen;
-use ch11_reader::Packet;
+use ch11_reader::{Packet, Skip};
 use ch11_stream::{Advance, Packets, StreamFault};
 use judge_rules::Rule;
 use std::alloc::Global;
@@ -58,33 +58,40 @@ pub fn write_misses<R: Advance + Drop, W: Write>(
 }
 
 /// Writes a packet as a line where it misses a rule.
-fn write_if_missed<W: Write>(rule: &Rule, packet: &Packet, out: &mut W) -> io::Result<()>
+fn write_if_missed<W: Write>(
+    rule: &Rule,
+    packet: &Packet,
+    skips: &[Skip],
+    out: &mut W,
+) -> io::Result<()>
     ensures { OnOk result (Appends (W.contents out.old) (W.contents out.new)
-        (flat_map (packet_line rule.now.line) (packets_missed rule.now (packet.now ∷ [])))) }
+        (flat_map (packet_line skips.now rule.now.line) (packets_missed rule.now (packet.now ∷ [])))) }
 {
     let missed = misses_packet(rule, packet);
     if missed {
-        return write_packet(out, rule.line, packet);
+        return write_packet(out, rule.line, packet, skips);
     }
     Ok(())
 }
 
-/// Writes the packets that miss a rule, each as a line, in the same way.
+/// Writes the packets that miss a rule, each as a line, in the same way, by where they begin in the file of which these
+/// bytes were skipped.
 pub fn write_packets<R: Advance + Drop, W: Write>(
     alloc: Global,
     input: R,
     rule: &Rule,
     origins: &[Option<u64>],
+    skips: &[Skip],
     out: &mut W,
 ) -> Result<(), PassFault>
     ensures { (file : List ℕ) → R.remaining input ≡ Some file
-        → WritesLinesOf (λ p. flat_map (packet_line rule.now.line) (packets_missed rule.now p.packets)) origins.now
-        result file (W.contents out.old) (W.contents out.new) }
+        → WritesLinesOf (λ p. flat_map (packet_line skips.now rule.now.line) (packets_missed rule.now p.packets))
+        origins.now result file (W.contents out.old) (W.contents out.new) }
 {
     let mut packets = Packets::over(alloc, input)?;
     'packets: for _made in 0..u64::MAX {
         match packets.next() {
-            Ok(Some(packet)) => write_if_missed(rule, &packet, out)?,
+            Ok(Some(packet)) => write_if_missed(rule, &packet, skips, out)?,
             Ok(None) => return Ok(()),
             Err(fault) => return Err(PassFault::Recording(fault)),
         }
@@ -98,13 +105,15 @@ fn write_all<R: Advance + Drop, W: Write>(
     input: R,
     rule: &Rule,
     origins: &[Option<u64>],
+    skips: &[Skip],
     out: &mut W,
 ) -> Result<(), PassFault>
     ensures { (file : List ℕ) → R.remaining input ≡ Some file
-        → WritesLinesOf (missed_lines rule.now) origins.now result file (W.contents out.old) (W.contents out.new) }
+        → WritesLinesOf (missed_lines skips.now rule.now) origins.now result file (W.contents out.old)
+        (W.contents out.new) }
 {
     if is_whole(&rule.check) {
-        return write_packets(alloc, input, rule, origins, out);
+        return write_packets(alloc, input, rule, origins, skips, out);
     }
     write_misses(alloc, input, rule, origins, out)
 }
@@ -115,13 +124,15 @@ fn write_each<S: Reopen, W: Write>(
     recording: &S,
     rule: &Rule,
     origins: &[Option<u64>],
+    skips: &[Skip],
     out: &mut W,
 ) -> Result<(), PassFault>
     ensures { (file : List ℕ) → S.bytes recording.now ≡ Some file
-        → WritesLinesOf (missed_lines rule.now) origins.now result file (W.contents out.old) (W.contents out.new) }
+        → WritesLinesOf (missed_lines skips.now rule.now) origins.now result file (W.contents out.old)
+        (W.contents out.new) }
 {
     match recording.reopen() {
-        Ok(input) => write_all(alloc, input, rule, origins, out),
+        Ok(input) => write_all(alloc, input, rule, origins, skips, out),
         Err(error) => Err(PassFault::Opening(error)),
     }
 }
@@ -133,17 +144,19 @@ fn write_missed<S: Reopen, W: Write>(
     recording: &S,
     rule: &Rule,
     origins: &[Option<u64>],
+    skips: &[Skip],
     missed: u64,
     out: &mut W,
 ) -> Result<(), PassFault>
     ensures { (file : List ℕ) → S.bytes recording.now ≡ Some file → packets_in file ≡ Ok (found_in file)
         → missed ≡ spec.missed_count rule.now (passed_of origins.now file)
-        → WritesLinesOf (missed_lines rule.now) origins.now result file (W.contents out.old) (W.contents out.new) }
+        → WritesLinesOf (missed_lines skips.now rule.now) origins.now result file (W.contents out.old)
+        (W.contents out.new) }
 {
     if missed == 0 {
         return Ok(());
     }
-    write_each(alloc, recording, rule, origins, out)
+    write_each(alloc, recording, rule, origins, skips, out)
 }
 
 /// Writes the lines of a rule, of which this is the verdict.
@@ -152,17 +165,19 @@ fn write_rule<S: Reopen, W: Write>(
     recording: &S,
     rule: &Rule,
     origins: &[Option<u64>],
+    skips: &[Skip],
     verdict: &RuleVerdict,
     out: &mut W,
 ) -> Result<(), PassFault>
     ensures { (file : List ℕ) → S.bytes recording.now ≡ Some file → packets_in file ≡ Ok (found_in file)
         → IsVerdict rule.now (passed_of origins.now file) verdict.now
-        → WritesLinesOf (verdict_lines rule.now) origins.now result file (W.contents out.old) (W.contents out.new) }
+        → WritesLinesOf (verdict_lines skips.now rule.now) origins.now result file (W.contents out.old)
+        (W.contents out.new) }
 {
     if verdict.miscounted {
         return Ok(write_count(out, verdict)?);
     }
-    write_missed(alloc, recording, rule, origins, verdict.missed, out)?;
+    write_missed(alloc, recording, rule, origins, skips, verdict.missed, out)?;
     Ok(write_numbers(out, verdict)?)
 }
 
@@ -172,13 +187,15 @@ fn write_rules<S: Reopen, W: Write>(
     recording: &S,
     rules: &[Rule],
     origins: &[Option<u64>],
+    skips: &[Skip],
     verdicts: &[RuleVerdict],
     out: &mut W,
 ) -> Result<(), PassFault>
     requires { length verdicts.now ≡ length rules.now }
     ensures { (file : List ℕ) → S.bytes recording.now ≡ Some file → packets_in file ≡ Ok (found_in file)
         → AreVerdicts rules.now (passed_of origins.now file) verdicts.now
-        → WritesLinesOf (rules_lines rules.now) origins.now result file (W.contents out.old) (W.contents out.new) }
+        → WritesLinesOf (rules_lines skips.now rules.now) origins.now result file (W.contents out.old)
+        (W.contents out.new) }
 {
     'rules: for place in 0..rules.len() {
         write_rule(
@@ -186,6 +203,7 @@ fn write_rules<S: Reopen, W: Write>(
             recording,
             &rules[place],
             origins,
+            skips,
             &verdicts[place],
             out,
         )?;
@@ -196,22 +214,24 @@ fn write_rules<S: Reopen, W: Write>(
 /// Judges a recording by rules and writes the verdicts as plain lines, rule by rule: a line for each message or packet
 /// that misses the rule, or one for a count that is not met, and a line with its numbers; last how many rules there are
 /// and how many of them are not held. The times of rules count from these times of day, one for each channel whose
-/// stamps are times of day. It takes memory for the largest packet of messages or of time, the rules and, where one
-/// asks for a period or a step, the channels. In a first pass all rules are judged, and nothing is written of a
-/// recording that is refused; each rule that is missed takes one more pass, which writes what misses it. Where the
-/// recording changed between the passes, the writer may have got lines in front of a fault of it, and what a rule's
-/// last line counts is what the first pass found.
+/// stamps are times of day; a packet is told by where it begins in the file of which these bytes were skipped. It takes
+/// memory for the largest packet of messages or of time, the rules and, where one asks for a period or a step, the
+/// channels. In a first pass all rules are judged, and nothing is written of a recording that is refused; each rule
+/// that is missed takes one more pass, which writes what misses it. Where the recording changed between the passes, the
+/// writer may have got lines in front of a fault of it, and what a rule's last line counts is what the first pass
+/// found.
 pub fn write_verdicts<S: Reopen, W: Write>(
     alloc: Global,
     recording: &S,
     rules: &[Rule],
     origins: &[Option<u64>],
+    skips: &[Skip],
     out: &mut W,
 ) -> Result<Vec<RuleVerdict>, PassFault>
     ensures verdicts { (file : List ℕ) → S.bytes recording.now ≡ Some file
         → IfOk result (λ verdicts. AreVerdicts rules.now (passed_of origins.now file) verdicts.items) }
     ensures written { (file : List ℕ) → S.bytes recording.now ≡ Some file
-        → WritesLinesOf (verdict_text rules.now) origins.now result file (W.contents out.old)
+        → WritesLinesOf (verdict_text skips.now rules.now) origins.now result file (W.contents out.old)
         (W.contents out.new) }
     ensures refused { (file : List ℕ) (r : Refusal) → S.bytes recording.now ≡ Some file → packets_in file ≡ Err r
         → out.new ≡ out.old }
@@ -220,7 +240,15 @@ pub fn write_verdicts<S: Reopen, W: Write>(
         Ok(input) => judge(alloc, input, rules, origins)?,
         Err(error) => return Err(PassFault::Opening(error)),
     };
-    write_rules(alloc, recording, rules, origins, verdicts.as_slice(), out)?;
+    write_rules(
+        alloc,
+        recording,
+        rules,
+        origins,
+        skips,
+        verdicts.as_slice(),
+        out,
+    )?;
     write_last(out, verdicts.as_slice())?;
     out.flush()?;
     Ok(verdicts)

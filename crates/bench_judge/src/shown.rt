@@ -157,7 +157,7 @@ fn show_packet<W: Write>(
     out: &mut W,
 ) -> Result<(), PassFault> {
     let mut text = Vec::new(wanted.alloc);
-    put_packet(&mut text, b"      packet ", packet)?;
+    put_packet(&mut text, b"      packet ", packet, wanted.skips)?;
     text.extend_from_slice(b"\n")?;
     out.write_all(text.as_slice())?;
     Ok(())

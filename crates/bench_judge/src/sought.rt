@@ -12,25 +12,28 @@ use crate::telling::{tell_messages, tell_packets};
 use bench_decode::TextLine;
 use bench_names::ChannelNames;
 use bench_watch::Reopen;
+use ch11_reader::Skip;
 use ch11_stream::{Advance, StreamFault};
 use judge_rules::Rule;
 use std::alloc::Global;
 use std::io::Write;
 
 /// What is looked for: the first messages or packets that miss a rule, at most as many as that. The times of the rule
-/// count from these times of day.
+/// count from these times of day, and these bytes of the file were skipped.
 #[derive(Clone, Copy)]
 pub(crate) struct Wanted<'r> {
     pub(crate) alloc: Global,
     pub(crate) rule: &'r Rule,
     pub(crate) origins: &'r [Option<u64>],
+    pub(crate) skips: &'r [Skip],
     pub(crate) most: usize,
 }
 
 /// What is told of them.
 pub(crate) fn tell_first<S: Reopen>(recording: &S, wanted: Wanted<'_>) -> Result<Vec<u8>, PassFault>
     ensures { (file : List ℕ) → S.bytes recording.now ≡ Some file → IfOk result (λ told.
-        told.items ≡ told_first wanted.entry.most wanted.entry.rule.now (passed_of wanted.entry.origins.now file)) }
+        told.items ≡ told_first wanted.entry.skips.now wanted.entry.most wanted.entry.rule.now
+        (passed_of wanted.entry.origins.now file)) }
 {
     match recording.reopen() {
         Ok(input) => Ok(tell_in(input, wanted)?),
@@ -41,12 +44,13 @@ pub(crate) fn tell_first<S: Reopen>(recording: &S, wanted: Wanted<'_>) -> Result
 /// What is told of them, of all bytes that a reader has left.
 fn tell_in<R: Advance + Drop>(input: R, wanted: Wanted<'_>) -> Result<Vec<u8>, StreamFault>
     ensures { (file : List ℕ) → R.remaining input ≡ Some file
-        → FoldsPackets (λ ps told. told.items ≡ told_first wanted.entry.most wanted.entry.rule.now
+        → FoldsPackets (λ ps told. told.items
+        ≡ told_first wanted.entry.skips.now wanted.entry.most wanted.entry.rule.now
         (passed_in wanted.entry.origins.now ps)) result file }
 {
     let (alloc, rule, most) = (wanted.alloc, wanted.rule, wanted.most);
     if is_whole(&rule.check) {
-        return tell_packets(alloc, input, rule, most);
+        return tell_packets(alloc, input, rule, most, wanted.skips);
     }
     tell_messages(alloc, input, rule, wanted.origins, most)
 }

@@ -19,7 +19,7 @@ use crate::told::{put_packet, put_told_at};
 use crate::verdicts::Miss;
 use ch11_f1::Messages;
 use ch11_layout::{StampKind, View};
-use ch11_reader::Packet;
+use ch11_reader::{Packet, Skip};
 use ch11_stream::{Advance, Packets, StreamFault};
 use judge_rules::{Check, Rule};
 use std::alloc::{AllocError, Global};
@@ -145,10 +145,11 @@ fn tell_one(
     rule: &Rule,
     packet: &Packet,
     left: usize,
+    skips: &[Skip],
 ) -> Result<usize, AllocError>
     ensures { (packets : List PacketValue) → (most : ℕ)
-        → IsPacketTelling rule.now most packets text.old.items left
-        → IfOk result (IsPacketTelling rule.now most (packets ++ packet.now ∷ []) text.new.items) }
+        → IsPacketTelling skips.now rule.now most packets text.old.items left
+        → IfOk result (IsPacketTelling skips.now rule.now most (packets ++ packet.now ∷ []) text.new.items) }
 {
     if left == 0 {
         return Ok(left);
@@ -157,27 +158,29 @@ fn tell_one(
     if !missed {
         return Ok(left);
     }
-    put_packet(text, b"\npacket ", packet)?;
+    put_packet(text, b"\npacket ", packet, skips)?;
     Ok(left - 1)
 }
 
-/// What is told of the first packets that miss a rule, in the same way.
+/// What is told of the first packets that miss a rule, in the same way, by where they begin in the file of which these
+/// bytes were skipped.
 pub fn tell_packets<R: Advance + Drop>(
     alloc: Global,
     input: R,
     rule: &Rule,
     most: usize,
+    skips: &[Skip],
 ) -> Result<Vec<u8>, StreamFault>
     ensures { (file : List ℕ) → R.remaining input ≡ Some file
         → FoldsPackets (λ ps told. told.items
-        ≡ flat_map told_packet (take most (packets_missed rule.now (listing ps)))) result file }
+        ≡ flat_map (told_packet skips.now) (take most (packets_missed rule.now (listing ps)))) result file }
 {
     let mut packets = Packets::over(alloc, input)?;
     let mut text = Vec::new(alloc);
     let mut left = most;
     'packets: for _made in 0..u64::MAX {
         match packets.next() {
-            Ok(Some(packet)) => left = tell_one(&mut text, rule, &packet, left)?,
+            Ok(Some(packet)) => left = tell_one(&mut text, rule, &packet, left, skips)?,
             Ok(None) => return Ok(text),
             Err(fault) => return Err(fault),
         }

@@ -4,10 +4,11 @@ ghost use Rattle.std.specs.Prelude.{◌≡◌, ◌++◌, OnOk};
 
 use crate::expected::put_expected;
 use crate::numbers::put_number;
+use crate::skips::file_place;
 use crate::there::put_there;
 use crate::verdicts::Miss;
 use ch11_layout::View;
-use ch11_reader::Packet;
+use ch11_reader::{Packet, Skip};
 use judge_rules::Check;
 use std::alloc::AllocError;
 
@@ -71,16 +72,17 @@ fn put_why(text: &mut Vec<u8>, packet: &Packet) -> Result<(), AllocError>
     text.extend_from_slice(b", expected the next of its channel")
 }
 
-/// Appends where a packet is that misses a rule, behind a label, and why.
+/// Appends where a packet is that misses a rule, in the file of which these bytes were skipped, behind a label, and why.
 #[tactic(auto, unfolding(crate::specs::Told::packet_told))]
 pub(crate) fn put_packet(
     text: &mut Vec<u8>,
     label: &[u8],
     packet: &Packet,
+    skips: &[Skip],
 ) -> Result<(), AllocError>
-    ensures { OnOk result (text.new.items ≡ text.old.items ++ spec.packet_told label.now packet.now) }
+    ensures { OnOk result (text.new.items ≡ text.old.items ++ spec.packet_told label.now skips.now packet.now) }
 {
-    put_number(text, label, packet.offset as u64)?;
+    put_number(text, label, file_place(skips, packet.offset) as u64)?;
     put_number(text, b" channel ", u64::from(packet.header.channel))?;
     put_why(text, packet)
 }

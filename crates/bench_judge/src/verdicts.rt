@@ -3,6 +3,7 @@ ghost use Rattle.bench_judge.specs.Verdicts as spec;
 ghost use Rattle.std.specs.Prelude.{◌≡◌, ◌≤◌, length};
 
 use crate::checks::{counts, is_count};
+use ch11_reader::Skip;
 use judge_rules::Rule;
 
 /// A message that misses a rule.
@@ -45,6 +46,8 @@ pub struct Judged<'j> {
     pub rules: &'j [Rule],
     /// The first time of day of each channel of the recording, as `bench_select::read_stamps` finds them.
     pub origins: &'j [Option<u64>],
+    /// The bytes of the recording's file that were skipped, as `read_skips` finds them.
+    pub skips: &'j [Skip],
     /// The verdict on each rule.
     pub verdicts: &'j [RuleVerdict],
 }

@@ -10,8 +10,8 @@ invariant-rules g l = record {
   text : l.names.text.now ≡ l.judged.text.now;
   left : AreLeft l.names;
   written : (file : List ℕ) → g.S.Reopen.bytes l.recording ≡ Some file
-      → l.text.items ++ cases l.judged.file.now l.judged.text.now l.rules l.verdicts (passed_of l.judged.origins.now file)
-      ≡ l.fn.text.items ++ cases l.judged.file.now l.judged.text.now l.judged.rules.now l.judged.verdicts.now (passed_of l.judged.origins.now file);
+      → l.text.items ++ cases l.judged.file.now l.judged.text.now l.judged.skips.now l.rules l.verdicts (passed_of l.judged.origins.now file)
+      ≡ l.fn.text.items ++ cases l.judged.file.now l.judged.text.now l.judged.skips.now l.judged.rules.now l.judged.verdicts.now (passed_of l.judged.origins.now file);
 }
 
 abbrev pub decreases-rules : goal.decreases-rules

@@ -9,14 +9,16 @@ use Rattle.bench_judge.proofs.passes.write_all.Goals as goal
 
 pub returns-then-is_whole : goal.returns-then-is_whole
 returns-then-is_whole g c file is =
+    let skips = c.args.skips.now in
     let rule = c.args.rule.now in
     let origins = c.args.origins.now in
-    same_lines (λ p. flat_map (packet_line rule.line) (packets_missed rule p.packets)) (missed_lines rule) origins c.write_packets.result file _ _
-    (lines_whole rule (passed_of origins file) (sym c.is_whole.ensures ∙ c.if-is_whole.true)) (c.write_packets.ensures file is)
+    same_lines (λ p. flat_map (packet_line skips rule.line) (packets_missed rule p.packets)) (missed_lines skips rule) origins c.write_packets.result file _ _
+    (lines_whole skips rule (passed_of origins file) (sym c.is_whole.ensures ∙ c.if-is_whole.true)) (c.write_packets.ensures file is)
 
 pub returns : goal.returns
 returns g c file is =
+    let skips = c.args.skips.now in
     let rule = c.args.rule.now in
     let origins = c.args.origins.now in
-    same_lines (λ p. miss_lines rule p.origins p.messages) (missed_lines rule) origins c.write_misses.result file _ _
-    (lines_other rule (passed_of origins file) (sym c.is_whole.ensures ∙ c.if-is_whole.false)) (c.write_misses.ensures file is)
+    same_lines (λ p. miss_lines rule p.origins p.messages) (missed_lines skips rule) origins c.write_misses.result file _ _
+    (lines_other skips rule (passed_of origins file) (sym c.is_whole.ensures ∙ c.if-is_whole.false)) (c.write_misses.ensures file is)

@@ -10,10 +10,10 @@ pub returns-then-missed : goal.returns-then-missed
 returns-then-missed g c =
     let rule = c.args.rule.now in
     let missed = sym c.misses_packet-missed.ensures ∙ c.if-missed.true in
-    subst (λ (l : List ℕ). OnOk c.write_packet.result (Appends (g.W.Write.contents c.args.out.now) (g.W.Write.contents c.write_packet.new.out) l)) (sym (line-one rule (packet_line rule.line) c.args.packet.now missed)) c.write_packet.ensures
+    subst (λ (l : List ℕ). OnOk c.write_packet.result (Appends (g.W.Write.contents c.args.out.now) (g.W.Write.contents c.write_packet.new.out) l)) (sym (line-one rule (packet_line c.args.skips.now rule.line) c.args.packet.now missed)) c.write_packet.ensures
 
 pub returns : goal.returns
 returns g c =
     let rule = c.args.rule.now in
     let kept = sym c.misses_packet-missed.ensures ∙ c.if-missed.false in
-    subst (Appends (g.W.Write.contents c.args.out.now) (g.W.Write.contents c.args.out.now)) (sym (line-none rule (packet_line rule.line) c.args.packet.now kept)) (appends_nothing (g.W.Write.contents c.args.out.now))
+    subst (Appends (g.W.Write.contents c.args.out.now) (g.W.Write.contents c.args.out.now)) (sym (line-none rule (packet_line c.args.skips.now rule.line) c.args.packet.now kept)) (appends_nothing (g.W.Write.contents c.args.out.now))

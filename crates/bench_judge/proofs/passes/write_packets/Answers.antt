@@ -26,12 +26,13 @@ packets-preserved g c =
     let earlier = c.packets.packets.earlier in
     let p = c.in-Ok-Some.packet in
     let rule = c.args.rule.now in
+    let skips = c.args.skips.now in
     let got = g.W.Write.contents c.args.out.now in
     let gets = g.W.Write.contents c.write_if_missed.new.out in
-    let more = lines-more rule (packet_line rule.line) (listing (reverse earlier)) p got (g.W.Write.contents c.packets.out) gets c.packets.invariant.written c.in_ok-write_if_missed-in-Ok-Some.ensures in
+    let more = lines-more rule (packet_line skips rule.line) (listing (reverse earlier)) p got (g.W.Write.contents c.packets.out) gets c.packets.invariant.written c.in_ok-write_if_missed-in-Ok-Some.ensures in
     record {
       known = λ file is. amid_on file c.packets.packets now p s (c.packets.invariant.known file is);
-      written = subst (λ (ps : List Packet). Appends got gets (flat_map (packet_line rule.line) (packets_missed rule ps))) (sym (listed_next c.packets.packets now p s)) more;
+      written = subst (λ (ps : List Packet). Appends got gets (flat_map (packet_line skips rule.line) (packets_missed rule ps))) (sym (listed_next c.packets.packets now p s)) more;
     }
 
 pub returns-in-Ok-None : goal.returns-in-Ok-None
@@ -39,7 +40,7 @@ returns-in-Ok-None g c file is =
     let e = rw c.in-Ok-None.field-0-is at c.in-Ok-None.ensures in
     let all = all_found file c.packets.packets c.next.new.self e (c.packets.invariant.known file is) in (
       all.0,
-      subst (λ (ps : List Found). Appends (g.W.Write.contents c.args.out.now) (g.W.Write.contents c.packets.out) (flat_map (packet_line c.args.rule.now.line) (packets_missed c.args.rule.now (listing ps)))) all.1 c.packets.invariant.written,
+      subst (λ (ps : List Found). Appends (g.W.Write.contents c.args.out.now) (g.W.Write.contents c.packets.out) (flat_map (packet_line c.args.skips.now c.args.rule.now.line) (packets_missed c.args.rule.now (listing ps)))) all.1 c.packets.invariant.written,
     )
 
 pub returns-in-Err : goal.returns-in-Err

@@ -11,5 +11,5 @@ use Rattle.bench_judge.proofs.passes.write_packets.Given as goal
 abbrev pub invariant-packets : goal.invariant-packets
 invariant-packets g l = record {
   known : (file : List ℕ) → g.R.Read.remaining l.fn.input ≡ Some file → IsAmid file l.packets;
-  written : Appends (g.W.Write.contents l.fn.out) (g.W.Write.contents l.out) (flat_map (packet_line l.rule.line) (packets_missed l.rule (listing (reverse l.packets.earlier))));
+  written : Appends (g.W.Write.contents l.fn.out) (g.W.Write.contents l.out) (flat_map (packet_line l.skips l.rule.line) (packets_missed l.rule (listing (reverse l.packets.earlier))));
 }

@@ -18,7 +18,7 @@ rules-preserved g c file is read are =
     let asked : slice_get c.args.rules.now c.rules.place ≡ Some c.index-rules-place.result =
     slice_get-get_or c.args.rules.now c.rules.place c.index-rules-place.result within ∙ ap (λ (r : Rule). Some r) (sym c.index-rules-place.is) in
     let one = are.each c.rules.place c.index-rules-place.result _ asked (slice_get-get_or c.args.verdicts.now c.rules.place _ (omega (arith, c.requires, within))) in
-    rules-more c.args.rules.now c.rules.place c.index-rules-place.result (passed_of c.args.origins.now file) (g.W.Write.contents c.args.out.now) (g.W.Write.contents c.rules.out) (g.W.Write.contents c.write_rule.new.out) asked
+    rules-more c.args.skips.now c.args.rules.now c.rules.place c.index-rules-place.result (passed_of c.args.origins.now file) (g.W.Write.contents c.args.out.now) (g.W.Write.contents c.rules.out) (g.W.Write.contents c.write_rule.new.out) asked
     (c.rules.invariant file is read are) (c.in_ok-write_rule.ensures file is read one).1
 
 pub returns-in_err-write_rule : goal.returns-in_err-write_rule
@@ -28,13 +28,13 @@ returns-in_err-write_rule g c file is read are =
     slice_get-get_or c.args.rules.now c.rules.place c.index-rules-place.result within ∙ ap (λ (r : Rule). Some r) (sym c.index-rules-place.is) in
     let one = are.each c.rules.place c.index-rules-place.result _ asked (slice_get-get_or c.args.verdicts.now c.rules.place _ (omega (arith, c.requires, within))) in
     let p = err_from_is_err_and c.from_residual.result c.from_residual.ensures.1 in
-    rw (p.1, p.2) (same_fault (verdict_lines c.index-rules-place.result) (rules_lines c.args.rules.now) c.args.origins.now c.in_err-write_rule.field-0.0 file _ _ _ _ (c.in_err-write_rule.ensures file is read one))
+    rw (p.1, p.2) (same_fault (verdict_lines c.args.skips.now c.index-rules-place.result) (rules_lines c.args.skips.now c.args.rules.now) c.args.origins.now c.in_err-write_rule.field-0.0 file _ _ _ _ (c.in_err-write_rule.ensures file is read one))
 
 pub returns : goal.returns
 returns g c file is read are =
     let whole : take c.rules.place c.args.rules.now ≡ c.args.rules.now = take_all c.rules.place c.args.rules.now (omega (arith, c.rules-test.false)) in (
       read,
-      subst (λ (rules : List Rule). Appends (g.W.Write.contents c.args.out.now) (g.W.Write.contents c.rules.out) (rules_lines rules (passed_of c.args.origins.now file))) whole (c.rules.invariant file is read are),
+      subst (λ (rules : List Rule). Appends (g.W.Write.contents c.args.out.now) (g.W.Write.contents c.rules.out) (rules_lines c.args.skips.now rules (passed_of c.args.origins.now file))) whole (c.rules.invariant file is read are),
     )
 
 pub rules-init : goal.rules-init

@@ -11,4 +11,4 @@ use Rattle.bench_judge.proofs.passes.write_rules.Given as goal
 abbrev pub invariant-rules : goal.invariant-rules
 invariant-rules g l =
     (file : List ℕ) → g.S.Reopen.bytes l.recording ≡ Some file → packets_in file ≡ Ok (found_in file) → AreVerdicts l.rules (passed_of l.origins file) l.verdicts
-    → Appends (g.W.Write.contents l.fn.out) (g.W.Write.contents l.out) (rules_lines (take l.place l.rules) (passed_of l.origins file))
+    → Appends (g.W.Write.contents l.fn.out) (g.W.Write.contents l.out) (rules_lines l.skips (take l.place l.rules) (passed_of l.origins file))

@@ -18,7 +18,7 @@ returns-clause-written g c file is =
     let verdicts = c.in_ok-verdicts-in-Ok.verdicts.items in
     let rules = c.in_ok-write_rules.ensures file is judged.0 (rw c.as_slice.ensures.value judged.1) in
     let last = rw c.as_slice-2.ensures.value at c.in_ok-write_last.ensures in
-    let both = appends_both (g.W.Write.contents c.args.out.now) (g.W.Write.contents c.write_rules.new.out) (g.W.Write.contents c.write_last.new.out) (rules_lines c.args.rules.now p) (last_line (length verdicts) (not_held verdicts)) rules.1 last in (
+    let both = appends_both (g.W.Write.contents c.args.out.now) (g.W.Write.contents c.write_rules.new.out) (g.W.Write.contents c.write_last.new.out) (rules_lines c.args.skips.now c.args.rules.now p) (last_line (length verdicts) (not_held verdicts)) rules.1 last in (
       judged.0,
-      kept _ _ _ _ (subst (Appends (g.W.Write.contents c.args.out.now) (g.W.Write.contents c.write_last.new.out)) (whole-text c.args.rules.now p verdicts judged.1) both) c.in_ok-flush.ensures.bytes,
+      kept _ _ _ _ (subst (Appends (g.W.Write.contents c.args.out.now) (g.W.Write.contents c.write_last.new.out)) (whole-text c.args.skips.now c.args.rules.now p verdicts judged.1) both) c.in_ok-flush.ensures.bytes,
     )

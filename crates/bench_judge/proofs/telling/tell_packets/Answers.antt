@@ -15,7 +15,7 @@ use Rattle.bench_judge.proofs.telling.tell_packets.Goals as goal
 pub packets-init : goal.packets-init
 packets-init g c = record {
   known = λ file is. rw (c.in_ok-packets.ensures, is) (amid_start file);
-  told = rw (c.in_ok-packets.ensures, c.new-text.ensures.items) (told-none c.args.rule.now c.args.most);
+  told = rw (c.in_ok-packets.ensures, c.new-text.ensures.items) (told-none c.args.skips.now c.args.rule.now c.args.most);
 }
 
 pub packets-preserved : goal.packets-preserved
@@ -27,7 +27,7 @@ packets-preserved g c =
     let told = c.in_ok-left-in-Ok-Some.ensures (listing (reverse earlier)) c.args.most c.packets.invariant.told in
     record {
       known = λ file is. amid_on file c.packets.packets now p s (c.packets.invariant.known file is);
-      told = subst (λ (ps : List Packet). IsPacketTelling c.args.rule.now c.args.most ps c.tell_one.new.text.items c.in_ok-left-in-Ok-Some.left) (sym (listed_next c.packets.packets now p s)) told;
+      told = subst (λ (ps : List Packet). IsPacketTelling c.args.skips.now c.args.rule.now c.args.most ps c.tell_one.new.text.items c.in_ok-left-in-Ok-Some.left) (sym (listed_next c.packets.packets now p s)) told;
     }
 
 pub returns-in-Ok-None : goal.returns-in-Ok-None
@@ -35,7 +35,7 @@ returns-in-Ok-None g c file is =
     let e = rw c.in-Ok-None.field-0-is at c.in-Ok-None.ensures in
     let all = all_found file c.packets.packets c.next.new.self e (c.packets.invariant.known file is) in (
       all.0,
-      subst (λ (ps : List Found). c.packets.text.items ≡ flat_map told_packet (take c.args.most (packets_missed c.args.rule.now (listing ps)))) all.1 c.packets.invariant.told.told,
+      subst (λ (ps : List Found). c.packets.text.items ≡ flat_map (told_packet c.args.skips.now) (take c.args.most (packets_missed c.args.rule.now (listing ps)))) all.1 c.packets.invariant.told.told,
     )
 
 pub returns-in-Err : goal.returns-in-Err

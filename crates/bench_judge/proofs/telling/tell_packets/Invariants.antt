@@ -8,5 +8,5 @@ use Rattle.bench_judge.proofs.telling.tell_packets.Given as goal
 abbrev pub invariant-packets : goal.invariant-packets
 invariant-packets g l = record {
   known : (file : List ℕ) → g.R.Read.remaining l.fn.input ≡ Some file → IsAmid file l.packets;
-  told : IsPacketTelling l.rule l.most (listing (reverse l.packets.earlier)) l.text.items l.left;
+  told : IsPacketTelling l.skips l.rule l.most (listing (reverse l.packets.earlier)) l.text.items l.left;
 }
