@@ -6,6 +6,7 @@ use clap::{ArgMatches, Command, Error};
 use command_export::{completing, drawing, exporting};
 use command_judge::{checking, judging};
 use command_listing::{dumping, statistics};
+use command_material::{comparing, cutting};
 use command_parts::context::{Context, context_in, context_option};
 use command_step::{assembling, explaining, one_message, stepping};
 use std::alloc::{AllocError, Global};
@@ -44,6 +45,10 @@ pub enum Request<'a> {
     Judge(judging::Request<'a>),
     /// A recording, made into the file that other tools expect.
     Complete(completing::Request<'a>),
+    /// Some of the messages of a recording, written as a recording of their own.
+    Cut(cutting::Request<'a>),
+    /// Two recordings, compared.
+    Compare(comparing::Request<'a>),
     /// What codes mean; all of them where none is given.
     Explain(explaining::Request<'a>),
 }
@@ -104,6 +109,7 @@ fn plain_request<'a>(name: &str, given: &ArgMatches<'a>) -> Request<'a> {
         "dump" => Request::Dump(dumping::request_in(given)),
         "stat" => Request::Stat(statistics::request_in(given)),
         "judge" => Request::Judge(judging::request_in(given)),
+        "compare" => Request::Compare(comparing::request_in(given)),
         _ => writing_request(name, given),
     }
 }
@@ -114,6 +120,7 @@ fn writing_request<'a>(name: &str, given: &ArgMatches<'a>) -> Request<'a> {
         "export" => Request::Export(exporting::request_in(given)),
         "draw" => Request::Draw(drawing::request_in(given)),
         "complete" => Request::Complete(completing::request_in(given)),
+        "cut" => Request::Cut(cutting::request_in(given)),
         _ => Request::One(one_message::request_in(given)),
     }
 }
@@ -138,6 +145,8 @@ fn bench_command<'a>(alloc: Global) -> Result<Command<'a>, AllocError> {
     let bench = with(bench, drawing::command(alloc));
     let bench = with(bench, judging::command(alloc));
     let bench = with(bench, completing::command(alloc));
+    let bench = with(bench, cutting::command(alloc));
+    let bench = with(bench, comparing::command(alloc));
     with(bench, explaining::command(alloc))
 }
 
@@ -164,7 +173,7 @@ fn without_commands<'a>(alloc: Global) -> Result<Command<'a>, AllocError> {
         .arg_required_else_help(true)
         .after_help(
             "Exit status: 0 done, 1 the input was refused, 2 usage, 3 a file or a stream failed, 4 no memory, 5 a rule \
-             is not held.",
+             is not held, or recordings differ.",
         )
         .arg(context_option(alloc))
 }

@@ -10,6 +10,7 @@ use clap::error::ErrorKind;
 use command_export::{completing, drawing, exporting};
 use command_judge::{checking, judging};
 use command_listing::{dumping, statistics};
+use command_material::{comparing, cutting};
 use command_parts::hosts::{Errors, Host};
 use command_step::{assembling, explaining, one_message, stepping};
 use std::io;
@@ -55,6 +56,7 @@ where
             Ok(()) => ExitCode::SUCCESS,
             Err(fault @ Fault::NotHeld) => ExitCode::from(fault.status()),
             Err(fault @ Fault::Suspicious) => ExitCode::from(fault.status()),
+            Err(fault @ Fault::Differ) => ExitCode::from(fault.status()),
             Err(fault) if fault.status() == USAGE => misused(rt, errors, &fault),
             Err(fault) => {
                 let status = stop(errors, &fault);
@@ -115,6 +117,8 @@ where
         Request::Draw(request) => drawing::run(rt, errors, request),
         Request::Judge(request) => judging::run(rt, errors, request),
         Request::Complete(request) => completing::run(rt, errors, request),
+        Request::Cut(request) => cutting::run(rt, errors, request),
+        Request::Compare(request) => comparing::run(rt, errors, request),
         Request::Explain(request) => explaining::run(rt, request),
     }
 }

@@ -165,9 +165,18 @@ pub(crate) fn no_recording<R: Files + AllocGlobal>(
     rt: &R,
     request: &Request<'_>,
 ) -> Result<Option<String>, AllocError> {
-    let Some(name) = recording_in(request) else {
-        return Ok(None);
-    };
+    match recording_in(request) {
+        Some(name) => named_no_recording(rt, request, name),
+        None => Ok(None),
+    }
+}
+
+/// The same of the file with this name.
+pub(crate) fn named_no_recording<R: Files + AllocGlobal>(
+    rt: &R,
+    request: &Request<'_>,
+    name: &str,
+) -> Result<Option<String>, AllocError> {
     let mut beginning = vec![in rt.alloc(); 0u8; BEGINNING]?;
     match read_beginning(rt, name, &mut beginning) {
         Some(count) => {
@@ -198,6 +207,7 @@ fn recording_in<'a>(request: &Request<'a>) -> Option<&'a str> {
         Request::Draw(request) => Some(request.extract.recording),
         Request::Complete(request) => Some(request.recording),
         Request::Judge(request) => Some(request.recording),
+        Request::Cut(request) => Some(request.extract.recording),
         Request::Step(request) => Some(request.recording),
         _ => None,
     }

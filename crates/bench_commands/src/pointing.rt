@@ -4,7 +4,7 @@
 
 use crate::command_line::{Asked, Request};
 use crate::differing::difference_of;
-use crate::misplaced::{Content, no_recording, other_in_place};
+use crate::misplaced::{Content, named_no_recording, no_recording, other_in_place};
 use crate::reasoning::{reason_of_job, reason_of_rules, reason_of_script};
 use crate::refusing::refusal_of;
 use bench_assemble::AssembleFault;
@@ -12,6 +12,7 @@ use bench_explain::explain;
 use bench_one::OneFault;
 use bench_reasons::{Place, Reason, Text, explained, put_place};
 use bench_requests::{Fault, read_again};
+use ch11_reader::Refusal;
 use command_listing::dumping;
 use frame_text::Cause;
 use job_file::{JobError, read_job};
@@ -80,6 +81,7 @@ fn particular<R: Files + AllocGlobal>(
         (Fault::Job(error), _) => job_at_fault(rt, request, error),
         (Fault::Run(error), _) => refusal_of(rt, request, *error),
         (Fault::Recording(refusal), _) if refusal.offset == 0 => no_recording(rt, request),
+        (Fault::OneOfTwo { name, refusal }, _) => one_of_two(rt, request, name, *refusal),
         (Fault::Report(error), Request::Step(step)) => {
             report_at_fault(rt, request, step.report, error.line, fault)
         }
@@ -90,6 +92,26 @@ fn particular<R: Files + AllocGlobal>(
         }
         _ => Ok(None),
     }
+}
+
+/// The lines for the one of two recordings that is refused: that it is of another kind, or its name and what the
+/// fault's code means.
+fn one_of_two<R: Files + AllocGlobal>(
+    rt: &R,
+    request: &Request<'_>,
+    name: &str,
+    refusal: Refusal,
+) -> Result<Option<String>, AllocError> {
+    if refusal.offset == 0 {
+        let lines = named_no_recording(rt, request, name)?;
+        if lines.is_some() {
+            return Ok(lines);
+        }
+    }
+    let mut out = String::new(rt.alloc());
+    write!(out, "  in {name}\n")?;
+    put_meaning(&mut out, format!(in rt.alloc(); "{refusal}")?.as_str())?;
+    Ok(Some(out))
 }
 
 /// The jobs that a request names.
@@ -268,6 +290,8 @@ fn crossed_bounds<R: AllocGlobal>(
         Request::Stat(request) => &request.selection,
         Request::Export(request) => &request.extract.selection,
         Request::Draw(request) => &request.extract.selection,
+        Request::Cut(request) => &request.extract.selection,
+        Request::Compare(request) => &request.selection,
         _ => return Ok(None),
     };
     let Some((from, to)) = selection.crossed() else {

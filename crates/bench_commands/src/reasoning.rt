@@ -1,15 +1,14 @@
 //! Faults of scripts, jobs and rules as those that have their reasons in words.
 
 use bench_reasons::{
-    LineFault, MessageFault, Place, Reason, RuleFault, ScriptFault, Text, job_script_reason,
-    line_reason, rule_reason, script_reason,
+    LineFault, Place, Reason, RuleFault, ScriptFault, Text, job_script_reason, line_reason,
+    rule_reason, script_reason,
 };
 use frame_text::Cause;
 use job_file::JobError;
 use judge_rules::RuleError;
 use mil_host::BadAction;
 use mil_line::LineError;
-use mil_message::BadMessage;
 use std::alloc::{AllocError, Global};
 
 /// Why a script, or a line and a message, is refused.
@@ -20,7 +19,7 @@ pub(crate) fn reason_of_script(
     cause: Cause,
     place: frame_text::Place,
 ) -> Result<Option<Reason>, AllocError> {
-    script_reason(alloc, text, kind, script_fault(cause), place_of(place))
+    script_reason(alloc, text, kind, ScriptFault::of(cause), place_of(place))
 }
 
 /// Why a job is refused; none where its text alone does not say.
@@ -32,7 +31,7 @@ pub(crate) fn reason_of_job(
     match error {
         JobError::Line { line, fault } => line_reason(alloc, text, *line, line_fault(*fault)),
         JobError::Script { cause, place } => {
-            job_script_reason(alloc, text, script_fault(*cause), place_of(*place))
+            job_script_reason(alloc, text, ScriptFault::of(*cause), place_of(*place))
         }
         JobError::Assembly { .. }
         | JobError::Loading { .. }
@@ -60,31 +59,6 @@ fn place_of(place: frame_text::Place) -> Place {
     Place {
         line: place.line,
         column: place.column,
-    }
-}
-
-fn script_fault(cause: Cause) -> ScriptFault {
-    match cause {
-        Cause::Byte => ScriptFault::Byte,
-        Cause::Token => ScriptFault::Token,
-        Cause::Number => ScriptFault::Number,
-        Cause::Message(bad) => ScriptFault::Message(message_fault(bad)),
-        Cause::End => ScriptFault::End,
-        Cause::Depth => ScriptFault::Depth,
-        Cause::Range => ScriptFault::Range,
-        Cause::Messages => ScriptFault::Messages,
-        Cause::Name => ScriptFault::Name,
-        Cause::Definitions => ScriptFault::Definitions,
-    }
-}
-
-fn message_fault(bad: BadMessage) -> MessageFault {
-    match bad {
-        BadMessage::Address => MessageFault::Address,
-        BadMessage::Subaddress => MessageFault::Subaddress,
-        BadMessage::CountOrCode => MessageFault::CountOrCode,
-        BadMessage::SameEnds => MessageFault::SameEnds,
-        BadMessage::ModeWord => MessageFault::ModeWord,
     }
 }
 

@@ -15,13 +15,14 @@ use Rattle.bench_requests.specs.declared.fault.Fault.{Fault}
 use Rattle.bench_requests.specs.declared.fault.Fault.TheVariants.{Text, Script, Recording, Report, Mismatch, Job, Run}
 use Rattle.bench_requests.specs.declared.fault.Fault.TheVariants.{Sink, Device, System, Unknown, Rules, NotHeld, Memory}
 use Rattle.bench_requests.specs.declared.fault.Fault.TheVariants.{OneFile, Busy, OtherKind, OtherPart, Usage}
-use Rattle.bench_requests.specs.declared.fault.Fault.TheVariants.{NoneSelected, Suspicious}
+use Rattle.bench_requests.specs.declared.fault.Fault.TheVariants.{NoneSelected, Suspicious, Differ, OneOfTwo}
 
 abbrev pub status_of : Fault → ℕ
 -- the input was refused
 status_of (Text fault) = 1
 status_of (Script fault) = 1
 status_of (Recording refusal) = 1
+status_of (OneOfTwo name refusal) = 1
 status_of (Report fault) = 1
 status_of (Mismatch channel number) = 1
 status_of (Job fault) = 1
@@ -38,6 +39,8 @@ status_of Memory = 4
 status_of NotHeld = 5
 -- something in a job is probably a mistake, where this is asked for
 status_of Suspicious = 5
+-- two recordings differ
+status_of Differ = 5
 -- two files of the command line are one
 status_of (OneFile written other) = 2
 -- another process writes the file

@@ -31,6 +31,9 @@ pub enum Fault<'a> {
     /// A recording was refused.
     #[error("{0}")]
     Recording(Refusal),
+    /// One of two recordings, the one with this name, was refused.
+    #[error("{refusal}")]
+    OneOfTwo { name: &'a str, refusal: Refusal },
     /// The text of a report was refused.
     #[error("{0}")]
     Report(ReportError),
@@ -67,6 +70,9 @@ pub enum Fault<'a> {
     /// Something in a job is probably a mistake, where this is asked for. All was printed.
     #[error("something is probably a mistake")]
     Suspicious,
+    /// Two recordings differ. All was printed.
+    #[error("the recordings differ")]
+    Differ,
     /// Memory was refused.
     #[error("memory")]
     Memory,
@@ -88,14 +94,14 @@ pub enum Fault<'a> {
 }
 
 impl<'a> Fault<'a> {
-    /// The exit status: 1 input refused, 2 usage, 3 device, 4 memory, 5 a rule is not held, or something is
-    /// probably a mistake where this is asked for.
+    /// The exit status: 1 input refused, 2 usage, 3 device, 4 memory, 5 a rule is not held, recordings differ, or
+    /// something is probably a mistake where this is asked for.
     pub fn status(&self) -> u8
         ensures { result ≡ status_of self.now }
     {
         match self {
             Fault::Text(_) | Fault::Script(_) | Fault::Recording(_) => 1,
-            Fault::Job(_) | Fault::Run(_) => 1,
+            Fault::Job(_) | Fault::Run(_) | Fault::OneOfTwo { .. } => 1,
             Fault::Report(_) | Fault::Mismatch { .. } => 1,
             Fault::Rules(_) | Fault::Unknown(_) => 1,
             Fault::NoneSelected => 1,
@@ -103,6 +109,7 @@ impl<'a> Fault<'a> {
             Fault::System { .. } => 3,
             Fault::Memory => 4,
             Fault::NotHeld | Fault::Suspicious => 5,
+            Fault::Differ => 5,
             Fault::OneFile { .. } | Fault::Usage(_) => 2,
             Fault::Busy(_) => 3,
             Fault::OtherKind { .. } | Fault::OtherPart { .. } => 2,

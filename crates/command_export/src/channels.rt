@@ -2,25 +2,34 @@
 
 use bench_names::{Described, Holds, setup_text};
 use bench_requests::Fault;
+use bench_watch::Reopen;
 use ch11_header::Header;
 use ch11_header::kinds::{BUS_MESSAGES, RECORDING_INDEX, TIME_DATA};
-use ch11_reader::{CHANNELS, Index, Packet, ReadError, SkippingIndex};
+use ch11_reader::CHANNELS;
+use ch11_stream::{Advance, Packets, StreamFault};
+use command_parts::recordings::{Recording, fault_of_reading};
 use std::alloc::{AllocError, Global};
+use std::io::IsTerminal;
+use std::rt::{Clock, Files};
 
 /// The text of a setup record of the channels of a recording, or of what is sound of it, and of that of the time
-/// packets that are added, if any. It describes none where the recording is refused, which is told where it is
-/// completed.
-pub(crate) fn described<'a>(
-    alloc: Global,
-    recording: &[u8],
-    skip: bool,
+/// packets that are added, if any: in a pass of its own. It describes none where the recording is refused, which is
+/// told where it is completed.
+pub(crate) fn described<'a, R: Files + AllocGlobal + Clock, E: Eprint + IsTerminal>(
+    recording: &Recording<'_, 'a, R, E>,
+    name: &'a str,
     times: Option<u16>,
 ) -> Result<Vec<u8>, Fault<'a>> {
+    let alloc = recording.alloc();
     let mut found = vec![in alloc; None; CHANNELS]?;
-    match index_of(alloc, recording, skip) {
-        Ok(index) => note_packets(found.as_mut_slice(), index.packets()),
-        Err(ReadError::Refused(_)) => (),
-        Err(ReadError::Memory) => return Err(Fault::Memory),
+    let bytes = match recording.reopen() {
+        Ok(bytes) => bytes,
+        Err(error) => return Err(Fault::of_stream(name, &error)),
+    };
+    match note_packets(alloc, found.as_mut_slice(), bytes) {
+        Ok(()) => {}
+        Err(StreamFault::Refused(_)) => found = vec![in alloc; None; CHANNELS]?,
+        Err(fault) => return Err(fault_of_reading(name, fault)),
     }
     if let Some(channel) = times {
         note(found.as_mut_slice(), channel, Holds::Times);
@@ -29,22 +38,24 @@ pub(crate) fn described<'a>(
     Ok(setup_text(alloc, channels.as_slice())?)
 }
 
-/// The packets of a recording, or of what is sound of it.
-fn index_of(alloc: Global, recording: &[u8], skip: bool) -> Result<Index<'_>, ReadError> {
-    if skip {
-        let SkippingIndex { index, .. } = Index::build_skipping(alloc, recording)?;
-        return Ok(index);
-    }
-    Index::build(alloc, recording)
-}
-
 /// Notes what each channel's packets hold. Indexes are left out, since they do not go over.
-fn note_packets(found: &mut [Option<Holds>], packets: &[Packet]) {
-    for packet in packets {
-        if packet.header.kind != RECORDING_INDEX {
-            note(found, packet.header.channel, held_by(&packet.header));
+fn note_packets<B: Advance + Drop>(
+    alloc: Global,
+    found: &mut [Option<Holds>],
+    bytes: B,
+) -> Result<(), StreamFault> {
+    let mut packets = Packets::over(alloc, bytes)?;
+    for _made in 0..u64::MAX {
+        match packets.next()? {
+            Some(packet) => {
+                if packet.header.kind != RECORDING_INDEX {
+                    note(found, packet.header.channel, held_by(&packet.header));
+                }
+            }
+            None => return Ok(()),
         }
     }
+    Ok(())
 }
 
 /// Notes what a packet of a channel holds: what is known of a channel by one of its packets stays.

@@ -1,20 +1,22 @@
 //! `bench complete`: a recording made into the file that other Chapter 10 and 11 tools expect.
 
 use crate::channels::described;
-use bench_complete::{Additions, CompleteFault, Completion, UtcSecond};
+use crate::standing::standing_of;
+use bench_complete::{Additions, CompleteFault, Completion, Places, UtcSecond};
 use bench_files::{Hold, Kind};
 use bench_requests::{Fault, read_whole};
 use bench_settings::DEFAULT_VERSION;
 use ch11_reader::Skip;
+use ch11_stream::Advance;
 use clap::{ArgMatches, Command};
 use command_parts::options::{
     Row, argument, channel, command_of, file, flag, force, value, version,
 };
+use command_parts::recordings::{Recording, Source};
 use command_parts::replacing::{begin_to_write, may_write, put_or_give_up};
-use command_parts::streams::on_stream;
 use std::alloc::{AllocError, Global};
-use std::io::{BufWriter, Write};
-use std::rt::Files;
+use std::io::{self, BufWriter, IsTerminal, Write};
+use std::rt::{Clock, Files};
 
 /// The channel of the time packets where none is given.
 const DEFAULT_TIME_CHANNEL: u16 = 65535;
@@ -122,12 +124,13 @@ pub fn request_in<'a>(given: &ArgMatches<'a>) -> Request<'a> {
     }
 }
 
-/// What a fault of the library is to the program.
-pub fn fault_of<'a>(fault: CompleteFault, name: &'a str) -> Fault<'a> {
+/// What a fault of the library is to the program, by the names of the recording and of the out file.
+pub fn fault_of<'a>(fault: CompleteFault, recording: &'a str, out: &'a str) -> Fault<'a> {
     match fault {
         CompleteFault::Refused(refusal) => Fault::Recording(refusal),
         CompleteFault::Memory => Fault::Memory,
-        CompleteFault::Device => Fault::Device(name),
+        CompleteFault::Reader => Fault::Device(recording),
+        CompleteFault::Device => Fault::Device(out),
         CompleteFault::SetupSize => Fault::Usage("the text of --setup has 1 to 524000 bytes"),
         CompleteFault::SetupTwice => Fault::Usage(
             "--setup for a recording that has computer generated data of type 01",
@@ -140,9 +143,10 @@ pub fn fault_of<'a>(fault: CompleteFault, name: &'a str) -> Fault<'a> {
     }
 }
 
-/// Makes a recording into a complete file. The recording is read, then the text of the setup record; the out file,
-/// which is neither of them, is made once both were accepted.
-pub fn run<'a, R: Files<File: Hold> + AllocGlobal, E: Eprint>(
+/// Makes a recording into a complete file. The recording is opened, then the text of the setup record is read; the out
+/// file, which is neither of them, is made once both were accepted. Where the packets stand is listed in one pass over
+/// the recording, and then each is read there once more.
+pub fn run<'a, R: Files<File: Hold> + AllocGlobal + Clock, E: Eprint + IsTerminal>(
     rt: &R,
     errors: &E,
     request: &Request<'a>,
@@ -153,10 +157,24 @@ pub fn run<'a, R: Files<File: Hold> + AllocGlobal, E: Eprint>(
         request.setup.unwrap_or(request.recording),
     ];
     may_write(rt, request.out, Kind::Recording, request.force, &read)?;
-    let recording = read_whole(rt, request.recording)?;
+    let source = Source::of(rt, errors, request.recording)?;
+    let recording = source.recording(request.skip, false);
+    let completed = complete_recording(rt, errors, request, &recording, start);
+    source.end();
+    completed
+}
+
+/// Makes a recording that was opened into a complete file.
+fn complete_recording<'a, R: Files<File: Hold> + AllocGlobal + Clock, E: Eprint + IsTerminal>(
+    rt: &R,
+    errors: &E,
+    request: &Request<'a>,
+    recording: &Recording<'_, 'a, R, E>,
+    start: Option<UtcSecond>,
+) -> Result<(), Fault<'a>> {
     let text = if request.auto_setup {
         let times = start.map(|_| request.time_channel);
-        described(rt.alloc(), recording.as_slice(), request.skip, times)?
+        described(recording, request.recording, times)?
     } else {
         setup_text(rt, request.setup)?
     };
@@ -168,7 +186,7 @@ pub fn run<'a, R: Files<File: Hold> + AllocGlobal, E: Eprint>(
         second_time: request.second_time,
         version: request.version,
     };
-    complete_read(rt, errors, request, recording.as_slice(), &additions)
+    complete_with(rt, errors, request, recording, &additions)
 }
 
 /// The text of the setup record in this file; no byte where there is none.
@@ -182,16 +200,29 @@ pub fn setup_text<'a, R: Files + AllocGlobal>(
     }
 }
 
-/// Makes a recording that was read into a complete file with these additions.
-fn complete_read<'a, 'b, R: Files<File: Hold> + AllocGlobal, E: Eprint>(
+/// Makes a recording that was opened into a complete file with these additions.
+fn complete_with<'a, R: Files<File: Hold> + AllocGlobal + Clock, E: Eprint + IsTerminal>(
     rt: &R,
     errors: &E,
     request: &Request<'a>,
-    recording: &'b [u8],
-    additions: &Additions<'b>,
+    recording: &Recording<'_, 'a, R, E>,
+    additions: &Additions<'_>,
 ) -> Result<(), Fault<'a>> {
-    match plan(rt.alloc(), errors, recording, additions, request.skip) {
-        Ok(completion) => put_out(rt, request, &completion),
+    let input = match recording.begin_reading() {
+        Ok(input) => input,
+        Err(fault) => return Err(fault),
+    };
+    let places = match standing_of(rt, recording, request.recording) {
+        Ok(places) => places,
+        Err(fault) => return Err(fault),
+    };
+    match plan(rt.alloc(), errors, input, places, additions, request.skip) {
+        Ok(completion) => {
+            let (file, writer) = begin_to_write(rt, request.out, Kind::Recording, request.force)?;
+            let written = write_out(rt.alloc(), writer, completion);
+            let written = answer_of_writing(written, request.recording, request.out);
+            put_or_give_up(rt, request.out, file, written)
+        }
         Err(fault) => Err(misuse_of(fault, request)),
     }
 }
@@ -208,17 +239,18 @@ pub fn start_of<'a>(time: Option<&'a str>) -> Result<Option<UtcSecond>, Fault<'a
 }
 
 /// Judges a recording and what is to be added; what is skipped is printed.
-fn plan<'b, E: Eprint>(
+fn plan<'b, I: Advance + Drop, S: Places + Drop, E: Eprint>(
     alloc: Global,
     errors: &E,
-    recording: &'b [u8],
+    input: I,
+    places: S,
     additions: &Additions<'b>,
     skip: bool,
-) -> Result<Completion<'b>, CompleteFault> {
+) -> Result<Completion<'b, S>, CompleteFault> {
     if !skip {
-        return Completion::plan(alloc, recording, additions);
+        return Completion::plan(alloc, input, places, additions);
     }
-    let (completion, skips) = Completion::plan_skipping(alloc, recording, additions)?;
+    let (completion, skips) = Completion::plan_skipping(alloc, input, places, additions)?;
     print_skips(errors, &skips);
     Ok(completion)
 }
@@ -232,7 +264,7 @@ fn misuse_of<'a>(fault: CompleteFault, request: &Request<'a>) -> Fault<'a> {
         CompleteFault::SetupTwice if request.auto_setup => Fault::Usage(
             "--auto-setup for a recording that has computer generated data of type 01",
         ),
-        fault => fault_of(fault, ""),
+        fault => fault_of(fault, request.recording, request.out),
     }
 }
 
@@ -247,27 +279,49 @@ fn print_skips<E: Eprint>(errors: &E, skips: &[Skip]) {
     }
 }
 
-/// Writes the complete file, which takes the place of one that is there once it is whole.
-fn put_out<'a, R: Files<File: Hold> + AllocGlobal>(
-    rt: &R,
-    request: &Request<'a>,
-    completion: &Completion<'_>,
-) -> Result<(), Fault<'a>> {
-    let (file, writer) = begin_to_write(rt, request.out, Kind::Recording, request.force)?;
-    let written = write_out(rt.alloc(), request.out, writer, completion);
-    put_or_give_up(rt, request.out, file, written)
+/// Why a complete file was not written to its end.
+#[derive(Drop)]
+pub enum Unwritten {
+    /// A fault of the recording, of want of memory, or of the writer.
+    Completing(CompleteFault),
+    /// What the out file answered.
+    Out(io::Error),
 }
 
-/// Writes the complete file to the out file of this name.
-pub fn write_out<'a, W: Write + Drop>(
+impl From<CompleteFault> for Unwritten {
+    fn from(fault: CompleteFault) -> Unwritten {
+        Unwritten::Completing(fault)
+    }
+}
+
+impl From<io::Error> for Unwritten {
+    fn from(error: io::Error) -> Unwritten {
+        Unwritten::Out(error)
+    }
+}
+
+/// Writes a complete file.
+pub fn write_out<W: Write + Drop, S: Places + Drop>(
     alloc: Global,
-    name: &'a str,
     writer: W,
-    completion: &Completion<'_>,
+    completion: Completion<'_, S>,
+) -> Result<(), Unwritten> {
+    let mut completion = completion;
+    let mut out = BufWriter::new(alloc, writer)?;
+    completion.write(alloc, &mut out)?;
+    out.flush()?;
+    Ok(())
+}
+
+/// That a complete file was written, or the fault, by the names of the recording and of the out file.
+pub fn answer_of_writing<'a>(
+    written: Result<(), Unwritten>,
+    recording: &'a str,
+    out: &'a str,
 ) -> Result<(), Fault<'a>> {
-    let mut out = on_stream(name, BufWriter::new(alloc, writer))?;
-    match completion.write(alloc, &mut out) {
-        Ok(()) => on_stream(name, out.flush()),
-        Err(fault) => Err(fault_of(fault, name)),
+    match written {
+        Ok(()) => Ok(()),
+        Err(Unwritten::Completing(fault)) => Err(fault_of(fault, recording, out)),
+        Err(Unwritten::Out(error)) => Err(Fault::of_stream(out, &error)),
     }
 }

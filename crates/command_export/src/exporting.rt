@@ -2,7 +2,7 @@
 
 use bench_clock::Clock as RecordingClock;
 use bench_export::{Columns, ExportFault, Table, export, export_waves, selects_any};
-use bench_files::{Hold, Kind, OutFile, leads_to_output};
+use bench_files::{Hold, Kind, OutFile};
 use bench_requests::Fault;
 use bench_select::Selection;
 use ch11_stream::Advance;
@@ -11,11 +11,10 @@ use command_parts::extracting::{Extract, extract_options};
 use command_parts::looking::{tell_of_unknown, tell_of_unread};
 use command_parts::options::{Row, choice, command_of, flag, time_channel};
 use command_parts::recordings::{Recording, Source, Times};
-use command_parts::replacing::{begin_to_write, put_or_give_up};
+use command_parts::replacing::{begin_to_write, is_replaced, put_or_give_up};
 use command_parts::selecting::selection_options;
 use command_parts::streams::flushed;
 use std::alloc::{AllocError, Global};
-use std::fs;
 use std::io::{BufWriter, IsTerminal, Write};
 use std::rt::{Clock, Files};
 use text_lines::WriteFault;
@@ -214,15 +213,6 @@ fn judge_selected<'a>(request: &Request<'a>, selected: bool) -> Result<(), Fault
         Ok(())
     } else {
         Err(Fault::NoneSelected)
-    }
-}
-
-/// Whether what is written to this name takes its place only once it is whole: a new file, or a plain one that is not
-/// the standard output.
-fn is_replaced<R: Files>(rt: &R, name: &str) -> bool {
-    match fs::metadata(rt, name) {
-        Ok(about) => about.is_file() && !leads_to_output(rt, name),
-        Err(_) => true,
     }
 }
 

@@ -1,24 +1,26 @@
 //! `bench judge`: whether a recording is what rules expect.
 
 use bench_files::{Hold, Kind};
+use bench_json::{Form, JsonLines};
 use bench_judge::{
-    Judged, Lost, PassFault, PrintFault, RuleVerdict, count_lost, judge, junit_text, write_colored,
-    write_verdicts,
+    Judged, Lost, PassFault, PrintFault, RuleVerdict, count_lost, judge, junit_text, read_skips,
+    write_colored, write_verdicts,
 };
 use bench_names::ChannelNames;
 use bench_requests::{
     Fault, junit_of, read_whole, recording_first, rules_asked, rules_text, verdict_on, write_new,
 };
 use bench_watch::Reopen;
+use ch11_reader::Skip;
 use clap::{ArgMatches, Command};
 use command_parts::hosts::System;
 use command_parts::looking::tell_of_unknown;
-use command_parts::options::{argument, command_of, file, flag, force, optional};
+use command_parts::options::{argument, command_of, file, flag, force, json, optional};
 use command_parts::recordings::{Recording, Source, fault_of_reading};
 use command_parts::replacing::may_write;
-use command_parts::streams::listing;
+use command_parts::streams::{listing, on_stream};
 use command_parts::terminals::is_for_people;
-use judge_rules::Rule;
+use judge_rules::{Check, Rule};
 use std::alloc::{AllocError, Global};
 use std::io::{BufWriter, IsTerminal};
 use std::rt::{Clock, Files};
@@ -53,6 +55,7 @@ pub fn command<'a>(alloc: Global) -> Result<Command<'a>, AllocError> {
             "The file to write a JUnit report to, a test case a rule",
         ),
         flag("skip", "Judges what is sound of a damaged recording"),
+        json(),
         force(),
         argument("RECORDING", "The Chapter 11 file to judge"),
         optional("RULES", "The rules to judge it by, as a text"),
@@ -71,6 +74,8 @@ pub struct Request<'a> {
     pub junit: Option<&'a str>,
     /// Whether a damaged recording is judged as far as it is sound.
     pub skip: bool,
+    /// Whether verdicts are printed as JSON lines.
+    pub json: bool,
     /// Whether a file of another kind may be replaced by the verdicts.
     pub force: bool,
 }
@@ -82,6 +87,7 @@ pub fn request_in<'a>(given: &ArgMatches<'a>) -> Request<'a> {
         rules: given.get_str("RULES"),
         junit: given.get_str("junit"),
         skip: given.get_flag("skip"),
+        json: given.get_flag("json"),
         force: given.get_flag("force"),
     }
 }
@@ -100,6 +106,8 @@ pub struct Spelled<'r> {
     pub rules: &'r [Rule],
     /// The first time of day of each channel of the recording that has one, from which the times of rules count.
     pub origins: &'r [Option<u64>],
+    /// The bytes of the recording's file that are skipped, where it is damaged and packets are told.
+    pub skips: &'r [Skip],
 }
 
 impl<'r> Spelled<'r> {
@@ -110,6 +118,7 @@ impl<'r> Spelled<'r> {
             text: self.text,
             rules: self.rules,
             origins: self.origins,
+            skips: self.skips,
             verdicts,
         }
     }
@@ -202,13 +211,37 @@ fn judge_recording<'a, R: System, E: Eprint + IsTerminal>(
     let (_, rules) = recording_first(read, rules)?;
     let stamps = recording.stamps(true)?;
     tell_of_unknown(errors, request.recording, &stamps);
+    let skips = skips_of(recording, request.skip && tells_packets(rules.as_slice()))?;
     let spelled = Spelled {
         file: request.rules.unwrap_or(STANDARD),
         text: rules_text(text),
         rules: rules.as_slice(),
         origins: stamps.origins.as_slice(),
+        skips: skips.as_slice(),
     };
     judge_by(rt, errors, request, recording, spelled)
+}
+
+/// Whether packets may be told that miss one of these rules.
+fn tells_packets(rules: &[Rule]) -> bool {
+    for rule in rules {
+        if matches!(rule.check, Check::Whole) {
+            return true;
+        }
+    }
+    false
+}
+
+/// The bytes that are skipped of a recording, in a pass of its own where they are asked for, and else none.
+fn skips_of<'a, R: Files + AllocGlobal + Clock, E: Eprint + IsTerminal>(
+    recording: &Recording<'_, 'a, R, E>,
+    asked: bool,
+) -> Result<Vec<Skip>, Fault<'a>> {
+    if !asked {
+        return Ok(Vec::new(recording.alloc()));
+    }
+    let bytes = recording.begin_reading()?;
+    recording.answer(read_skips(recording.alloc(), bytes))
 }
 
 /// Judges by these rules, prints the verdicts, tells of messages that are missing and writes the JUnit file.
@@ -219,7 +252,11 @@ fn judge_by<'a, R: System, E: Eprint + IsTerminal>(
     recording: &Recording<'_, 'a, R, E>,
     spelled: Spelled<'_>,
 ) -> Result<(), Fault<'a>> {
-    let printed = print_verdicts(rt, request.recording, recording, spelled);
+    let printed = if request.json {
+        print_json(rt, request.recording, recording, spelled)
+    } else {
+        print_verdicts(rt, request.recording, recording, spelled)
+    };
     let junit = junit_of(request.junit, &printed);
     let verdicts = printed?;
     let lost = if junit.is_some() || errors.is_terminal() {
@@ -262,6 +299,23 @@ pub fn print_verdicts<'a, R: System, E: Eprint + IsTerminal>(
     }
 }
 
+/// Judges the recording with this name by these rules and prints the verdicts as JSON lines.
+fn print_json<'a, R: System, E: Eprint + IsTerminal>(
+    rt: &R,
+    name: &'a str,
+    recording: &Recording<'_, 'a, R, E>,
+    spelled: Spelled<'_>,
+) -> Result<Vec<RuleVerdict>, Fault<'a>> {
+    let alloc = rt.alloc();
+    let lines = JsonLines::over(alloc, Form::Lines, listing(rt));
+    let mut out = on_stream("-", BufWriter::new(alloc, lines))?;
+    let (rules, origins, skips) = (spelled.rules, spelled.origins, spelled.skips);
+    match write_verdicts(alloc, recording, rules, origins, skips, &mut out) {
+        Ok(verdicts) => Ok(verdicts),
+        Err(fault) => Err(fault_of_pass(name, fault)),
+    }
+}
+
 /// Prints the verdicts of these rules, for people where they go to a terminal.
 fn print_judged<R: System, E: Eprint + IsTerminal>(
     rt: &R,
@@ -269,10 +323,10 @@ fn print_judged<R: System, E: Eprint + IsTerminal>(
     spelled: Spelled<'_>,
 ) -> Result<Vec<RuleVerdict>, PassFault> {
     let alloc = rt.alloc();
-    let (rules, origins) = (spelled.rules, spelled.origins);
+    let (rules, origins, skips) = (spelled.rules, spelled.origins, spelled.skips);
     let mut out = BufWriter::new(alloc, listing(rt))?;
     if !is_for_people(rt) {
-        return write_verdicts(alloc, recording, rules, origins, &mut out);
+        return write_verdicts(alloc, recording, rules, origins, skips, &mut out);
     }
     let verdicts = match recording.reopen() {
         Ok(input) => judge(alloc, input, rules, origins)?,

@@ -1,11 +1,13 @@
 //! `bench dump --decode`, and the selection of messages of `bench dump`.
 
 use bench_decode::{Output, Shown, decode, decode_by_time};
+use bench_json::{Form, JsonLines};
 use bench_requests::{Fault, Listing, unless_gone};
 use clap::ArgMatches;
 use command_parts::looking::{tell_of_loss, tell_of_unknown};
 use command_parts::recordings::{Recording, Source};
 use command_parts::selecting::{GivenSelection, given_selection, selection_in};
+use command_parts::streams::unless_refused;
 use command_parts::terminals::is_for_people;
 use std::io::{self, IsTerminal, Printer, Write};
 use std::rt::{Clock, Env, Files};
@@ -23,6 +25,8 @@ pub struct Messages<'a> {
     pub skip: bool,
     /// Whether in the order of their stamps, or else in the file's.
     pub by_time: bool,
+    /// Whether lines are JSON lines.
+    pub json: bool,
 }
 
 /// Whether `bench dump` is asked for messages alone: decoded, by time, or some of them.
@@ -38,6 +42,7 @@ pub(crate) fn messages_in<'a>(given: &ArgMatches<'a>) -> Messages<'a> {
         decoded: given.get_flag("decode"),
         skip: given.get_flag("skip"),
         by_time: given.get_flag("by-time"),
+        json: given.get_flag("json"),
     }
 }
 
@@ -58,7 +63,15 @@ pub(crate) fn show_messages<
     let stamps = recording.stamps(tells_times(&output, request.by_time))?;
     let output = output.counting_from(stamps.origins.as_slice());
     let mut out = listing_of(rt, &output);
-    let printed = print_messages(&recording, request.by_time, &output, &mut out);
+    let (printed, is_gone) = if request.json {
+        let mut lines = JsonLines::over(rt.alloc(), Form::Lines, out);
+        let printed = print_messages(&recording, request.by_time, &output, &mut lines);
+        let told = unless_refused(lines.is_refused(), printed);
+        (told, lines.inner().is_gone())
+    } else {
+        let printed = print_messages(&recording, request.by_time, &output, &mut out);
+        (printed, out.is_gone())
+    };
     source.end();
     match printed {
         Ok(count) => {
@@ -67,7 +80,7 @@ pub(crate) fn show_messages<
             tell_of_loss(errors, &recording);
             Ok(())
         }
-        Err(fault) => unless_gone(out.is_gone(), Err(fault)),
+        Err(fault) => unless_gone(is_gone, Err(fault)),
     }
 }
 

@@ -2,12 +2,14 @@
 
 use crate::decoding::{Messages, asks_for_messages, messages_in, show_messages};
 use bench_dump::{dump, dump_skipping, dump_with_times};
+use bench_json::{Form, JsonLines};
 use bench_requests::{Fault, Listing, unless_gone};
 use clap::{ArgMatches, Command};
 use command_parts::looking::{tell_of_loss, tell_of_unknown, tell_of_unread};
-use command_parts::options::{argument, command_of, flag, time_channel};
+use command_parts::options::{argument, command_of, flag, json, time_channel};
 use command_parts::recordings::{Recording, Source, Times};
 use command_parts::selecting::selection_options;
+use command_parts::streams::unless_refused;
 use std::alloc::{AllocError, Global};
 use std::io::{self, IsTerminal, Write};
 use std::rt::{Clock, Env, Files};
@@ -40,7 +42,8 @@ time packets, as `bench complete --time` writes them, has none.
 With --decode each message is a line as people read it, with its time in seconds, its number in the file and in
 its channel, its form, status words, data words and errors by name; packets have no line. --channel, --line, --only,
 --errors, --from and --to show some messages alone, numbered as in the file, decoded or not. --by-time shows them
-in the order of their time stamps, all channels together, those of one stamp in the file's order.
+in the order of their time stamps, all channels together, those of one stamp in the file's order. --json shows each line
+as an object whose keys are the words of the line.
 
   SELECTOR  any, rx A S, tx A S, rt A S A S (sender first), mode A C, brx S, brt A S S (sender first), bmode C
             address A, subaddress S, mode code C: a number, or * for any
@@ -62,6 +65,7 @@ pub fn command<'a>(alloc: Global) -> Result<Command<'a>, AllocError> {
         flag("skip", skip),
         flag("time", time).never_with(FOR_MESSAGES),
         time_channel().only_with("time"),
+        json().never_with(&["decode"]),
         argument("RECORDING", "The Chapter 11 file to show"),
         flag(
             "decode",
@@ -91,6 +95,8 @@ pub struct Packets<'a> {
     pub skip: bool,
     /// Whether each stamp is followed by its time of day, and who tells it.
     pub times: Times,
+    /// Whether lines are JSON lines.
+    pub json: bool,
 }
 
 /// What a command line asks of `bench dump`.
@@ -105,6 +111,7 @@ pub fn request_in<'a>(given: &ArgMatches<'a>) -> Request<'a> {
             asked: given.get_flag("time"),
             channel: given.get_one::<u16>("time-channel"),
         },
+        json: given.get_flag("json"),
     })
 }
 
@@ -129,10 +136,14 @@ fn show_packets<'a, R: Files + AllocGlobal + Print + Clock, E: Eprint + IsTermin
     let source = Source::of(rt, errors, request.recording)?;
     let recording = source.recording(request.skip, true);
     let mut out = Listing::ending(io::writer(rt));
-    let printed = if request.skip {
-        print_sound(&recording, request.times, &mut out)
+    let (printed, is_gone) = if request.json {
+        let mut lines = JsonLines::over(rt.alloc(), Form::Lines, out);
+        let printed = print_packets(&recording, request, &mut lines);
+        let told = unless_refused(lines.is_refused(), printed);
+        (told, lines.inner().is_gone())
     } else {
-        print_whole(&recording, request.times, &mut out)
+        let printed = print_packets(&recording, request, &mut out);
+        (printed, out.is_gone())
     };
     source.end();
     let told = match printed {
@@ -147,7 +158,21 @@ fn show_packets<'a, R: Files + AllocGlobal + Print + Clock, E: Eprint + IsTermin
         }
         Err(fault) => Err(fault),
     };
-    unless_gone(out.is_gone(), told)
+    unless_gone(is_gone, told)
+}
+
+/// Prints a recording, or what is sound of it. Answers whether times of day are asked for and it has time packets of
+/// which none can be read.
+fn print_packets<'a, R: Files + AllocGlobal + Clock, E: Eprint + IsTerminal, W: Write>(
+    recording: &Recording<'_, 'a, R, E>,
+    request: &Packets<'a>,
+    out: &mut W,
+) -> Result<bool, Fault<'a>> {
+    if request.skip {
+        print_sound(recording, request.times, out)
+    } else {
+        print_whole(recording, request.times, out)
+    }
 }
 
 /// Prints a recording in two passes over it: nothing where the first refuses it. Where the reader of what is printed

@@ -1,6 +1,7 @@
 //! `bench stat`: the figures of a recording.
 
 use bench_clock::ReadClock;
+use bench_json::{Form, JsonLines};
 use bench_names::ChannelNames;
 use bench_requests::Fault;
 use bench_select::Selection;
@@ -10,10 +11,10 @@ use bench_stat::{
 };
 use clap::{ArgMatches, Command};
 use command_parts::looking::{tell_of_loss, tell_of_unknown, tell_of_unread};
-use command_parts::options::{argument, choice, command_of, flag, time_channel};
+use command_parts::options::{argument, choice, command_of, flag, json, time_channel};
 use command_parts::recordings::{Recording, Source, Times};
 use command_parts::selecting::{GivenSelection, given_selection, selection_in, selection_options};
-use command_parts::streams::{listing, on_stream, printed};
+use command_parts::streams::{listing, on_stream, printed, unless_refused};
 use std::alloc::{AllocError, Global};
 use std::io;
 use std::io::{BufWriter, IsTerminal, Write};
@@ -29,7 +30,7 @@ its retries, and its terminals with their commands and response times. --channel
 With --time a line behind the span tells the times of day (UTC) of the channel's first and last message, as bench dump
 --time has them; a channel for which neither its stamps nor the recording's time packets tell them has no such line.
 With --csv each row of a terminal or a subaddress ends with the two times of its channel, in columns first_time and
-last_time.
+last_time. With --json each row is an object.
 
 Example:
   bench stat flight.ch11
@@ -44,6 +45,7 @@ pub fn command<'a>(alloc: Global) -> Result<Command<'a>, AllocError> {
     let time = "Shows the times of day of each channel's first and last message";
     let rows = [
         flag("csv", "One row of comma-separated values a terminal"),
+        json().never_with(&["csv"]),
         flag("long", long),
         choice("by", "WHAT", &["terminal", "subaddress"], by),
         flag("load", "Shows the bus load over time, in twenty slices"),
@@ -70,6 +72,8 @@ pub struct Request<'a> {
     pub selection: GivenSelection<'a>,
     /// Whether as rows of comma-separated values, or else aligned for people.
     pub rows: bool,
+    /// Whether rows are JSON lines.
+    pub json: bool,
     /// What more is shown.
     pub shown: Shown,
     /// The channel whose time packets tell times of day; all where none is named.
@@ -91,7 +95,8 @@ pub fn request_in<'a>(given: &ArgMatches<'a>) -> Request<'a> {
     Request {
         recording: given.get_str("RECORDING").unwrap_or(""),
         selection: given_selection(given),
-        rows: given.get_flag("csv"),
+        rows: given.get_flag("csv") || given.get_flag("json"),
+        json: given.get_flag("json"),
         shown: Shown {
             long: given.get_flag("long"),
             by_subaddress: matches!(given.get_str("by"), Some("subaddress")),
@@ -197,6 +202,12 @@ fn print_counted<'a, R: AllocGlobal + Print>(
     counted: &Counted,
     request: &Request<'a>,
 ) -> Result<(), Fault<'a>> {
+    if request.json {
+        let out = on_stream("-", BufWriter::new(rt.alloc(), listing(rt)))?;
+        let mut lines = JsonLines::over(rt.alloc(), Form::Tables, out);
+        let answer = print_figures(&mut lines, counted, request);
+        return unless_refused(lines.is_refused(), printed(answer, &mut lines));
+    }
     let mut out = on_stream("-", BufWriter::new(rt.alloc(), listing(rt)))?;
     let answer = print_figures(&mut out, counted, request);
     printed(answer, &mut out)

@@ -187,6 +187,14 @@ pub fn force<'a>() -> Row<'a> {
     )
 }
 
+/// What is printed as JSON lines.
+pub fn json<'a>() -> Row<'a> {
+    flag(
+        "json",
+        "Prints JSON lines, an object each, for other programs",
+    )
+}
+
 /// The data type version of what is written.
 pub fn version<'a>() -> Row<'a> {
     let help = "The data type version in each packet's header, 0 to 255, as you choose it";

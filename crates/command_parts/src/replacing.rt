@@ -1,7 +1,8 @@
 //! The file that a command writes: judged before anything is read, and in its place once it is whole.
 
-use bench_files::{Hold, Kind, OutFile};
+use bench_files::{Hold, Kind, OutFile, leads_to_output};
 use bench_requests::{Fault, begin, put_in_place, replaceable, told_apart, writer_of};
+use std::fs;
 use std::rt::Files;
 
 /// Refuses, as a usage fault, an out file that is also one of the files that are read, and one that is there and is of
@@ -47,5 +48,14 @@ pub fn put_or_give_up<'a, R: Files<File: Hold>>(
             file.give_up(rt);
             Err(fault)
         }
+    }
+}
+
+/// Whether what is written to this name takes its place only once it is whole: a new file, or a plain one that is not
+/// the standard output.
+pub fn is_replaced<R: Files>(rt: &R, name: &str) -> bool {
+    match fs::metadata(rt, name) {
+        Ok(about) => about.is_file() && !leads_to_output(rt, name),
+        Err(_) => true,
     }
 }

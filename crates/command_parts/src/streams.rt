@@ -44,6 +44,17 @@ pub fn printed<'a, W: Write>(answer: Result<(), WriteFault>, out: &mut W) -> Res
     }
 }
 
+/// What printing came to, which is want of memory where memory for something on its way was refused.
+pub fn unless_refused<'a, T: Drop>(
+    is_refused: bool,
+    answer: Result<T, Fault<'a>>,
+) -> Result<T, Fault<'a>> {
+    if is_refused {
+        return Err(Fault::Memory);
+    }
+    answer
+}
+
 /// Hands on all that waits in a buffer.
 pub fn flushed<W: Write>(out: &mut W) -> Result<(), WriteFault> {
     out.flush()?;

@@ -10,7 +10,8 @@ use bench_run::RunError;
 use ch11_writer::MemorySink;
 use clap::ArgMatches;
 use command_export::completing::{
-    fault_of, second_time, start_of, time, time_channel, time_channel_in, write_out,
+    answer_of_writing, fault_of, second_time, start_of, time, time_channel, time_channel_in,
+    write_out,
 };
 use command_parts::hosts::{Errors, Host};
 use command_parts::options::{Row, file, flag};
@@ -94,9 +95,10 @@ pub(crate) fn additions_in<'a, 'b>(
         second_time: asked.second_time,
         version,
     };
-    match Completion::plan(alloc, &[], &additions) {
+    let none: &[u8] = &[];
+    match Completion::plan(alloc, none, none, &additions) {
         Ok(_) => Ok(Some(additions)),
-        Err(fault) => Err(fault_of(fault, "")),
+        Err(fault) => Err(fault_of(fault, "", "")),
     }
 }
 
@@ -114,7 +116,8 @@ fn judge_before(
     drops: bool,
     additions: &Additions<'_>,
 ) -> Result<(), CompleteFault> {
-    match Completion::plan(alloc, &run.settings.prologue, additions) {
+    let prologue = run.settings.prologue.as_slice();
+    match Completion::plan(alloc, prologue, prologue, additions) {
         Ok(_) | Err(CompleteFault::Refused(_)) => {}
         Err(fault) => return Err(fault),
     }
@@ -174,7 +177,7 @@ where
     R::Reader: 'static,
 {
     if let Err(fault) = judge_before(rt.alloc(), run, request.drops, additions) {
-        return Err(fault_of(fault, ""));
+        return Err(fault_of(fault, "", ""));
     }
     let (report, sink) = record_in_memory(rt, errors, run)?;
     match write_completed(rt, request.out, sink.bytes(), additions, files) {
@@ -208,18 +211,23 @@ fn write_completed<'a, R: Files<File: Hold> + AllocGlobal>(
     files: &mut RunFiles<'a, R::File>,
 ) -> Result<(), Fault<'a>> {
     let text = additions.setup.unwrap_or(&[]);
-    match Completion::plan(rt.alloc(), recording, &with_text(additions, text)) {
-        Ok(completion) => write_planned(rt, name, &completion, files),
-        Err(fault) => Err(fault_of(fault, "")),
+    match Completion::plan(
+        rt.alloc(),
+        recording,
+        recording,
+        &with_text(additions, text),
+    ) {
+        Ok(completion) => write_planned(rt, name, completion, files),
+        Err(fault) => Err(fault_of(fault, "", "")),
     }
 }
 
 fn write_planned<'a, R: Files<File: Hold> + AllocGlobal>(
     rt: &R,
     name: &'a str,
-    completion: &Completion<'_>,
+    completion: Completion<'_, &[u8]>,
     files: &mut RunFiles<'a, R::File>,
 ) -> Result<(), Fault<'a>> {
     let writer = files.recording(rt)?;
-    write_out(rt.alloc(), name, writer, completion)
+    answer_of_writing(write_out(rt.alloc(), writer, completion), name, name)
 }

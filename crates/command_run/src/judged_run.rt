@@ -89,7 +89,7 @@ fn tell_verdicts<R: Files + AllocGlobal + Clock, E: Eprint + IsTerminal>(
 ) -> Result<Vec<RuleVerdict>, PassFault> {
     let alloc = recording.alloc();
     let mut out = BufWriter::new(alloc, ErrorStream { errors })?;
-    write_verdicts(alloc, recording, rules, &[], &mut out)
+    write_verdicts(alloc, recording, rules, &[], &[], &mut out)
 }
 
 /// Judges what a run recorded, and prints the verdicts where its counts went. Where a rule is not held it ends with a
@@ -123,6 +123,7 @@ fn judge_recorded<'a, R: System, E: Eprint + IsTerminal>(
             rules,
             // the stamps of a run are ticks of the recorder's counter
             origins: &[],
+            skips: &[],
         };
         return print_verdicts(rt, request.out, recording, spelled);
     }

@@ -1,7 +1,10 @@
 //! The commands for people who look: `bench_stat`, `bench_export`, `bench_draw`, `bench_explain`, `bench_judge`,
-//! `bench_complete` and `bench_decode`, and with them `bench_select`, `judge_rules` and `ch11_layout`.
+//! `bench_complete`, `bench_cut`, `bench_compare` and `bench_decode`, and with them `bench_select`, `judge_rules` and
+//! `ch11_layout`.
 
+mod comparisons;
 mod completions;
+mod cuttings;
 mod dated;
 mod decodings;
 pub(crate) mod equal;
@@ -9,6 +12,7 @@ mod explanations;
 mod exports;
 pub(crate) mod made;
 mod names;
+mod objects;
 mod pages;
 mod pictures;
 mod planned;

@@ -100,7 +100,7 @@ fn judged(
 ) -> Result<Vec<RuleVerdict>, PassFault> {
     let rules = rules_of(rt, alloc);
     let mut out = Vec::new(alloc);
-    let found = write_verdicts(alloc, recording, rules.as_slice(), &[], &mut out);
+    let found = write_verdicts(alloc, recording, rules.as_slice(), &[], &[], &mut out);
     are_bytes(rt, &out, text.as_bytes());
     found
 }
@@ -206,17 +206,17 @@ fn packets_that_do_not_follow_are_told(rt: HostRuntime) {
         .expect(&rt, "rules");
     let rule = rules.as_slice().first().expect(&rt, "a rule");
     let mut out = Vec::new(alloc);
-    let found = write_packets(alloc, reader_of(&pair(), 7), rule, &[], &mut out);
+    let found = write_packets(alloc, reader_of(&pair(), 7), rule, &[], &[], &mut out);
     same(&rt, &found.is_ok(), &true);
     are_bytes(&rt, &out, b"missed 1 packet 128 channel 1\n");
     let line = "\npacket 128 channel 1: sequence number 0, expected the next of its channel";
     for (most, told) in [(0, ""), (1, line), (100, line)] {
-        let found = tell_packets(alloc, reader_of(&pair(), 7), rule, most);
+        let found = tell_packets(alloc, reader_of(&pair(), 7), rule, most, &[]);
         are_bytes(&rt, &found.ok().expect(&rt, "packets"), told.as_bytes());
     }
-    let found = write_packets(alloc, reader_of(&damaged(), 7), rule, &[], &mut out);
+    let found = write_packets(alloc, reader_of(&damaged(), 7), rule, &[], &[], &mut out);
     is_refused(&rt, found);
-    let found = tell_packets(alloc, reader_of(&damaged(), 7), rule, 1);
+    let found = tell_packets(alloc, reader_of(&damaged(), 7), rule, 1, &[]);
     same(&rt, &found.err(), &Some(StreamFault::Refused(refusal())));
 }
 
@@ -227,6 +227,7 @@ fn judged_apart<'j>(rules: &'j [Rule], verdicts: &'j [RuleVerdict]) -> Judged<'j
         text: APART_RULES,
         rules,
         origins: &[],
+        skips: &[],
         verdicts,
     }
 }

@@ -316,12 +316,27 @@ fn what_is_sound_is_completed(rt: HostRuntime) {
     let mut file = [0u8; 8].to_vec(rt.alloc()).expect(&rt, "memory");
     file.extend_from_slice(&late).expect(&rt, "memory");
     let none = additions(None, "", 65535);
-    let planned = Completion::plan_skipping(rt.alloc(), &file, &none);
-    let (completion, skips) = planned.expect(&rt, "a plan");
+    let bytes = file.as_slice();
+    let planned = Completion::plan_skipping(rt.alloc(), bytes, bytes, &none);
+    let (mut completion, skips) = planned.expect(&rt, "a plan");
     let mut out = Vec::new(rt.alloc());
     completion.write(rt.alloc(), &mut out).expect(&rt, "a file");
     same_in(&rt, "file", &out.as_slice(), &late.as_slice());
     same_in(&rt, "skips", &skips.len(), &1);
     let first = skips.first().map(|skip| (skip.offset, skip.length));
     same_in(&rt, "skipped", &first, &Some((0, 8)));
+}
+
+/// A recording that has become shorter since its packets were listed is not completed.
+#[test]
+fn a_recording_that_became_shorter_is_told(rt: HostRuntime) {
+    let file = recorded(&rt, rt.alloc(), &[LATE]);
+    let bytes = file.as_slice();
+    let fewer = bytes.get(..24).unwrap_or(&[]);
+    let none = additions(None, "", 65535);
+    let planned = Completion::plan(rt.alloc(), bytes, fewer, &none);
+    let mut completion = planned.expect(&rt, "a plan");
+    let mut out = Vec::new(rt.alloc());
+    let answer = completion.write(rt.alloc(), &mut out);
+    same_in(&rt, "fault", &answer, &Err(CompleteFault::Reader));
 }

@@ -1,9 +1,12 @@
 //! Rules by which a planned failure is judged: with times, data words and their steps, counts of a kind, and whole
 //! packets. Worked out by hand.
-use crate::looks::equal::{reads, same_in};
+use crate::looks::equal::{reads, reads_all, same_in};
 use crate::looks::made::recorded;
-use crate::looks::verdicts::{judged, shown};
+use crate::looks::verdicts::{judged, judged_in, shown, shown_in};
+use bench_judge::read_skips;
 use judge_rules::read_rules;
+use std::alloc::Global;
+use std::process::Abort;
 use test_values::{FOREIGN, foreign_with};
 
 /// Five messages of one data word, 68.0 µs apart, so that their stamps are 0, 680, 1360, 2040 and 2720. From one to the
@@ -220,6 +223,57 @@ fn packets_are_whole_or_not(rt: HostRuntime) {
         "\x1b[31mmissed \x1b[0mexpect any whole  (1 selected, 1 missed)\n      \
          packet 32 channel 1: overflow flag, expected none\n\x1b[31m1 rules, 1 not held\x1b[0m\n",
     );
+}
+
+/// What a report and a terminal show in front of the place of that packet, and behind it.
+const FLAGGED_REPORT: &str =
+    "<?xml version=\"1.0\" encoding=\"UTF-8\"?>\n<testsuite name=\"bench judge\" tests=\"1\" failures=\"1\">\n  \
+<properties>\n    <property name=\"messages missing\" \
+value=\"packets with the overflow flag 1, jumps of the sequence number 0\"/>\n  </properties>\n  \
+<testcase classname=\"line 1\" name=\"expect any whole\">\n    \
+<failure message=\"selected 1 missed 1\">lost.rules:1: expect any whole\npacket ";
+
+const REPORTED: &str =
+    " channel 1: overflow flag, expected none</failure>\n  </testcase>\n</testsuite>\n";
+
+const FLAGGED_COLORS: &str =
+    "\x1b[31mmissed \x1b[0mexpect any whole  (1 selected, 1 missed)\n      packet ";
+
+const COLORED: &str =
+    " channel 1: overflow flag, expected none\n\x1b[31m1 rules, 1 not held\x1b[0m\n";
+
+/// That file with so many bytes that are no packet in front of the setup record, and so many behind it.
+fn damaged(rt: &impl Abort, alloc: Global, file: &[u8], front: usize, behind: usize) -> Vec<u8> {
+    let none = [0u8; 24];
+    let (setup, rest) = file.split_at(file.len().min(32));
+    let mut made = Vec::new(alloc);
+    let (front, _) = none.split_at(front.min(none.len()));
+    let (behind, _) = none.split_at(behind.min(none.len()));
+    for part in [front, setup, behind, rest] {
+        made.extend_from_slice(part).expect(rt, "memory");
+    }
+    made
+}
+
+/// A packet is told by where it stands among all bytes, of which the sound ones are judged.
+#[test]
+fn a_packet_stands_in_the_damaged_file(rt: HostRuntime) {
+    let (alloc, rules) = (rt.alloc(), "expect any whole");
+    let mut file = foreign_with(46, 0x10);
+    file[54] = 0x18;
+    for (front, behind, place) in [(0, 0, "32"), (0, 24, "56"), (8, 0, "40"), (8, 24, "64")] {
+        let damaged = damaged(&rt, alloc, &file, front, behind);
+        let found = read_skips(alloc, damaged.as_slice());
+        let skips = found.ok().expect(&rt, "memory");
+        let skips = skips.as_slice();
+        let text = judged_in(&rt, alloc, &file, skips, rules);
+        let lines = " channel 1\nrule 1 selected 1 missed 1\nrules 1 missed 1\n";
+        reads_all(&rt, text.as_slice(), &["missed 1 packet ", place, lines]);
+        let report = shown_in(&rt, alloc, &file, skips, rules, false);
+        reads_all(&rt, report.as_slice(), &[FLAGGED_REPORT, place, REPORTED]);
+        let colors = shown_in(&rt, alloc, &file, skips, rules, true);
+        reads_all(&rt, colors.as_slice(), &[FLAGGED_COLORS, place, COLORED]);
+    }
 }
 
 /// Rules of the counter and of the lost word that messages miss, and what is told of the first of these.

@@ -6,6 +6,7 @@ use bench_judge::{
     Judged, Lost, RuleVerdict, count_lost, judge, junit_text, write_colored, write_verdicts,
 };
 use bench_names::ChannelNames;
+use ch11_reader::Skip;
 use judge_rules::{Rule, read_rules};
 use std::alloc::Global;
 use std::process::Abort;
@@ -144,9 +145,20 @@ message 1 channel 1 stamp 0: block 0000 gaps 0050, expected fail</failure>\n  </
 
 /// What is printed of rules and a recording.
 pub(crate) fn judged(rt: &impl Abort, alloc: Global, file: &[u8], rules: &str) -> Vec<u8> {
+    judged_in(rt, alloc, file, &[], rules)
+}
+
+/// The same of the sound bytes of a file, of which others were skipped.
+pub(crate) fn judged_in(
+    rt: &impl Abort,
+    alloc: Global,
+    file: &[u8],
+    skips: &[Skip],
+    rules: &str,
+) -> Vec<u8> {
     let rules = read_rules(alloc, rules.as_bytes()).ok().expect(rt, "rules");
     let mut text = Vec::new(alloc);
-    let verdicts = write_verdicts(alloc, &file, rules.as_slice(), &[], &mut text)
+    let verdicts = write_verdicts(alloc, &file, rules.as_slice(), &[], skips, &mut text)
         .ok()
         .expect(rt, "verdicts");
     assert!(rt; verdicts.len() == rules.len());
@@ -218,12 +230,18 @@ fn what_is_not_clean_is_told(rt: HostRuntime) {
 }
 
 /// Rules that a text spells, with these verdicts.
-fn judged_by<'j>(text: &'j [u8], rules: &'j [Rule], verdicts: &'j [RuleVerdict]) -> Judged<'j> {
+fn judged_by<'j>(
+    text: &'j [u8],
+    rules: &'j [Rule],
+    skips: &'j [Skip],
+    verdicts: &'j [RuleVerdict],
+) -> Judged<'j> {
     Judged {
         file: b"lost.rules",
         text,
         rules,
         origins: &[],
+        skips,
         verdicts,
     }
 }
@@ -236,11 +254,23 @@ pub(crate) fn shown(
     text: &str,
     colored: bool,
 ) -> Vec<u8> {
+    shown_in(rt, alloc, file, &[], text, colored)
+}
+
+/// The same of the sound bytes of a file, of which others were skipped.
+pub(crate) fn shown_in(
+    rt: &impl Abort,
+    alloc: Global,
+    file: &[u8],
+    skips: &[Skip],
+    text: &str,
+    colored: bool,
+) -> Vec<u8> {
     let text = text.as_bytes();
     let rules = read_rules(alloc, text).ok().expect(rt, "rules");
     let rules = rules.as_slice();
     let verdicts = judge(alloc, file, rules, &[]).ok().expect(rt, "verdicts");
-    let judged = judged_by(text, rules, verdicts.as_slice());
+    let judged = judged_by(text, rules, skips, verdicts.as_slice());
     if colored {
         let mut shown = Vec::new(alloc);
         let names = ChannelNames::of(file);
@@ -308,7 +338,7 @@ fn a_report_tells_of_messages_that_are_missing(rt: HostRuntime) {
         verdict_at(2, false),
         verdict_at(4, true),
     ];
-    let judged = judged_by(MARKED_RULES, rules.as_slice(), &verdicts);
+    let judged = judged_by(MARKED_RULES, rules.as_slice(), &[], &verdicts);
     let report = junit_text(alloc, &file, judged, told);
     let text = report.ok().expect(&rt, "memory");
     reads(&rt, text.as_slice(), MARKED_REPORT);
