@@ -11,7 +11,7 @@ _bench_files() {
 
 _bench() {
     local word=${COMP_WORDS[COMP_CWORD]} before=${COMP_WORDS[COMP_CWORD - 1]} command='' place
-    local commands="one assemble run check dump step stat export draw judge complete explain help"
+    local commands="one assemble run check dump step stat export draw judge complete cut compare explain help"
     for ((place = 1; place < COMP_CWORD; place++)); do
         case ${COMP_WORDS[place]} in
             --context) place=$((place + 1)) ;;
@@ -43,7 +43,7 @@ _bench() {
             _bench_files "$word"
             return
             ;;
-        --version | --limit | --queue | --pace | --channel | --only | --from | --to | --time | --time-channel)
+        --version | --limit | --queue | --pace | --channel | --only | --from | --to | --time | --time-channel | --within)
             [ -z "$command" ] || return
             ;;
     esac
@@ -59,11 +59,11 @@ _bench() {
             ;;
         check) options="--summary --decode --strict $options" ;;
         dump)
-            options="--skip --time --time-channel --decode --by-time $options"
+            options="--skip --time --time-channel --decode --by-time --json $options"
             options="--channel --line --only --errors --from --to $options"
             ;;
         stat)
-            options="--csv --long --by --load --time --time-channel $options"
+            options="--csv --json --long --by --load --time --time-channel $options"
             options="--channel --line --only --errors --from --to $options"
             ;;
         export)
@@ -74,7 +74,9 @@ _bench() {
             options="--out --force --setup --auto-setup --time --time-channel --second-time $options"
             options="--version --skip $options"
             ;;
-        judge) options="--junit --force --skip $options" ;;
+        cut) options="--out --force --skip --channel --line --only --errors --from --to $options" ;;
+        compare) options="--within --junit --json --force --channel --line --only --errors --from --to $options" ;;
+        judge) options="--junit --json --force --skip $options" ;;
         draw) options="--out --force --time-channel --channel --line --only --errors --from --to $options" ;;
     esac
     case $word in
