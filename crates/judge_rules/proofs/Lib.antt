@@ -1,4 +1,4 @@
 mod Products
 mod Prefixes
-mod Ranges
+pub mod Ranges
 mod Spelling

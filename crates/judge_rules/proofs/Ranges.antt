@@ -38,17 +38,17 @@ use Rattle.judge_rules.specs.Values.{all_data, and_then, bounds_in, bounds_of, c
 
 -- ---- what is read in parts
 
-if_made : {X Y : Type 0} (P : X → Type 0) (Q : Y → Type 0) (make : X → Y) (read : Read X) → ((x : X) → P x → Q (make x)) → IfOk read P → IfOk (made make read) Q
+pub if_made : {X Y : Type 0} (P : X → Type 0) (Q : Y → Type 0) (make : X → Y) (read : Read X) → ((x : X) → P x → Q (make x)) → IfOk read P → IfOk (made make read) Q
 if_made P Q make (Ok x) on is = on x is
 if_made P Q make (Err f) on is = tt
 
-if_both : {X Y : Type 0} (P : X → Type 0) (Q : Y → Type 0) (a : Read X) (b : Read Y) → IfOk a P → IfOk b Q → IfOk (both a b) (λ (x : X × Y). P x.0 × Q x.1)
+pub if_both : {X Y : Type 0} (P : X → Type 0) (Q : Y → Type 0) (a : Read X) (b : Read Y) → IfOk a P → IfOk b Q → IfOk (both a b) (λ (x : X × Y). P x.0 × Q x.1)
 if_both P Q (Ok a) (Ok b) p q = (p, q)
 if_both P Q (Ok a) (Err f) p q = tt
 if_both P Q (Err f) (Ok b) p q = tt
 if_both P Q (Err f) (Err g) p q = tt
 
-if_more : {X : Type 0} (P Q : X → Type 0) (read : Read X) → ((x : X) → P x → Q x) → IfOk read P → IfOk read Q
+pub if_more : {X : Type 0} (P Q : X → Type 0) (read : Read X) → ((x : X) → P x → Q x) → IfOk read P → IfOk read Q
 if_more P Q (Ok x) on is = on x is
 if_more P Q (Err f) on is = tt
 
@@ -64,7 +64,7 @@ if_then : {X Y : Type 0} (P : X → Type 0) (Q : Y → Type 0) (read : Read X) (
 if_then P Q (Ok x) next is on = on x is
 if_then P Q (Err f) next is on = tt
 
-if_either : {X E : Type 0} (P : X → Type 0) (b : Bool) (first second : Result X E) → IfOk first P → IfOk second P → IfOk (if b then first else second) P
+pub if_either : {X E : Type 0} (P : X → Type 0) (b : Bool) (first second : Result X E) → IfOk first P → IfOk second P → IfOk (if b then first else second) P
 if_either P true first second f s = f
 if_either P false first second f s = s
 
@@ -95,7 +95,7 @@ range_within low high (Some n) = go (nat_le low n && nat_le n high) refl
         (grind (arith, nat_tests), grind (arith, nat_tests))
     go false is = tt
 
-range_number : (low high : ℕ) (rest : List Text) → IfOk (number_in low high rest) (IsFrom low high)
+pub range_number : (low high : ℕ) (rest : List Text) → IfOk (number_in low high rest) (IsFrom low high)
 range_number low high [] = tt
 range_number low high (word ∷ rest) = range_within low high (numerals.number_of word)
 
@@ -153,7 +153,7 @@ range_mode rest =
     if_made (λ (x : Option ℕ × Option ℕ). IsAddress x.0 × IsCode x.1) IsSelector _ (both (address_in rest) (code_in (drop 1 rest))) (λ x is. is)
     (if_both IsAddress IsCode (address_in rest) (code_in (drop 1 rest)) (range_choice 0 highest_address rest) (range_choice 0 last_code (drop 1 rest)))
 
-range_selector : (rest : List Text) → IfOk (selector_in rest) IsSelector
+pub range_selector : (rest : List Text) → IfOk (selector_in rest) IsSelector
 range_selector [] = tt
 range_selector (name ∷ rest) =
     if_any IsSelector (bytes_eq name (codes "any")) (bytes_eq name (codes "rx")) (bytes_eq name (codes "tx")) (bytes_eq name (codes "rt")) (bytes_eq name (codes "mode")) (bytes_eq name (codes "brx")) (bytes_eq name (codes "brt")) (bytes_eq name (codes "bmode")) (Ok Any) (receive_in rest) (transmit_in rest)
@@ -213,7 +213,7 @@ range_check_behind (Some names.Count) rest = range_count rest
 range_check_behind (Some names.DataWord) rest = range_data_word rest
 range_check_behind (Some names.Whole) rest = if_ended IsCheck (Ok check.Whole) rest tt
 
-range_check : (rest : List Text) → IfOk (check_in rest) IsCheck
+pub range_check : (rest : List Text) → IfOk (check_in rest) IsCheck
 range_check [] = tt
 range_check (name ∷ rest) = range_check_behind (name_of name) rest
 
@@ -241,7 +241,7 @@ range_span_of (Ok (first, last)) is = go (are_ordered first last) refl
     go true in_order = (is, are_in_order first last in_order)
     go false in_order = tt
 
-range_span : (rest : List Text) → IfOk (span_in rest) IsSpan
+pub range_span : (rest : List Text) → IfOk (span_in rest) IsSpan
 range_span rest =
     let first = spans.end_in (codes "from") rest in
     let last = spans.end_in (codes "to") (behind_end (codes "from") rest) in
@@ -249,7 +249,7 @@ range_span rest =
 
 -- ---- rules
 
-range_channel : (rest : List Text) → IfOk (channel_in rest) (IsChoice 1 65535)
+pub range_channel : (rest : List Text) → IfOk (channel_in rest) (IsChoice 1 65535)
 range_channel rest =
     if_either (IsChoice 1 65535) (begins_with (codes "channel") rest) (made Some (number_in 1 65535 (drop 1 rest))) (Ok None)
     (if_made (IsFrom 1 65535) (IsChoice 1 65535) Some (number_in 1 65535 (drop 1 rest)) (λ n is. is) (range_number 1 65535 (drop 1 rest))) tt

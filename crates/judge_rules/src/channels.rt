@@ -8,7 +8,7 @@ use mil_word::Line;
 use text_lines::Words;
 
 /// The channel that a rule names, if it names one.
-pub(crate) fn read_channel(words: &mut Words<'_>) -> Result<Option<u16>, RuleFault>
+pub fn read_channel(words: &mut Words<'_>) -> Result<Option<u16>, RuleFault>
     ensures value { result ≡ spec.channel_in words.old }
     ensures rest { words.new ≡ spec.behind_channel words.old }
 {
@@ -22,7 +22,7 @@ pub(crate) fn read_channel(words: &mut Words<'_>) -> Result<Option<u16>, RuleFau
 }
 
 /// The line of the bus that a rule names, if it names one.
-pub(crate) fn read_bus(words: &mut Words<'_>) -> Result<Option<Line>, RuleFault>
+pub fn read_bus(words: &mut Words<'_>) -> Result<Option<Line>, RuleFault>
     ensures value { result ≡ spec.bus_in words.old }
     ensures rest { words.new ≡ spec.behind_bus words.old }
 {

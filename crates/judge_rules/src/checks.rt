@@ -143,7 +143,7 @@ fn read_data_word(words: &mut Words<'_>) -> Result<Check, RuleFault>
 }
 
 /// The check that the words spell, and no more.
-pub(crate) fn read_check(words: &mut Words<'_>) -> Result<Check, RuleFault>
+pub fn read_check(words: &mut Words<'_>) -> Result<Check, RuleFault>
     ensures { result ≡ spec.check_in words.old }
 {
     let Some(word) = words.next() else {

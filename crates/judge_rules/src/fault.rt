@@ -5,7 +5,7 @@ ghost use Rattle.judge_rules.specs.Faults as spec;
 
 use std::fmt::{self, Display, Formatter, Write};
 
-/// What is wrong with a line of rules.
+/// What is wrong with a line of rules, or of a dictionary of signals, whose codes begin with D.
 #[derive(Clone, Copy, Debug, PartialEq, Eq)]
 pub enum RuleFault {
     /// I1: a word that does not stand there, is missing or is left over; or there is no rule.
@@ -44,7 +44,7 @@ impl Display for RuleError {
 
 impl RuleFault {
     /// Which of two faults of one line counts: a word before a number, and a number before a range.
-    pub(crate) fn or(self, other: RuleFault) -> RuleFault
+    pub fn or(self, other: RuleFault) -> RuleFault
         ensures { result ≡ spec.lower self other }
     {
         match (self, other) {
@@ -57,7 +57,7 @@ impl RuleFault {
 }
 
 /// Both values, or the fault that counts.
-pub(crate) fn both<A: Drop, B: Drop>(
+pub fn both<A: Drop, B: Drop>(
     first: Result<A, RuleFault>,
     second: Result<B, RuleFault>,
 ) -> Result<(A, B), RuleFault>

@@ -18,7 +18,7 @@ use text_lines::{Words, is_comment, next_word};
 type Expected = (((Option<u16>, Option<Line>), Span), (Selector, Check));
 
 /// Whether a line is passed over: it has no words, or its first begins with `#`.
-fn is_passed_over(text: &[u8]) -> bool
+pub fn is_passed_over(text: &[u8]) -> bool
     ensures { result ≡ spec.is_passed_over text.now }
 {
     match next_word(text) {
@@ -27,8 +27,8 @@ fn is_passed_over(text: &[u8]) -> bool
     }
 }
 
-/// The rule of these parts.
-fn rule_of(
+/// The rule of these parts. Condition: their numbers are in their ranges.
+pub fn rule_of(
     line: u64,
     channel: Option<u16>,
     bus: Option<Line>,
@@ -133,7 +133,7 @@ fn read_words(line: u64, words: &mut Words<'_>) -> Result<Rule, RuleFault>
 
 /// The rule that a line spells, with this number; `None` where the line is passed over.
 #[tactic(auto, unfolding(crate::specs::Lines::said))]
-pub(crate) fn read_line(line: u64, text: &[u8]) -> Option<Result<Rule, RuleFault>>
+pub fn read_line(line: u64, text: &[u8]) -> Option<Result<Rule, RuleFault>>
     ensures value { option_map (made parts_of) result ≡ spec.said line text.now }
     ensures line { IfSome result (λ read. IfOk read (λ rule. rule.line ≡ line)) }
 {

@@ -82,7 +82,7 @@ fn read_between_all(words: &mut Words<'_>) -> Result<Selector, RuleFault>
 }
 
 /// The selector that the next words spell.
-pub(crate) fn read_selector(words: &mut Words<'_>) -> Result<Selector, RuleFault>
+pub fn read_selector(words: &mut Words<'_>) -> Result<Selector, RuleFault>
     ensures value { result ≡ spec.selector_in words.old }
     ensures rest { words.new ≡ spec.behind_selector words.old }
 {

@@ -51,7 +51,7 @@ fn are_ordered(from: Option<u64>, to: Option<u64>) -> bool
 
 /// When the messages of a rule begin, as far as it says so.
 #[tactic(auto, unfolding(crate::specs::Spans::behind_span))]
-pub(crate) fn read_span(words: &mut Words<'_>) -> Result<Span, RuleFault>
+pub fn read_span(words: &mut Words<'_>) -> Result<Span, RuleFault>
     ensures value { result ≡ spec.span_in words.old }
     ensures rest { words.new ≡ spec.behind_span words.old }
 {

@@ -22,8 +22,8 @@ fn number_within(word: &[u8], low: u32, high: u32) -> Result<u32, RuleFault>
     }
 }
 
-/// A number as the next word.
-pub(crate) fn read_number(words: &mut Words<'_>, low: u32, high: u32) -> Result<u32, RuleFault>
+/// A number of one to seven digits as the next word, within a range.
+pub fn read_number(words: &mut Words<'_>, low: u32, high: u32) -> Result<u32, RuleFault>
     ensures value { result ≡ spec.number_in low high words.old }
     ensures range { IfOk result (λ n. (low ≤ n) × (n ≤ high)) }
     ensures rest { words.new ≡ drop 1 words.old }

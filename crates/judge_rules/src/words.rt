@@ -6,10 +6,7 @@ use crate::fault::RuleFault;
 use text_lines::Words;
 
 /// A value, behind which no word is left.
-pub(crate) fn ended<T: Drop>(
-    words: &mut Words<'_>,
-    value: Result<T, RuleFault>,
-) -> Result<T, RuleFault>
+pub fn ended<T: Drop>(words: &mut Words<'_>, value: Result<T, RuleFault>) -> Result<T, RuleFault>
     ensures { result ≡ faults.ended value words.old }
 {
     match words.next() {
