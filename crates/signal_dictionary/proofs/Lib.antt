@@ -1,0 +1,5 @@
+mod Among
+mod Digits
+mod Named
+mod Prefixes
+mod Ranges

@@ -1,0 +1,10 @@
+pub mod Texts
+pub mod Decimals
+pub mod Fitting
+pub mod Places
+pub mod Namings
+pub mod Kinds
+pub mod Codes
+pub mod Parts
+pub mod Lines
+pub mod Dictionary
