@@ -1,0 +1,4 @@
+mod Back
+mod Decimals
+mod Digits
+mod Signs
