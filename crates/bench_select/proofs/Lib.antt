@@ -1,1 +1,3 @@
 pub mod Stamping
+mod Bits
+pub mod Passed

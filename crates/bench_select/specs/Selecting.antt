@@ -1,6 +1,6 @@
 -- Which messages of a recording are chosen (own choice): by their channel, the line, the summary of errors, the
--- selector of a rule, number and time, in ticks of 0.1 µs (IRIG 106-17 Chapter 11, MIL-STD-1553 bus data packets,
--- Format 1).
+-- selector of a rule, a signal that they have, number and time, in ticks of 0.1 µs (IRIG 106-17 Chapter 11,
+-- MIL-STD-1553 bus data packets, Format 1).
 use Rattle.std.specs.Prelude.{◌≡◌, ℕ, ◌+◌, nat_le, Bool, true, false, not, ◌&&◌, ◌||◌, Option, Some, None, List}
 use Rattle.std.specs.Prelude.{slice_index_or}
 use Rattle.ch11_layout.specs.Stamps.{Recorded, time_of}
@@ -13,6 +13,9 @@ use Rattle.bench_select.specs.declared.bounds.Bound.{Bound}
 use Rattle.bench_select.specs.declared.bounds.Bound.TheVariants.{Number, Time}
 use Rattle.bench_select.specs.declared.selection.Selection.{Selection}
 use Rattle.bench_select.specs.Selectors.{is_chosen, is_on, selects_commands}
+use Rattle.bench_select.specs.Signals.{has_signal}
+use Rattle.signal_dictionary.specs.declared.signals.Signal.{Signal}
+use Rattle.std.specs.Borrow.{Bor}
 
 -- the tick from which times count: where stamps are times of day, that of the channel's first
 abbrev pub or_nought : Option ℕ → ℕ
@@ -63,12 +66,18 @@ abbrev pub is_about : Option Selector → Recorded → Bool
 is_about None m = true
 is_about (Some selector) m = selects_commands selector m
 
+-- with the signal that is asked for
+abbrev pub has_chosen : Option (Bor Signal) → ℕ → Recorded → Bool
+has_chosen None channel m = true
+has_chosen (Some signal) channel m = has_signal signal.now channel m
+
 -- the message of a number of the file, counted from 1, on a channel
 abbrev pub selects : Selection → ℕ → ℕ → Recorded → Bool
 selects s number channel m =
     is_chosen s.channel channel && is_on s.line m.block && (not s.errors || has_error m.block)
     && is_from s.from (origin_by m.kind s.origins.now channel) number (time_of m)
     && is_up_to s.to (origin_by m.kind s.origins.now channel) number (time_of m) && is_about s.selector m
+    && has_chosen s.signal channel m
 
 -- nothing is asked of a message
 abbrev pub is_none : {A : Type 0} → Option A → Bool
@@ -77,7 +86,8 @@ is_none (Some x) = false
 
 abbrev pub is_all : Selection → Bool
 is_all s =
-    is_none s.channel && is_none s.line && is_none s.selector && not s.errors && is_none s.from && is_none s.to
+    is_none s.channel && is_none s.line && is_none s.selector && is_none s.signal && not s.errors && is_none s.from
+    && is_none s.to
 
 -- a bound is a time
 abbrev pub is_time : Option Bound → Bool
@@ -93,6 +103,7 @@ pub record IsCountedFrom (origins : List (Option ℕ)) (s counted : Selection) :
   pub channel : counted.channel ≡ s.channel
   pub line : counted.line ≡ s.line
   pub selector : counted.selector ≡ s.selector
+  pub signal : counted.signal ≡ s.signal
   pub errors : counted.errors ≡ s.errors
   pub first : counted.from ≡ s.from
   pub last : counted.to ≡ s.to

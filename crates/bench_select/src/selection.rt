@@ -4,9 +4,11 @@ ghost use Rattle.std.specs.Prelude.{◌≡◌, ◌+◌, true};
 
 use crate::bounds::Bound;
 use crate::selectors::{is_of, is_on, selects_commands};
+use crate::signals::has_signal;
 use ch11_layout::{StampKind, View};
 use judge_rules::{Selector, Span};
 use mil_word::Line;
+use signal_dictionary::Signal;
 
 /// Which messages of a recording are chosen: those that meet all that is said here.
 #[derive(Clone, Copy, Debug)]
@@ -17,6 +19,8 @@ pub struct Selection<'o> {
     pub line: Option<Line>,
     /// Of these commands; `None` for all.
     pub selector: Option<Selector>,
+    /// That have this signal; `None` for all.
+    pub signal: Option<&'o Signal>,
     /// Only those with an error: block status bit 12.
     pub errors: bool,
     /// From this one on.
@@ -28,7 +32,7 @@ pub struct Selection<'o> {
     pub origins: &'o [Option<u64>],
 }
 
-impl Selection<'_> {
+impl<'o> Selection<'o> {
     /// All messages.
     pub fn all() -> Selection<'static>
         ensures { spec.is_all result ≡ true }
@@ -37,6 +41,7 @@ impl Selection<'_> {
             channel: None,
             line: None,
             selector: None,
+            signal: None,
             errors: false,
             from: None,
             to: None,
@@ -45,13 +50,14 @@ impl Selection<'_> {
     }
 
     /// The same selection, whose times count from these times of day, one for each channel.
-    pub fn counting_from<'p>(&self, origins: &'p [Option<u64>]) -> Selection<'p>
+    pub fn counting_from(&self, origins: &'o [Option<u64>]) -> Selection<'o>
         ensures { spec.IsCountedFrom origins.now self.now result }
     {
         Selection {
             channel: self.channel,
             line: self.line,
             selector: self.selector,
+            signal: self.signal,
             errors: self.errors,
             from: self.from,
             to: self.to,
@@ -66,6 +72,7 @@ impl Selection<'_> {
         self.channel.is_none()
             && self.line.is_none()
             && self.selector.is_none()
+            && self.signal.is_none()
             && !self.errors
             && self.from.is_none()
             && self.to.is_none()
@@ -90,6 +97,7 @@ impl Selection<'_> {
             && is_from(self.from, origin, number, view.time())
             && is_up_to(self.to, origin, number, view.time())
             && is_about(self.selector, view)
+            && has_chosen(self.signal, channel, view)
     }
 }
 
@@ -191,5 +199,15 @@ fn is_about(selector: Option<Selector>, view: &View<'_>) -> bool
     match selector {
         None => true,
         Some(selector) => selects_commands(selector, view),
+    }
+}
+
+/// Whether a message has a signal, where one is asked for.
+fn has_chosen(signal: Option<&Signal>, channel: u16, view: &View<'_>) -> bool
+    ensures { result ≡ spec.has_chosen signal.entry channel view.now }
+{
+    match signal {
+        None => true,
+        Some(signal) => has_signal(signal, channel, view),
     }
 }
