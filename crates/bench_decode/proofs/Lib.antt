@@ -1,3 +1,4 @@
 pub mod Counts
 pub mod Passing
+pub mod Unchosen
 mod Answered

@@ -59,7 +59,7 @@ fn put_by_time<W: Write>(
         put_message(
             printing,
             out,
-            output.decoded,
+            output,
             &one.place,
             &View::of(one.kind, &one.seen),
         )?;

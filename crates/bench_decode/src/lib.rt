@@ -1,8 +1,9 @@
 //! The messages of a recording as people read them, on one line or on several; and those that are chosen, also in
 //! the order of their stamps. `bench dump --decode` prints them.
 //!
-//! It may know: words, mode codes, bodies, layouts, the reader, the packets of a stream, selections, the dump. Its
-//! tests: `command_tests`, and of packets as they come `ch11_stream_tests`. Its wrong bodies: `edits/`.
+//! It may know: words, mode codes, bodies, layouts, the reader, the packets of a stream, selections, dictionaries of
+//! signals and their values, the dump. Its tests: `command_tests`, and of packets as they come `ch11_stream_tests`. Its
+//! wrong bodies: `edits/`.
 #![tactic(auto)]
 
 mod by_time;

@@ -1,13 +1,18 @@
 //! A message as a line.
 ghost use Rattle.bench_decode.specs.Letters as spec;
-ghost use Rattle.std.specs.Prelude.{◌≡◌};
+ghost use Rattle.signal_values.specs.Readings.{value_of};
+ghost use Rattle.signal_values.specs.Texts.{told_text};
+ghost use Rattle.std.specs.Prelude.{◌≡◌, ◌++◌, OnOk};
 
 use crate::digits::{decimals_of, in_columns};
 use crate::fields::{has_names, put_block, put_form};
 use crate::line::TextLine;
 use crate::readings::{Reading, put_reading};
 use crate::times::Time;
+use bench_select::value_in;
 use ch11_layout::{RecordedForm, View};
+use signal_dictionary::Signal;
+use signal_values::{Reading as Value, put_told};
 use std::io;
 use std::io::Write;
 
@@ -67,24 +72,71 @@ pub fn write_message<W: Write>(
     place: &Place,
     view: &View<'_>,
 ) -> io::Result<()> {
+    put_up_to_words(line, out, place, view)?;
+    put_end(line, view);
+    Ok(())
+}
+
+/// Writes the same with the values of these signals behind the data words, each as ` NAME=VALUE UNIT`. The text is room
+/// for a value.
+pub(crate) fn write_message_with<W: Write>(
+    line: &mut TextLine,
+    out: &mut W,
+    place: &Place,
+    view: &View<'_>,
+    signals: &[Signal],
+    value: &mut Vec<u8>,
+) -> io::Result<()> {
+    put_up_to_words(line, out, place, view)?;
+    for signal in signals {
+        if let Some(reading) = value_in(signal, place.channel, view) {
+            line.hand_on(out)?;
+            value.clear();
+            put_value(value, signal, reading)?;
+            line.put(value.as_slice());
+        }
+    }
+    put_end(line, view);
+    Ok(())
+}
+
+/// Puts a signal with its value and its unit; want of memory is the writer's fault.
+fn put_value(text: &mut Vec<u8>, signal: &Signal, value: Value) -> io::Result<()>
+    ensures { OnOk result (text.new.items ≡ text.old.items ++ told_text signal.now (value_of value)) }
+{
+    match put_told(text, signal, value) {
+        Ok(()) => Ok(()),
+        Err(_) => Err(io::Error::from(io::ErrorKind::OutOfMemory)),
+    }
+}
+
+/// Begins the line of a message, up to its data words.
+fn put_up_to_words<W: Write>(
+    line: &mut TextLine,
+    out: &mut W,
+    place: &Place,
+    view: &View<'_>,
+) -> io::Result<()> {
     line.hand_on(out)?;
     put_place(line, place, view);
     let form = view.form();
     if form == RecordedForm::Unknown {
         put_raw(line, view);
-        put_data(line, out, view, 0, view.word_count())?;
-    } else {
-        put_form(line, form);
-        line.pad_to(REPLIES);
-        let reading = Reading::of(view);
-        put_reading(line, view, reading);
-        put_words(line, out, view, reading)?;
+        return put_data(line, out, view, 0, view.word_count());
     }
+    put_form(line, form);
+    line.pad_to(REPLIES);
+    let reading = Reading::of(view);
+    put_reading(line, view, reading);
+    put_words(line, out, view, reading)
+}
+
+/// Ends the line of a message with the names of its errors.
+fn put_end(line: &mut TextLine, view: &View<'_>) {
     if has_names(view.block()) {
         put_block(line, view.block());
     }
     line.end_line();
-    Ok(())
 }
 
 /// The letter of the line that a message went over.

@@ -1,13 +1,14 @@
 //! The messages of a recording, one after the other, on their way to a writer.
 
 use crate::line::{Shown, TextLine};
-use crate::messages::{Place, write_columns, write_message};
+use crate::messages::{Place, write_columns, write_message_with};
 use crate::numbers::Numbers;
 use bench_select::Selection;
 use ch11_f1::Messages;
 use ch11_layout::{StampKind, View};
 use ch11_reader::{Packet, Skip};
 use ch11_stream::StreamFault;
+use signal_dictionary::Signal;
 use std::alloc::{AllocError, Global};
 use std::io;
 use std::io::Write;
@@ -23,16 +24,19 @@ pub struct Output<'o> {
     pub shown: Shown,
     /// Whether a damaged recording is printed as far as it is sound, with what was skipped.
     pub skip: bool,
+    /// The signals whose values stand behind the data words of decoded messages.
+    pub signals: &'o [Signal],
 }
 
-impl Output<'_> {
+impl<'o> Output<'o> {
     /// The same, where times count from these times of day, one for each channel.
-    pub fn counting_from<'p>(&self, origins: &'p [Option<u64>]) -> Output<'p> {
+    pub fn counting_from(&self, origins: &'o [Option<u64>]) -> Output<'o> {
         Output {
             selection: self.selection.counting_from(origins),
             decoded: self.decoded,
             shown: self.shown,
             skip: self.skip,
+            signals: self.signals,
         }
     }
 }
@@ -43,6 +47,7 @@ pub(crate) struct Printing {
     pub(crate) line: TextLine,
     numbers: Numbers,
     pub(crate) count: u64,
+    value: Vec<u8>,
 }
 
 impl Printing {
@@ -52,6 +57,7 @@ impl Printing {
             line: TextLine::new(alloc, shown)?,
             numbers: Numbers::new(alloc)?,
             count: 0,
+            value: Vec::new(alloc),
         })
     }
 }
@@ -88,7 +94,7 @@ pub(crate) fn put_messages<W: Write>(
         let place = printing.numbers.place(number, channel);
         let view = View::of(kind, &seen);
         if all || output.selection.selects(number, channel, &view) {
-            put_message(printing, out, output.decoded, &place, &view)?;
+            put_message(printing, out, output, &place, &view)?;
         }
     }
     Ok(())
@@ -98,11 +104,11 @@ pub(crate) fn put_messages<W: Write>(
 pub(crate) fn put_message<W: Write>(
     printing: &mut Printing,
     out: &mut W,
-    decoded: bool,
+    output: &Output,
     place: &Place,
     view: &View<'_>,
 ) -> io::Result<()> {
-    if !decoded {
+    if !output.decoded {
         printing.count = printing.count.saturating_add(1);
         return put_as_dump(&mut printing.line, out, place, view);
     }
@@ -110,7 +116,8 @@ pub(crate) fn put_message<W: Write>(
         write_columns(&mut printing.line, out)?;
     }
     printing.count = printing.count.saturating_add(1);
-    write_message(&mut printing.line, out, place, view)
+    let (line, value) = (&mut printing.line, &mut printing.value);
+    write_message_with(line, out, place, view, output.signals, value)
 }
 
 /// Prints a message as a dump has it.

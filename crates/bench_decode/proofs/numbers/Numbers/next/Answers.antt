@@ -1,6 +1,5 @@
-use Rattle.std.proofs.Common.{◌≡◌, ◌+◌, ◌<◌, ℕ, length, arith}
+use Rattle.std.proofs.Common.{◌≡◌, ◌+◌, arith}
 use Rattle.ch11_reader.specs.Contents.{count_in}
-use Rattle.bench_decode.specs.Numbering.{AreCounts}
 use Rattle.bench_decode.proofs.Counts.{at_most, count_at, counts_at}
 use Rattle.bench_decode.proofs.numbers.Numbers.next.Goals as goal
 
