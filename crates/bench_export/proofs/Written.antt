@@ -1,15 +1,22 @@
 -- Rows that were written, one after the other.
-use Rattle.std.proofs.Common.{◌≡◌, ℕ, ◌+◌, List, [], ◌∷◌, ◌++◌, length, drop, Option, None, Some, refl, sym, ap, ◌∙◌, subst, append_assoc, arith}
+use Rattle.std.proofs.Common.{◌≡◌, ℕ, ◌+◌, Bool, false, cond, List, [], ◌∷◌, ◌++◌, length, drop, Option, None, Some, refl, sym, ap, ◌∙◌, subst, append_assoc, arith}
 use Rattle.std.specs.Io.KnownBytes.{Appends, Keeps, append_known}
 use Rattle.std.proofs.lemmas.List.{append-nil}
 use Rattle.ch11_f1.specs.BodyReading.{Message}
-use Rattle.ch11_layout.specs.Stamps.{recorded}
+use Rattle.ch11_layout.specs.Stamps.{Recorded, recorded}
 use Rattle.ch11_layout.specs.declared.stamps.StampKind.{StampKind}
 use Rattle.bench_clock.specs.declared.clock.Mark.{Mark}
+use Rattle.bench_select.specs.Selecting.{selects}
+use Rattle.csv.specs.Writing.{default_writer, row_text}
 use Rattle.bench_dump.proofs.Packets.{kept}
 use Rattle.bench_dump.proofs.Steps.{appends_both, appends_nothing}
 use Rattle.bench_export.specs.declared.table.Table.{Table}
-use Rattle.bench_export.specs.Tables.{row_if, rows_text}
+use Rattle.bench_export.specs.Tables.{columns_of, row_if, rows_text}
+
+-- a message that is not selected has no row
+pub no_row : (k : Table) (clock : List Mark) (n channel : ℕ) (m : Recorded) → selects k.selection n channel m ≡ false → row_if k clock n channel m ≡ []
+unfolding row_if
+no_row k clock n channel m other = ap (λ (b : Bool). cond b (row_text default_writer (columns_of k clock n channel m)) []) other
 
 -- the rows of the messages so far were written
 pub record IsGoing (k : Table) (clock : List Mark) (kind : StampKind) (got gets : Option (List ℕ)) (before number channel : ℕ) (all rest : List Message) : Type 0 where

@@ -11,8 +11,8 @@ use ch11_reader::Packet;
 use ch11_stream::{Advance, Packets, StreamFault};
 use std::alloc::Global;
 
-/// Whether a packet's messages have a selected one.
-pub(crate) fn selects_among(selection: &Selection, packet: &Packet, messages: Messages<'_>) -> bool
+/// Whether a packet's messages have a selected one. Condition: their numbers in the file have 64 bits.
+pub fn selects_among(selection: &Selection, packet: &Packet, messages: Messages<'_>) -> bool
     requires { packet.now.before + length messages < 2 ^ 64 }
     ensures { result
         ≡ spec.selects_among selection.now

@@ -25,7 +25,7 @@ pub enum Columns {
 }
 
 /// The columns of a message behind its time. The text is room for a field.
-pub(crate) fn push_columns(
+pub fn push_columns(
     row: &mut Row,
     text: &mut Vec<u8>,
     prefixed: bool,

@@ -68,10 +68,7 @@ impl Room {
 }
 
 /// Writes a row of fields.
-pub(crate) fn write_row<W: Write + Drop>(
-    writer: &mut Writer<W>,
-    row: &Row,
-) -> Result<(), WriteFault>
+pub fn write_row<W: Write + Drop>(writer: &mut Writer<W>, row: &Row) -> Result<(), WriteFault>
     requires { IsBetween writer.old }
     ensures between { OnOk result (IsBetween writer.new) }
     ensures written { OnOk result (Writes W.contents writer.old writer.new

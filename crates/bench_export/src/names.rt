@@ -11,8 +11,8 @@ use crate::table::Table;
 use itoa::Buffer;
 use std::alloc::{AllocError, Global};
 
-/// The names of the columns.
-pub(crate) fn names_of(alloc: Global, table: &Table) -> Result<Row, AllocError>
+/// The names of the columns of a table.
+pub fn names_of(alloc: Global, table: &Table) -> Result<Row, AllocError>
     ensures { IfOk result (λ row. row ≡ spec.names_of table.now) }
 {
     let mut row = Row::new(alloc);
@@ -21,8 +21,8 @@ pub(crate) fn names_of(alloc: Global, table: &Table) -> Result<Row, AllocError>
     Ok(row)
 }
 
-/// Which message it is and when it was.
-fn push_stamped_names(row: &mut Row, columns: Columns, timed: bool) -> Result<(), AllocError>
+/// The names of the columns that say which message it is and when it was.
+pub fn push_stamped_names(row: &mut Row, columns: Columns, timed: bool) -> Result<(), AllocError>
     ensures { OnOk result (row.new ≡ row.old ++ stamped_names columns timed) }
 {
     push_number_names(row, columns)?;

@@ -1,10 +1,10 @@
 //! Where messages stand.
 
 /// Where a message stands.
-#[derive(Clone, Copy)]
-pub(crate) struct Place {
+#[derive(Clone, Copy, Debug)]
+pub struct Place {
     /// Its number, counted from 1 over the file.
-    pub(crate) number: u64,
+    pub number: u64,
     /// Its channel.
-    pub(crate) channel: u16,
+    pub channel: u16,
 }

@@ -8,7 +8,7 @@ use std::marker::Model;
 
 /// A row of fields; contracts see the fields.
 #[derive(Drop)]
-pub(crate) struct Row {
+pub struct Row {
     record: ByteRecord,
 }
 
@@ -25,7 +25,7 @@ impl Model for Row {
 
 impl Row {
     /// A row without fields.
-    pub(crate) fn new(alloc: Global) -> Row
+    pub fn new(alloc: Global) -> Row
         ensures { result ≡ [] }
     {
         Row {
@@ -34,14 +34,14 @@ impl Row {
     }
 
     /// No fields again, which keeps the memory.
-    pub(crate) fn clear(&mut self)
+    pub fn clear(&mut self)
         ensures { self.new ≡ [] }
     {
         self.record.clear();
     }
 
     /// One more field. A row that memory was refused to has no fields.
-    pub(crate) fn push(&mut self, field: &[u8]) -> Result<(), AllocError>
+    pub fn push(&mut self, field: &[u8]) -> Result<(), AllocError>
         ensures { OnOk result (self.new ≡ self.old ++ field.now ∷ []) }
     {
         match self.record.push_field(field) {

@@ -77,7 +77,7 @@ fn push_time_columns(row: &mut Row, timed: bool, time: Option<TimeOfDay>) -> Res
 }
 
 /// The first columns of a message. The text is room for a field.
-pub(crate) fn push_stamped(
+pub fn push_stamped(
     row: &mut Row,
     text: &mut Vec<u8>,
     table: &Table,
