@@ -1,0 +1,7 @@
+mod Cells
+mod Counted
+mod Keeping
+mod Listed
+mod Noted
+mod Parts
+mod Written
