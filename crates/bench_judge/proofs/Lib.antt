@@ -10,7 +10,7 @@ mod FirstTold
 mod Streamed
 mod Rereading
 mod Showing
-mod Named
+mod Behind
 mod Cases
 mod Putting
 mod Losing

@@ -26,9 +26,11 @@ const HEAD: &[u8] =
 
 /// A rule by the file that it stands in, and its text.
 #[derive(Clone, Copy)]
-struct Named<'n> {
-    file: &'n [u8],
-    name: &'n [u8],
+pub struct Named<'n> {
+    /// The name of the file.
+    pub file: &'n [u8],
+    /// The text of the rule.
+    pub name: &'n [u8],
 }
 
 /// Appends that a rule selects nothing.
@@ -70,7 +72,11 @@ fn put_place(text: &mut Vec<u8>, file: &[u8], line: u64, name: &[u8]) -> Result<
 
 /// Appends the line and the name with which the test case of a rule begins.
 #[tactic(auto, unfolding(crate::specs::Junit::case_head))]
-fn put_case_head(text: &mut Vec<u8>, name: &[u8], verdict: &RuleVerdict) -> Result<(), AllocError>
+pub fn put_case_head(
+    text: &mut Vec<u8>,
+    name: &[u8],
+    verdict: &RuleVerdict,
+) -> Result<(), AllocError>
     ensures { OnOk result (text.new.items ≡ text.old.items ++ spec.case_head verdict.now name.now) }
 {
     put_number(text, b"  <testcase classname=\"line ", verdict.line)?;
@@ -96,7 +102,7 @@ fn put_failure_text(
 
 /// Appends that a test case fails, and why.
 #[tactic(auto, unfolding(crate::specs::Junit::failure))]
-fn put_failure(
+pub fn put_failure(
     text: &mut Vec<u8>,
     named: Named<'_>,
     check: &Check,
@@ -230,7 +236,7 @@ fn put_missing(text: &mut Vec<u8>, lost: Lost) -> Result<(), AllocError>
 }
 
 /// Appends that messages are missing, where they are.
-fn put_lost(text: &mut Vec<u8>, lost: Lost) -> Result<(), AllocError>
+pub fn put_lost(text: &mut Vec<u8>, lost: Lost) -> Result<(), AllocError>
     ensures { OnOk result (text.new.items ≡ text.old.items ++ spec.properties lost) }
 {
     if lost.is_any() {
@@ -240,7 +246,7 @@ fn put_lost(text: &mut Vec<u8>, lost: Lost) -> Result<(), AllocError>
 }
 
 /// Appends the beginning of the file.
-fn put_suite_head(text: &mut Vec<u8>, verdicts: &[RuleVerdict]) -> Result<(), AllocError>
+pub fn put_suite_head(text: &mut Vec<u8>, verdicts: &[RuleVerdict]) -> Result<(), AllocError>
     ensures { OnOk result (text.new.items ≡ text.old.items ++ spec.suite_head verdicts.now) }
 {
     text.extend_from_slice(HEAD)?;

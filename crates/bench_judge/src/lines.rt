@@ -19,7 +19,7 @@ use std::io;
 use std::io::Write;
 
 /// Writes that a message misses the rule of a line.
-fn write_miss<W: Write>(out: &mut W, line: u64, miss: &Miss) -> io::Result<()>
+pub fn write_miss<W: Write>(out: &mut W, line: u64, miss: &Miss) -> io::Result<()>
     ensures { OnOk result (Appends (W.contents out.old) (W.contents out.new) (miss_line line miss.now)) }
 {
     let (number, channel) = (miss.number, miss.channel);
@@ -100,7 +100,7 @@ pub(crate) fn write_packet<W: Write>(
 }
 
 /// Writes that the count of a rule is not met, of which this is the verdict.
-pub(crate) fn write_count<W: Write>(out: &mut W, verdict: &RuleVerdict) -> io::Result<()>
+pub fn write_count<W: Write>(out: &mut W, verdict: &RuleVerdict) -> io::Result<()>
     ensures { OnOk result (Appends (W.contents out.old) (W.contents out.new)
         (count_lines verdict.now.line verdict.now.selected verdict.now.counted)) }
 {
@@ -112,7 +112,7 @@ pub(crate) fn write_count<W: Write>(out: &mut W, verdict: &RuleVerdict) -> io::R
 }
 
 /// Writes how many messages a rule selects, and how many miss it, of which this is the verdict.
-pub(crate) fn write_numbers<W: Write>(out: &mut W, verdict: &RuleVerdict) -> io::Result<()>
+pub fn write_numbers<W: Write>(out: &mut W, verdict: &RuleVerdict) -> io::Result<()>
     ensures { OnOk result (Appends (W.contents out.old) (W.contents out.new)
         (rule_line verdict.now.line verdict.now.selected verdict.now.missed)) }
 {
@@ -121,7 +121,7 @@ pub(crate) fn write_numbers<W: Write>(out: &mut W, verdict: &RuleVerdict) -> io:
 }
 
 /// Writes the line behind those of the rules: how many there are, and how many are not held.
-pub(crate) fn write_last<W: Write>(out: &mut W, verdicts: &[RuleVerdict]) -> io::Result<()>
+pub fn write_last<W: Write>(out: &mut W, verdicts: &[RuleVerdict]) -> io::Result<()>
     ensures { OnOk result (Appends (W.contents out.old) (W.contents out.new)
         (last_line (length verdicts.now) (spec.not_held verdicts.now))) }
 {

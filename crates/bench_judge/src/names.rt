@@ -7,7 +7,7 @@ use text_lines::next_line;
 
 /// A text, what is left of it behind some of its lines, and how many these are.
 #[derive(Clone, Copy)]
-pub(crate) struct Names<'a> {
+pub struct Names<'a> {
     text: &'a [u8],
     rest: &'a [u8],
     behind: u64,
@@ -60,7 +60,7 @@ impl<'a> Names<'a> {
     }
 
     /// The lines of a text of rules.
-    pub(crate) fn of(text: &'a [u8]) -> Names<'a>
+    pub fn of(text: &'a [u8]) -> Names<'a>
         ensures text { result.text.now ≡ text.now }
         ensures left { spec.AreLeft result }
         ensures behind { result.behind ≡ 0 }
@@ -74,7 +74,7 @@ impl<'a> Names<'a> {
 
     /// The text of a line, counted from 1, without white space around it. Lines that are asked for in their order are
     /// passed once.
-    pub(crate) fn at(&mut self, line: u64) -> &'a [u8]
+    pub fn at(&mut self, line: u64) -> &'a [u8]
         requires { spec.AreLeft self.old }
         ensures name { result.now ≡ spec.rule_text self.old.text.now line }
         ensures text { self.new.text.now ≡ self.old.text.now }

@@ -18,10 +18,13 @@ use std::alloc::{AllocError, Global};
 /// How many messages a rule selects so far, how many of them it counts and how many miss it, and what it compares with
 /// the next message of each channel.
 #[derive(Drop)]
-pub(crate) struct Tally {
-    pub(crate) selected: u64,
-    pub(crate) counted: u64,
-    pub(crate) missed: u64,
+pub struct Tally {
+    /// How many messages the rule selects.
+    pub selected: u64,
+    /// How many of them it counts.
+    pub counted: u64,
+    /// How many of them miss it.
+    pub missed: u64,
     pub(crate) latest: Kept,
 }
 
@@ -38,7 +41,7 @@ fn one_if(count: u64, holds: bool) -> u64
 
 impl Tally {
     /// Nothing was selected yet.
-    pub(crate) fn new(alloc: Global) -> Tally
+    pub fn new(alloc: Global) -> Tally
         ensures { (rule : Rule) → (origins : Origins) → IsTally rule origins [] result }
     {
         Tally {
@@ -50,7 +53,7 @@ impl Tally {
     }
 
     /// What is compared with the next message of a channel, if there is anything.
-    pub(crate) fn before(&self, channel: u16) -> Option<u64>
+    pub fn before(&self, channel: u16) -> Option<u64>
         ensures { (rule : Rule) → (origins : Origins) → (history : List Viewed)
             → IsLatest rule origins history self.now → result ≡ latest rule origins channel history }
     {
@@ -111,7 +114,7 @@ impl Tally {
     }
 
     /// One more message of a channel, and whether it is clean where that is known. Answers whether it misses the rule.
-    pub(crate) fn note(
+    pub fn note(
         &mut self,
         rule: &Rule,
         origins: &[Option<u64>],

@@ -29,7 +29,7 @@ pub(crate) fn put_told(
 
 /// Appends where a message is.
 #[tactic(auto, unfolding(crate::specs::Told::told_miss))]
-fn put_miss(text: &mut Vec<u8>, miss: &Miss) -> Result<(), AllocError>
+pub fn put_miss(text: &mut Vec<u8>, miss: &Miss) -> Result<(), AllocError>
     ensures { OnOk result (text.new.items ≡ text.old.items ++ spec.told_miss miss.now) }
 {
     put_number(text, b"\nmessage ", miss.number)?;
@@ -42,7 +42,7 @@ fn put_miss(text: &mut Vec<u8>, miss: &Miss) -> Result<(), AllocError>
 
 /// Appends where a message is that misses a rule, and why.
 #[tactic(auto, unfolding(crate::specs::Told::told_at))]
-pub(crate) fn put_told_at(
+pub fn put_told_at(
     text: &mut Vec<u8>,
     miss: &Miss,
     check: &Check,

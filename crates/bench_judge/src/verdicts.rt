@@ -54,7 +54,7 @@ pub struct Judged<'j> {
 
 /// The verdict of a rule that selects so many messages or packets, counts so many of them, and of which so many miss
 /// it.
-pub(crate) fn verdict_of(rule: &Rule, selected: u64, counted: u64, missed: u64) -> RuleVerdict
+pub fn verdict_of(rule: &Rule, selected: u64, counted: u64, missed: u64) -> RuleVerdict
     ensures { spec.IsVerdictWith rule.now selected counted missed result }
 {
     let met = counts(&rule.check, counted);

@@ -1,6 +1,6 @@
 use Rattle.std.proofs.Common.{arith}
 use Rattle.text_lines.specs.Lines.{text_lines}
-use Rattle.bench_judge.proofs.Named.{all_behind, one_behind}
+use Rattle.bench_judge.proofs.Behind.{all_behind, one_behind}
 use Rattle.bench_judge.proofs.names.behind_lines.Goals as goal
 
 pub returns-in-None : goal.returns-in-None

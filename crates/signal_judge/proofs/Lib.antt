@@ -1,0 +1,10 @@
+mod Asking
+mod Chosen
+mod Counting
+mod Finding
+mod Named
+mod Passing
+mod OfText
+mod Tallying
+mod Whole
+mod Writing

@@ -1,0 +1,12 @@
+use Rattle.std.proofs.Common.{◌≡◌, ℕ, List, Some}
+use Rattle.ch11_stream.proofs.Readings.{IsAmid}
+use Rattle.signal_judge.specs.Tallies.{AreTallies}
+use Rattle.bench_select.proofs.Passed.{viewed_so_far}
+use Rattle.signal_judge.proofs.judging.judge_signals.Given as goal
+
+-- the packets so far are those of the file, and their messages are counted
+abbrev pub invariant-packets : goal.invariant-packets
+invariant-packets g l = record {
+  known : (file : List ℕ) → g.R.Read.remaining l.fn.input ≡ Some file → IsAmid file l.packets;
+  counted : AreTallies l.rules l.origins (viewed_so_far l.packets.earlier) l.tallies.items;
+}

@@ -1,0 +1,5 @@
+pub mod Asked
+pub mod Rules
+pub mod Taking
+pub mod Tallies
+pub mod Verdicts
