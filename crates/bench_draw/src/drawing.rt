@@ -13,6 +13,7 @@ use crate::fault::DrawFault;
 use crate::frame::{draw_head, draw_nothing};
 use crate::group::Group;
 use crate::picture::{MOST_BYTES, Picture};
+use crate::plots::Plots;
 use crate::rows::Rows;
 use crate::scale::Scale;
 use bench_clock::Clock;
@@ -20,6 +21,7 @@ use bench_decode::{Shown, TextLine};
 use bench_names::ChannelNames;
 use bench_select::Selection;
 use bench_watch::Reopen;
+use signal_dictionary::Signal;
 use std::alloc::Global;
 
 /// A picture.
@@ -37,17 +39,21 @@ pub struct Drawing {
 /// line where some have not, by one scale for both lines of a channel; and a line where a frame begins, where commands
 /// recur with a period. The axis has the time of the recording, from its tick 0 or where stamps are times of day from
 /// 1970-01-01T00:00:00; over it stands when the first of the messages began, by the clock too if that says it. The name
-/// of a channel stands behind its number. Messages of which no time is known are not drawn. The picture has at most
-/// 5,000,000 bytes: what there is no room for is left out. The recording is read once for what is to be drawn, and once
-/// more for all its channels, or as often as it has to be where not all of them have room; in memory for the largest
-/// packet of messages or of time, the picture, and 128 KiB at most for each channel. One that can't be read is refused
-/// with its first fault, K1 to K5, N2 or F1 to F3; want of memory and failures of the reader are the others.
+/// of a channel stands behind its number. Messages of which no time is known are not drawn. Under the channels each of
+/// these signals has a lane for each channel whose selected messages have it (64 lanes at most): its numbers over time
+/// as steps, from the least at the bottom to the greatest at the top, or its names as bands; it stands as it is until
+/// the next message that has it. The picture has at most 5,000,000 bytes: what there is no room for is left out. The
+/// recording is read once for what is to be drawn, and once more for all its channels, or as often as it has to be
+/// where not all of them have room; twice more where there are signals. It takes memory for the largest packet of
+/// messages or of time, the picture, and 128 KiB at most for each channel and each lane. A recording that can't be read
+/// is refused with its first fault, K1 to K5, N2 or F1 to F3; want of memory and failures of the reader are the others.
 pub fn draw<S: Reopen>(
     alloc: Global,
     recording: &S,
     selection: &Selection,
     clock: &Clock,
     names: &ChannelNames<'_>,
+    signals: &[Signal],
 ) -> Result<Drawing, DrawFault>
     ensures bounded { IfOk result (λ drawing. vec_len drawing.text ≤ MOST_BYTES) }
     ensures messages { (file : List ℕ) → S.bytes recording.now ≡ Some file → IfOk result (λ drawing.
@@ -59,7 +65,7 @@ pub fn draw<S: Reopen>(
     };
     Ok(Drawing {
         messages: extent.messages,
-        text: draw_extent(alloc, recording, selection, clock, names, &extent)?,
+        text: draw_extent(alloc, recording, selection, clock, names, signals, &extent)?,
     })
 }
 
@@ -70,6 +76,7 @@ fn draw_extent<S: Reopen>(
     selection: &Selection,
     clock: &Clock,
     names: &ChannelNames<'_>,
+    signals: &[Signal],
     extent: &Extent,
 ) -> Result<Vec<u8>, DrawFault>
     ensures { IfOk result (λ text. vec_len text ≤ MOST_BYTES) }
@@ -77,7 +84,9 @@ fn draw_extent<S: Reopen>(
     let scale = Scale::of(extent.begin, extent.end);
     let rows = extent.rows(&scale);
     let count = extent.channels.len() as u64;
-    let low = rows.end(count);
+    let shown = if count == 0 { &[] } else { signals };
+    let plots = Plots::of(alloc, recording, selection, shown, rows.end(count))?;
+    let low = plots.low();
     let mut picture = Picture::new(alloc);
     draw_head(alloc, &mut picture, low)?;
     if count == 0 {
@@ -98,6 +107,7 @@ fn draw_extent<S: Reopen>(
     };
     let channels = extent.channels.as_slice();
     draw_channels(&mut canvas, recording, &rows, names, channels)?;
+    plots.draw(&mut canvas, recording)?;
     Ok(canvas.picture.end()?)
 }
 

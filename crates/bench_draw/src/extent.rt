@@ -3,7 +3,7 @@ ghost use Rattle.ch11_reader.specs.Contents.{capped};
 ghost use Rattle.bench_draw.specs.Chosen.{chosen, chosen_in};
 ghost use Rattle.ch11_layout.specs.Stamps.{kind_of};
 ghost use Rattle.ch11_stream.specs.Folding.{FoldsPackets};
-ghost use Rattle.std.specs.Prelude.{◌≡◌, ◌+◌, ◌<◌, ◌^◌, ℕ, List, Some, length, IfOk, OnOk};
+ghost use Rattle.std.specs.Prelude.{◌≡◌, ◌+◌, ◌<◌, ◌^◌, ℕ, List, Some, length, OnOk};
 
 use crate::rows::Rows;
 use crate::scale::{Scale, end_of};

@@ -58,7 +58,7 @@ pub(crate) fn draw_nothing(picture: &mut Picture) -> Result<(), AllocError> {
 }
 
 /// Puts a text, in which no character is markup.
-fn put_escaped(text: &mut String, name: &str) -> Result<(), AllocError> {
+pub(crate) fn put_escaped(text: &mut String, name: &str) -> Result<(), AllocError> {
     for letter in name.chars() {
         match letter {
             '&' => text.push_str("&amp;")?,

@@ -1,11 +1,12 @@
 //! The command `bench draw`: a recording as a picture, its messages over time.
 //!
 //! It may know: words, bodies, layouts, the reader, the packets of a stream, watched files, selections, decoded
-//! messages, times, names of channels. Its tests: `command_tests`, and of recordings that are read anew
-//! `ch11_stream_tests`. Its wrong bodies: `edits/`.
+//! messages, times, names of channels, dictionaries of signals and their values, `bench_signals`. Its tests:
+//! `command_tests`, and of recordings that are read anew `ch11_stream_tests`. Its wrong bodies: `edits/`.
 #![tactic(auto)]
 
 mod axis;
+mod bands;
 mod bars;
 mod canvas;
 mod drawing;
@@ -19,6 +20,9 @@ mod labels;
 mod lanes;
 mod load;
 mod picture;
+mod plot;
+mod plots;
+mod range;
 mod rhythm;
 mod rows;
 mod scale;
