@@ -46,9 +46,10 @@ all_selected s n channel m all =
     let to = both _ (is_none s.to) all in
     let first = both _ (is_none s.from) to.0 in
     let errors = both _ (not s.errors) first.0 in
-    let selector = both _ (is_none s.selector) errors.0 in
+    let signal = both _ (is_none s.signal) errors.0 in
+    let selector = both _ (is_none s.selector) signal.0 in
     let line = both (is_none s.channel) (is_none s.line) selector.0 in
-    rw (none_is s.channel line.0, none_is s.line line.1, not_true s.errors errors.1, none_is s.from first.1, none_is s.to to.1, none_is s.selector selector.1) refl
+    rw (none_is s.channel line.0, none_is s.line line.1, not_true s.errors errors.1, none_is s.from first.1, none_is s.to to.1, none_is s.selector selector.1, none_is s.signal signal.1) refl
 
 all_chosen : (s : Selection) (kind : StampKind) (n channel : ℕ) (ms : List Message) → is_all s ≡ true → chosen_among s kind n channel ms ≡ ms
 all_chosen s kind n channel [] all = refl
