@@ -11,20 +11,23 @@ use crate::mistakes::{Mistake, mistakes_of};
 use crate::scripts::tight_frames_in;
 use crate::trying::try_job;
 use job_file::Job;
+use signal_dictionary::Signal;
 use std::alloc::Global;
 use std::io;
 use std::io::Write;
 use text_lines::WriteFault;
 
 /// How a job is tried, and what is told of it.
-#[derive(Clone, Copy, Debug, PartialEq, Eq)]
-pub struct Way {
+#[derive(Clone, Copy, Debug)]
+pub struct Way<'s> {
     /// Whether its messages are only counted.
     pub summary: bool,
     /// Whether all is looked for that may be a mistake, as in a summary.
     pub strict: bool,
     /// How status words are shown.
     pub bits: Bits,
+    /// The signals whose values are shown.
+    pub signals: &'s [Signal],
 }
 
 /// What a job that was checked came to.
@@ -48,7 +51,7 @@ fn try_with<W: Write>(
     alloc: Global,
     job: &Job,
     text: &[u8],
-    bits: Bits,
+    way: Way<'_>,
     is_all: bool,
     out: &mut W,
 ) -> Result<Tried, WriteFault>
@@ -57,7 +60,7 @@ fn try_with<W: Write>(
     ensures told { OnOk result (IsTold job.now (W.contents out.old) (W.contents out.new)) }
 {
     let tight = tight_frames_in(alloc, text)?;
-    let findings = try_job(alloc, job, bits, out)?;
+    let findings = try_job(alloc, job, way, out)?;
     let mistakes = mistakes_of(alloc, job, &findings, tight.as_slice(), is_all)?;
     Ok(Tried { findings, mistakes })
 }
@@ -67,24 +70,24 @@ fn tried_in_way<W: Write>(
     alloc: Global,
     job: &Job,
     text: &[u8],
-    way: Way,
+    way: Way<'_>,
     is_all: bool,
     out: &mut W,
 ) -> Result<Tried, WriteFault>
     ensures found { IfOk result (λ t. spelled text.now ≡ Some (job_in job.now)
         → AreMistakesOf is_all job.now t.findings t.mistakes.items) }
-    ensures listed { OnOk result (ListsMessages way.summary job.now (W.contents out.old) (W.contents out.new)) }
+    ensures listed { OnOk result (ListsMessages way.entry.summary job.now (W.contents out.old) (W.contents out.new)) }
 {
     if way.summary {
-        try_with(alloc, job, text, way.bits, is_all, &mut io::sink())
+        try_with(alloc, job, text, way, is_all, &mut io::sink())
     } else {
-        try_with(alloc, job, text, way.bits, is_all, out)
+        try_with(alloc, job, text, way, is_all, out)
     }
 }
 
 /// Whether all is looked for that may be a mistake.
-fn looks_for_all(way: Way) -> bool
-    ensures { result ≡ (way.summary || way.strict) }
+fn looks_for_all(way: Way<'_>) -> bool
+    ensures { result ≡ (way.entry.summary || way.entry.strict) }
 {
     way.summary || way.strict
 }
@@ -95,11 +98,11 @@ pub fn check_job<W: Write>(
     alloc: Global,
     job: &Job,
     text: &[u8],
-    way: Way,
+    way: Way<'_>,
     out: &mut W,
 ) -> Result<Checked, WriteFault>
     ensures { IfOk result (λ checked. spelled text.now ≡ Some (job_in job.now)
-        → IsChecked way job.now (W.contents out.old) (W.contents out.new) checked) }
+        → IsChecked way.entry job.now (W.contents out.old) (W.contents out.new) checked) }
 {
     let tried = tried_in_way(alloc, job, text, way, looks_for_all(way), out)?;
     let listed = tried.mistakes.as_slice();
@@ -114,6 +117,12 @@ pub fn check_job<W: Write>(
 pub fn mistakes_in(alloc: Global, job: &Job, text: &[u8]) -> Result<Vec<Mistake>, WriteFault>
     ensures { IfOk result (λ l. spelled text.now ≡ Some (job_in job.now) → AreMistakes true job.now l.items) }
 {
-    let found = try_with(alloc, job, text, Bits::Digits, true, &mut io::sink())?;
+    let way = Way {
+        summary: true,
+        strict: true,
+        bits: Bits::Digits,
+        signals: &[],
+    };
+    let found = try_with(alloc, job, text, way, true, &mut io::sink())?;
     Ok(found.mistakes)
 }

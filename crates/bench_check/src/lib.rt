@@ -2,8 +2,9 @@
 //! it, such as a planned fault that meets nothing.
 //!
 //! It may know: words, mode codes, status bits, messages, host actions, what the host of a controller asks for, as
-//! values and as text, gaps and planned faults, the bus, scripts from their text to the loader, the controller, jobs,
-//! words of a text. Its tests: `command_tests`. Its wrong bodies: `edits/`.
+//! values and as text, gaps and planned faults, the bus, the monitor, scripts from their text to the loader, the
+//! controller, jobs, bodies, layouts, dictionaries of signals and their values, selections, words of a text. Its tests:
+//! `command_tests`. Its wrong bodies: `edits/`.
 #![tactic(auto)]
 
 mod calls;
@@ -20,6 +21,7 @@ mod mistakes;
 mod oddities;
 mod planned;
 mod scripts;
+mod signals;
 mod trying;
 
 pub use calls::Calls;

@@ -17,13 +17,15 @@ ghost use Rattle.std.specs.Prelude.{List, Option, ℕ};
 
 use crate::calls::Calls;
 use crate::carried::Carried;
+use crate::checked::Way;
 use crate::filling::Filled;
 use crate::findings::Findings;
 use crate::frames::{Overrun, note_frame};
 use crate::meeting::meets;
-use crate::messages::{Bits, put_actions, put_message, put_outcome};
+use crate::messages::{put_actions, put_message, put_outcome};
 use crate::oddities::Oddities;
 use crate::planned::put_fault;
+use crate::signals::put_signals;
 use bc_machine::{Machine, Stepped, Upcoming};
 use job_file::{Job, job_runs};
 use mil_line::{Fault, Plan};
@@ -33,20 +35,20 @@ use text_lines::WriteFault;
 
 /// What is told of the messages on the way, and how.
 #[derive(Clone, Copy)]
-struct Told {
-    bits: Bits,
+struct Told<'s> {
+    way: Way<'s>,
     calls: Calls,
     oddities: Oddities,
 }
 
 /// A job that is tried: its controller, and what was found so far.
 #[derive(Drop)]
-struct Trial {
+struct Trial<'s> {
     machine: Machine,
     unmet: Vec<(u32, Fault)>,
     overruns: Vec<Overrun>,
     carried: Carried,
-    told: Told,
+    told: Told<'s>,
 }
 
 /// Puts a line for each fault that is planned for a message, and keeps those that meet nothing.
@@ -113,7 +115,7 @@ fn note(
     number: u32,
     coming: &Upcoming,
     unmet: &mut Vec<(u32, Fault)>,
-    told: &mut Told,
+    told: &mut Told<'_>,
 ) -> Result<String, AllocError>
     requires rising { IsRising filled.now }
     requires clock { now_of coming.now.bus < 2 ^ 60 }
@@ -128,7 +130,9 @@ fn note(
     put_actions(&mut text, number, filled.actions())?;
     let faults = job.plan().faults(number);
     note_faults(alloc, &mut text, unmet, number, coming, faults.as_slice())?;
-    put_outcome(&mut text, &coming.talk, told.bits)?;
+    put_outcome(&mut text, &coming.talk, told.way.bits)?;
+    let (signals, channel) = (told.way.signals, job.channel());
+    put_signals(alloc, &mut text, signals, channel, &coming.talk)?;
     told.calls.note(number, &coming.talk.message);
     told.oddities.note(number, filled, &coming.talk);
     Ok(text)
@@ -159,9 +163,14 @@ fn close<W: Write>(
     Ok(())
 }
 
-impl Trial {
+impl<'s> Trial<'s> {
     /// A job before any message.
-    fn begin(alloc: Global, job: &Job, filled: &Filled, bits: Bits) -> Result<Trial, AllocError>
+    fn begin(
+        alloc: Global,
+        job: &Job,
+        filled: &Filled,
+        way: Way<'s>,
+    ) -> Result<Trial<'s>, AllocError>
         ensures tried { IfOk result (λ t. IsTried job.now t) }
         ensures told { IfOk result (λ t. (got : Option (List ℕ)) → HasTold job.now t.machine got got) }
     {
@@ -170,7 +179,7 @@ impl Trial {
         let overruns = Vec::new(alloc);
         let carried = Carried::none(alloc, filled.actions())?;
         let told = Told {
-            bits,
+            way,
             calls: Calls::none(),
             oddities: Oddities::none(),
         };
@@ -262,13 +271,13 @@ impl Trial {
     }
 }
 
-/// Tries a job: prints each of its messages, with the actions that are placed at it, the faults that are planned for it
-/// and what it comes to, and behind each frame with a period what time was left of it; and answers what was found. It
-/// fails for want of memory, and where the writer does.
+/// Tries a job: prints each of its messages, with the actions that are placed at it, the faults that are planned for
+/// it, what it comes to and the values of signals in it, and behind each frame with a period what time was left of it;
+/// and answers what was found. It fails for want of memory, and where the writer does.
 pub fn try_job<W: Write>(
     alloc: Global,
     job: &Job,
-    bits: Bits,
+    way: Way<'_>,
     out: &mut W,
 ) -> Result<Findings, WriteFault>
     ensures made { IfOk result (λ f. f.made ≡ spec.made job.now) }
@@ -279,7 +288,7 @@ pub fn try_job<W: Write>(
 {
     let room = job.most_items(0);
     let filled = filled_by(job)?;
-    let mut trial = Trial::begin(alloc, job, &filled, bits)?;
+    let mut trial = Trial::begin(alloc, job, &filled, way)?;
     trial.run(alloc, job, &filled, out)?;
     let made = trial.machine.number();
     let uncarried = trial.carried.uncarried(alloc, filled.actions(), made)?;
