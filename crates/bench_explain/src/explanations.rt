@@ -3,16 +3,18 @@ ghost use Rattle.std.specs.Char.{to_ascii_lowercase};
 ghost use Rattle.std.specs.Prelude.{◌≡◌, map, IfSome};
 
 use crate::explanation::Explanation;
-use crate::{buses, jobs, recordings, rules, runs, scripts};
+use crate::{buses, dictionaries, jobs, recordings, rules, runs, scripts};
 
-/// All explanations: those of scripts, jobs, recordings, runs, rules and buses, each group in the order of its codes.
-pub fn groups() -> [&'static [Explanation]; 6] {
+/// All explanations: those of scripts, jobs, recordings, runs, rules, dictionaries and buses, each group in the order
+/// of its codes.
+pub fn groups() -> [&'static [Explanation]; 7] {
     [
         &scripts::EXPLANATIONS,
         &jobs::EXPLANATIONS,
         &recordings::EXPLANATIONS,
         &runs::EXPLANATIONS,
         &rules::EXPLANATIONS,
+        &dictionaries::EXPLANATIONS,
         &buses::EXPLANATIONS,
     ]
 }

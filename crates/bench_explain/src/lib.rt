@@ -4,6 +4,7 @@
 #![tactic(auto)]
 
 mod buses;
+mod dictionaries;
 mod explanation;
 mod explanations;
 mod jobs;

@@ -1,8 +1,11 @@
-//! The kinds of words that stand in scripts, jobs and rules: which words are of a kind, and how that is said.
-ghost use Rattle.std.specs.Prelude.{◌≤◌};
+//! The kinds of words that stand in scripts, jobs, rules and dictionaries: which words are of a kind, and how that is
+//! said.
 
-use judge_rules::read_time;
-use numerals::spelled;
+use crate::slips::{
+    LAST_TICK, Slip, choice_slip, datum_slip, decimal_slip, hexadecimal_slip, naming_slip,
+    number_slip, receive_code_slip, step_slip, time_slip, value_slip, word_slip,
+};
+use signal_dictionary::{is_name, is_unit};
 
 /// A kind of word.
 #[derive(Clone, Copy, Debug, PartialEq, Eq)]
@@ -105,6 +108,26 @@ pub enum Kind {
     WordValue,
     /// The name of a kind of messages that are counted.
     Counted,
+    /// The value of a signal, a decimal or a label.
+    ValueWord,
+    /// The greatest value of a signal.
+    ValueNumber,
+    /// How far a value may be from the one before.
+    StepMost,
+    /// The name of a signal.
+    SignalName,
+    /// The place of the first of two data words.
+    PairPlace,
+    /// The place of a bit.
+    BitPlace,
+    /// A number and its label.
+    Naming,
+    /// A decimal that is not zero.
+    ScaleNumber,
+    /// A decimal.
+    OffsetNumber,
+    /// A unit.
+    UnitName,
 }
 
 /// The names of the kinds of messages that are counted.
@@ -121,92 +144,6 @@ const COUNTED: [&str; 11] = [
     "sync_type_error",
     "invalid_word_error",
 ];
-
-/// The last tick that a job or a time of a rule may name: 2^47.
-const LAST_TICK: u64 = 140_737_488_355_328;
-
-/// Whether a word is a time with its unit, at most 2^47 ticks.
-fn time_slip(word: &[u8]) -> Option<Slip> {
-    match read_time(word) {
-        None => Some(Slip::Form),
-        Some(tick) if tick > LAST_TICK => Some(Slip::Range),
-        Some(_) => None,
-    }
-}
-
-/// What is wrong with a word.
-#[derive(Clone, Copy, Debug, PartialEq, Eq)]
-pub enum Slip {
-    /// It is none of the words that may stand there.
-    Word,
-    /// It is not written as a number, or as a data word.
-    Form,
-    /// Its number is out of its range.
-    Range,
-}
-
-/// Whether a word is a number from `least` to `greatest`, of at most so many decimal digits.
-fn number_slip(word: &[u8], digits: usize, least: u64, greatest: u64) -> Option<Slip>
-    requires { digits ≤ 15 }
-{
-    match spelled(10, 1, digits, word) {
-        None => Some(Slip::Form),
-        Some(number) if number < least || greatest < number => Some(Slip::Range),
-        Some(_) => None,
-    }
-}
-
-/// That a word is none of these, where it is none.
-pub(crate) fn word_slip(word: &[u8], words: &[&str]) -> Option<Slip> {
-    for one in words {
-        if one.as_bytes() == word {
-            return None;
-        }
-    }
-    Some(Slip::Word)
-}
-
-/// Whether a word is one of exactly so many hexadecimal digits, and not all of them zero where that is asked.
-fn hexadecimal_slip(word: &[u8], digits: usize, not_zero: bool) -> Option<Slip>
-    requires { digits ≤ 15 }
-{
-    match spelled(16, digits, digits, word) {
-        None => Some(Slip::Form),
-        Some(0) if not_zero => Some(Slip::Range),
-        Some(_) => None,
-    }
-}
-
-/// The same where `*` stands for any number.
-fn choice_slip(word: &[u8], least: u64, greatest: u64) -> Option<Slip> {
-    if word == b"*".as_slice() {
-        return None;
-    }
-    number_slip(word, 7, least, greatest)
-}
-
-/// Whether a word is a mode code with a data word that the controller sends: 17, or 20 to 31.
-fn receive_code_slip(word: &[u8]) -> Option<Slip> {
-    match number_slip(word, 7, 17, 31) {
-        None if matches!(spelled(10, 1, 7, word), Some(18 | 19)) => Some(Slip::Range),
-        slip => slip,
-    }
-}
-
-/// Whether a word is `....`, four hexadecimal digits, or these with a slash and the four of a mask.
-fn datum_slip(word: &[u8]) -> Option<Slip> {
-    if word == b"....".as_slice() {
-        return None;
-    }
-    let (value, behind) = word.split_at(word.len().min(4));
-    match behind.split_first() {
-        None => hexadecimal_slip(value, 4, false),
-        Some((b'/', mask)) => hexadecimal_slip(value, 4, false).or(hexadecimal_slip(
-            mask, 4, false,
-        )),
-        Some(_) => Some(Slip::Form),
-    }
-}
 
 impl Kind {
     /// What is wrong with a word in the place of one of this kind. Names are not judged.
@@ -231,11 +168,26 @@ impl Kind {
             Kind::StartTick | Kind::HeldTick => number_slip(word, 15, 0, LAST_TICK),
             Kind::ReceiveModeCode => receive_code_slip(word),
             Kind::StatusBit | Kind::NewName | Kind::Name => None,
+            Kind::SignalName | Kind::UnitName | Kind::Naming => self.text_slip(word),
+            Kind::ScaleNumber => decimal_slip(word, true),
+            Kind::OffsetNumber | Kind::ValueNumber => decimal_slip(word, false),
+            Kind::ValueWord => value_slip(word),
+            Kind::StepMost => step_slip(word),
             _ => {
                 let (least, greatest) = self.range();
                 number_slip(word, 7, least, greatest)
             }
         }
+    }
+
+    /// That a word is no name, no unit, or no number with a label, where it is none.
+    fn text_slip(self, word: &[u8]) -> Option<Slip> {
+        let is_one = match self {
+            Kind::SignalName => is_name(word),
+            Kind::UnitName => is_unit(word),
+            _ => return naming_slip(word),
+        };
+        if is_one { None } else { Some(Slip::Word) }
     }
 
     /// The range of a number of up to seven digits.
@@ -263,6 +215,8 @@ impl Kind {
             Kind::SetGap => (21, 255),
             Kind::TransmitSubaddress => (1, 29),
             Kind::ReplyTicks => (0, 255),
+            Kind::PairPlace => (1, 31),
+            Kind::BitPlace => (0, 15),
             Kind::OnlyPlace => (1, 1),
             _ => (0, 9_999_999),
         }
@@ -354,6 +308,29 @@ impl Kind {
                 "messages are counted of ok, fail, clean, silent, message_error, terminal_to_terminal, format_error, \
                  response_timeout, word_count_error, sync_type_error or invalid_word_error"
             }
+            Kind::ValueWord | Kind::ValueNumber =>
+                "a value is a decimal, as -40 or 0.5, of 1 to 18 digits",
+            Kind::StepMost =>
+                "a step is a decimal that is not below zero, as 0.5, of 1 to 18 digits",
+            _ => self.allowed_in_dictionaries(),
+        }
+    }
+
+    /// Which words are of a kind that stands in dictionaries alone.
+    fn allowed_in_dictionaries(self) -> &'static str {
+        match self {
+            Kind::SignalName =>
+                "a name is 1 to 32 letters, digits, _ and ., of which the first is a letter",
+            Kind::PairPlace => "two data words are words 1 to words 31",
+            Kind::BitPlace => "bits are 15, the first on the line, to 0, the last",
+            Kind::Naming => {
+                "a name of a number is NUMBER=LABEL, as 3=on: up to seven digits, and 1 to 16 letters, digits, _, . \
+                 and -"
+            }
+            Kind::ScaleNumber =>
+                "a scale is a decimal that is not zero, as 0.25, of 1 to 18 digits",
+            Kind::OffsetNumber => "an offset is a decimal, as -40 or 0.5, of 1 to 18 digits",
+            Kind::UnitName => "a unit is 1 to 16 printable characters but space, comma and quote",
             _ => "another word stands here",
         }
     }

@@ -2,10 +2,11 @@
 
 use crate::fault::LineFault;
 use crate::inserted::inserted_reason;
-use crate::kinds::{Kind, Slip};
+use crate::kinds::Kind;
 use crate::places::{Place, line_of};
 use crate::reason::Reason;
 use crate::repeated::{order_reason, terminal_reason};
+use crate::slips::Slip;
 use crate::spans::{count_of_actions, order_of_messages};
 use crate::symbols::Symbol;
 use crate::walk::{Walk, text_of};
@@ -26,10 +27,28 @@ pub(crate) fn column_at(line: &[u8], left: usize) -> u64 {
     (line.len().saturating_sub(left) as u64).saturating_add(1)
 }
 
+/// A word of a line that is at fault, behind which this is left.
+pub(crate) fn found_in<'a>(
+    line: &[u8],
+    word: &'a [u8],
+    behind: &[u8],
+    why: &'static str,
+    remedy: &'static str,
+) -> Found<'a> {
+    Found {
+        word,
+        column: column_at(line, word.len().saturating_add(behind.len())),
+        why,
+        remedy,
+    }
+}
+
 /// What is wrong with a word that has to be what the symbol says.
 fn slip_of(symbol: Symbol, word: &[u8]) -> Option<Slip> {
     match symbol {
         Symbol::One(kind) | Symbol::Rest(kind) => kind.slip(word),
+        Symbol::Namings => Kind::Naming.slip(word),
+        Symbol::ValueHigh => Kind::ValueNumber.slip(word),
         Symbol::Host if word != b"bc".as_slice() => Kind::Address.slip(word),
         _ if symbol.behind(text_of(word)).is_none() => Some(Slip::Word),
         _ => None,

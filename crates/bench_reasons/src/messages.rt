@@ -1,9 +1,10 @@
 //! Which number of a message is at fault.
 
 use crate::fault::MessageFault;
-use crate::kinds::{Kind, Slip};
+use crate::kinds::Kind;
 use crate::places::{last_of, place_at};
 use crate::reason::Reason;
+use crate::slips::Slip;
 use crate::symbols::{Symbol, behind_message_word};
 use crate::walk::text_of;
 use frame_text::next_token;

@@ -2,11 +2,12 @@
 
 use crate::kinds::Kind::{
     AnyAddress, AnyModeCode, AnySubaddress, Channel, Counted, DataPlace, Datum, Line, MessageCount,
-    Microseconds, ReplyTicks, RuleTime, StatusWord, WordValue,
+    Microseconds, ReplyTicks, RuleTime, SignalName, StatusWord, StepMost, ValueWord, WordValue,
 };
 use crate::symbols::Symbol;
 use crate::symbols::Symbol::{
     Check, Growth, Mask, OfKind, One, Rest, RuleChannel, RuleFrom, RuleLine, RuleTo, Selector,
+    SignalCheck, Token, ValueHigh,
 };
 
 /// What follows the first word of a selector; none where no selector begins so.
@@ -43,6 +44,15 @@ pub fn behind_check_word(word: &str) -> Option<&'static [Symbol]> {
     }
 }
 
+/// What follows the name of a check of a signal; none where it is no name of one.
+fn behind_signal_check_word(word: &str) -> Option<&'static [Symbol]> {
+    match word {
+        "value" => Some(&[One(ValueWord), ValueHigh]),
+        "step" => Some(&[One(StepMost)]),
+        _ => behind_check_word(word),
+    }
+}
+
 /// What has to stand behind a word in the place of a symbol of rules; none where the word does not begin it.
 pub fn behind_in_rules(symbol: Symbol, word: &str) -> Option<&'static [Symbol]> {
     match symbol {
@@ -58,6 +68,17 @@ pub fn behind_in_rules(symbol: Symbol, word: &str) -> Option<&'static [Symbol]> 
         Symbol::Mask if word == "mask" => Some(&[One(StatusWord)]),
         Symbol::Growth if word == "step" => Some(&[]),
         Symbol::OfKind if word == "of" => Some(&[One(Counted)]),
+        Symbol::SignalRule if word == "expect" => Some(&[
+            RuleChannel,
+            RuleLine,
+            RuleFrom,
+            RuleTo,
+            Token("signal"),
+            One(SignalName),
+            SignalCheck,
+        ]),
+        Symbol::SignalCheck => behind_signal_check_word(word),
+        Symbol::ValueHigh => Some(&[]),
         _ => None,
     }
 }
@@ -76,6 +97,10 @@ pub fn allowed_in_rules(symbol: Symbol) -> &'static str {
             "a check is ok, fail, clean, status WORD [mask WORD], data WORD .., response LOW HIGH, period LOW HIGH, \
              count LOW HIGH [of KIND], word I [step] LOW HIGH or whole"
         }
+        Symbol::SignalCheck => {
+            "behind a signal a check is value LOW HIGH, of names value LABEL, step MOST, or any other check"
+        }
+        Symbol::ValueHigh => "a value is a decimal, as -40 or 0.5, of 1 to 18 digits",
         _ => "another word stands here",
     }
 }

@@ -1,11 +1,11 @@
 //! Why a line of rules is refused.
 
 use crate::fault::RuleFault;
-use crate::kinds::{Slip, word_slip};
 use crate::lines::{Found, column_at, find, reason_of};
 use crate::places::{Place, line_of};
 use crate::reason::Reason;
 use crate::rule_symbols::behind_check_word;
+use crate::slips::{Slip, word_slip};
 use crate::symbols::Symbol;
 use crate::walk::text_of;
 use judge_rules::read_time;
@@ -93,7 +93,7 @@ fn behind_one_of<'a>(line: &'a [u8], names: &[&str]) -> Option<&'a [u8]> {
 }
 
 /// The greatest number of a check, where it is below the least.
-fn turned(line: &[u8]) -> Option<Found<'_>> {
+pub(crate) fn turned(line: &[u8]) -> Option<Found<'_>> {
     let behind = behind_one_of(line, &["response", "period", "count"])?;
     let (low, behind) = next_word(behind)?;
     let (high, rest) = next_word(behind)?;
@@ -119,7 +119,7 @@ fn below<'a>(line: &'a [u8], word: &'a [u8], behind: &[u8], remedy: &'static str
 }
 
 /// The greatest value of a data word, where it is below the least.
-fn turned_values(line: &[u8]) -> Option<Found<'_>> {
+pub(crate) fn turned_values(line: &[u8]) -> Option<Found<'_>> {
     let (_, behind) = next_word(behind_one_of(line, &["word"])?)?;
     let (first, rest) = next_word(behind)?;
     let values = if first == b"step".as_slice() {
@@ -141,7 +141,7 @@ fn turned_values(line: &[u8]) -> Option<Found<'_>> {
 }
 
 /// The last time of a rule, where it is below the first.
-fn turned_times(line: &[u8]) -> Option<Found<'_>> {
+pub(crate) fn turned_times(line: &[u8]) -> Option<Found<'_>> {
     let (from, behind) = next_word(behind_one_of(line, &["from"])?)?;
     let (to, rest) = next_word(behind_one_of(behind, &["to"])?)?;
     if read_time(from)? <= read_time(to)? {
@@ -156,7 +156,7 @@ fn turned_times(line: &[u8]) -> Option<Found<'_>> {
 }
 
 /// The thirty-third data word of a check.
-fn too_many(line: &[u8]) -> Option<Found<'_>> {
+pub(crate) fn too_many(line: &[u8]) -> Option<Found<'_>> {
     let mut rest = behind_one_of(line, &["data"])?;
     for _ in 0..MOST_WORDS {
         let (_, behind) = next_word(rest)?;

@@ -1,18 +1,19 @@
-//! What may stand next in a script, in a line of a job or of rules, or in the text of a message, as symbols of one
-//! grammar.
+//! What may stand next in a script, in a line of a job, of rules or of a dictionary, or in the text of a message, as
+//! symbols of one grammar.
 
+use crate::control_symbols::{behind_control_word, behind_data_word, behind_ramp_word};
 use crate::kinds::Kind;
 use crate::kinds::Kind::{
     Address, BabbleCount, Channel, Count, DataWord, Direction, EarlyTicks, Gap, HalfBits, HeldTick,
-    Index, LateTicks, LaterIndex, Line, MessageNumber, ModeCode, Name, NewName, OnlyPlace,
-    PauseTicks, Period, ReceiveModeCode, ReplyRun, ResponseTicks, Retries, Run, ServiceSwitch,
-    SetGap, StartTick, StatusBit, Step, Subaddress, Switch, Sync, TransmitSubaddress, Turns,
-    WordPlace,
+    Index, LateTicks, LaterIndex, Line, MessageNumber, ModeCode, Name, NewName, PauseTicks, Period,
+    ReplyRun, ResponseTicks, Retries, Run, ServiceSwitch, SetGap, StartTick, StatusBit, Step,
+    Subaddress, Switch, Sync, TransmitSubaddress, Turns, WordPlace,
 };
 use crate::rule_symbols::{allowed_in_rules, behind_in_rules};
+use crate::signal_symbols::{allowed_in_dictionaries, behind_in_dictionaries};
 use Symbol::{
-    Action, Block, Condition, Control, DataTo, Else, HeldBack, Host, Marked, Message, One,
-    OptionalWords, PlannedFault, RampTo, Rest, Token, Words,
+    Action, Block, Condition, Control, Else, Host, Marked, Message, One, OptionalWords,
+    PlannedFault, Rest, Token, Words,
 };
 
 /// What may stand next.
@@ -78,6 +79,28 @@ pub enum Symbol {
     Growth,
     /// Which messages are counted, or nothing.
     OfKind,
+    /// A line of rules about a signal.
+    SignalRule,
+    /// What a rule asks of a signal.
+    SignalCheck,
+    /// The greatest value, or nothing.
+    ValueHigh,
+    /// A line of a dictionary of signals.
+    Signal,
+    /// Where a signal stands.
+    SignalPlace,
+    /// The bits of a word, or nothing.
+    SignalBits,
+    /// What the bits of a signal spell.
+    SignalKind,
+    /// More numbers with their names, or nothing.
+    Namings,
+    /// A scale, or nothing.
+    SignalScale,
+    /// An offset, or nothing.
+    SignalOffset,
+    /// A unit, or nothing.
+    SignalUnit,
 }
 
 /// What follows the first word of a frame; none where no frame begins so.
@@ -200,60 +223,6 @@ fn behind_action_word(word: &str) -> Option<&'static [Symbol]> {
     }
 }
 
-/// What follows the first word of what the controller's host asks for.
-fn behind_control_word(word: &str) -> Option<&'static [Symbol]> {
-    match word {
-        "data" => Some(&[DataTo]),
-        "ramp" => Some(&[RampTo]),
-        "insert" => Some(&[HeldBack, One(Line), Message]),
-        _ => None,
-    }
-}
-
-/// What follows the first word of the command that data words of the controller go to; mode commands have one.
-fn behind_data_word(word: &str) -> Option<&'static [Symbol]> {
-    match word {
-        "rx" => Some(&[One(Address), One(Subaddress), One(DataWord), Rest(DataWord)]),
-        "brx" => Some(&[One(Subaddress), One(DataWord), Rest(DataWord)]),
-        "mode" => Some(&[One(Address), One(ReceiveModeCode), One(DataWord)]),
-        "bmode" => Some(&[One(ReceiveModeCode), One(DataWord)]),
-        _ => None,
-    }
-}
-
-/// What follows the first word of the command that a moving word of the controller goes to.
-fn behind_ramp_word(word: &str) -> Option<&'static [Symbol]> {
-    match word {
-        "rx" => Some(&[
-            One(Address),
-            One(Subaddress),
-            One(WordPlace),
-            One(DataWord),
-            One(DataWord),
-        ]),
-        "brx" => Some(&[
-            One(Subaddress),
-            One(WordPlace),
-            One(DataWord),
-            One(DataWord),
-        ]),
-        "mode" => Some(&[
-            One(Address),
-            One(ReceiveModeCode),
-            One(OnlyPlace),
-            One(DataWord),
-            One(DataWord),
-        ]),
-        "bmode" => Some(&[
-            One(ReceiveModeCode),
-            One(OnlyPlace),
-            One(DataWord),
-            One(DataWord),
-        ]),
-        _ => None,
-    }
-}
-
 /// What follows the first word of the commands that are marked.
 fn behind_marked_word(word: &str) -> Option<&'static [Symbol]> {
     match word {
@@ -299,7 +268,11 @@ impl Symbol {
             | Symbol::Check
             | Symbol::Mask
             | Symbol::Growth
-            | Symbol::OfKind => behind_in_rules(self, token),
+            | Symbol::OfKind
+            | Symbol::SignalRule
+            | Symbol::SignalCheck
+            | Symbol::ValueHigh => behind_in_rules(self, token),
+            _ => behind_in_dictionaries(self, token),
         }
     }
 
@@ -312,6 +285,7 @@ impl Symbol {
             Symbol::Block if token != "}" => Some(Symbol::Block),
             Symbol::Words if token != "]" => Some(Symbol::Words),
             Symbol::Rest(kind) => Some(Symbol::Rest(kind)),
+            Symbol::Namings => Some(Symbol::Namings),
             _ => None,
         }
     }
@@ -331,6 +305,12 @@ impl Symbol {
                 | Symbol::Mask
                 | Symbol::Growth
                 | Symbol::OfKind
+                | Symbol::ValueHigh
+                | Symbol::SignalBits
+                | Symbol::Namings
+                | Symbol::SignalScale
+                | Symbol::SignalOffset
+                | Symbol::SignalUnit
         )
     }
 
@@ -368,6 +348,9 @@ impl Symbol {
                 "words of the controller go to rx A S, brx S, mode A C or bmode C",
             Symbol::HeldBack => "at TICK stands here, or the line of the message",
             Symbol::Marked => "mode, receive or transmit stands here",
+            Symbol::Signal | Symbol::SignalPlace | Symbol::SignalKind => {
+                allowed_in_dictionaries(self)
+            }
             _ => allowed_in_rules(self),
         }
     }
