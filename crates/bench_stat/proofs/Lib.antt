@@ -1,3 +1,5 @@
+mod Marks
+mod Appending
 pub mod Counting
 pub mod Addresses
 pub mod Present

@@ -19,7 +19,6 @@ use Rattle.ch11_stream.specs.Reading.{IsStep, Reading, last_found}
 use Rattle.ch11_stream.proofs.Folding.{one_behind}
 use Rattle.bench_select.specs.declared.selection.Selection.{Selection}
 use Rattle.bench_stat.specs.declared.channels.ChannelFigures.{ChannelFigures}
-use Rattle.bench_stat.specs.declared.followed.Followed.{Followed}
 use Rattle.bench_stat.specs.declared.following_packets.ToldChannels.{ToldChannels}
 use Rattle.bench_stat.specs.declared.losses.Losses.{Losses}
 use Rattle.bench_stat.specs.declared.shown.Shown.{Shown}

@@ -14,3 +14,9 @@ pub mod Details
 pub mod Times
 pub mod Told
 pub mod Kinds
+pub mod UnitText
+pub mod ChannelText
+pub mod PageText
+pub mod RowText
+pub mod ValueText
+pub mod KindText

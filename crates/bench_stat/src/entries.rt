@@ -1,6 +1,7 @@
 //! Messages by terminal, direction and subaddress.
 ghost use Rattle.bench_stat.specs.Entries as spec;
 ghost use Rattle.bench_stat.specs.Entries.{AreEntries, is_same as are_same, with_choice};
+ghost use Rattle.bench_stat.specs.PageText.{address_in, direction_in, subaddress_in};
 ghost use Rattle.ch11_layout.specs.Stamps.{Recorded};
 ghost use Rattle.std.specs.Prelude.{◌≡◌, ◌∷◌, [], List, length, IfOk};
 
@@ -29,7 +30,11 @@ fn entry_of(command: u16) -> usize
 }
 
 /// The terminal address, the direction as the letter of a command (T or R), and the subaddress of an entry.
-pub(crate) fn parts_of(entry: usize) -> (usize, &'static str, usize) {
+pub(crate) fn parts_of(entry: usize) -> (usize, &'static str, usize)
+    ensures address { result.0 ≡ address_in entry }
+    ensures direction { result.1.now ≡ direction_in entry }
+    ensures subaddress { result.2 ≡ subaddress_in entry }
+{
     let transmits = entry / FIELD_VALUES % 2 == 1;
     let direction = if transmits { "T" } else { "R" };
     (entry / (2 * FIELD_VALUES), direction, entry % FIELD_VALUES)

@@ -1,5 +1,6 @@
 //! What is told of channels beside their figures, as the packets of a recording come from a reader.
 ghost use Rattle.bench_select.specs.declared.selection.Selection.{Selection as SelectionValue};
+ghost use Rattle.bench_stat.specs.PageText.{details_in, flows_in, losses_in, slices_in, told_at};
 ghost use Rattle.bench_stat.specs.Told.{AreTold, IsListedBehind};
 ghost use Rattle.bench_stat.specs.declared.channels.ChannelFigures.{ChannelFigures as FiguresValue};
 ghost use Rattle.bench_stat.specs.declared.shown.Shown.{Shown as ShownValue};
@@ -99,7 +100,9 @@ impl ToldChannels {
     }
 
     /// What the packets of a channel say of messages that are missing; of one that is not told of, what no packets say.
-    pub(crate) fn losses(&self, channel: u16) -> Losses {
+    pub(crate) fn losses(&self, channel: u16) -> Losses
+        ensures { result ≡ losses_in (told_at self.now channel) }
+    {
         match self.of(channel) {
             Some(told) => told.losses,
             None => Losses::none(),
@@ -108,7 +111,9 @@ impl ToldChannels {
 
     /// How the messages of a channel follow one another, and its status words; those of no messages where they are not
     /// told.
-    pub(crate) fn details(&self, channel: u16) -> Details {
+    pub(crate) fn details(&self, channel: u16) -> Details
+        ensures { result ≡ details_in (told_at self.now channel) }
+    {
         match self.of(channel) {
             Some(told) => told.messages.details.unwrap_or(Details::none()),
             None => Details::none(),
@@ -116,7 +121,9 @@ impl ToldChannels {
     }
 
     /// A flow for each command word without its last field, 0 to 2047; none where they are not told.
-    pub(crate) fn flows(&self, channel: u16) -> &[Flow] {
+    pub(crate) fn flows(&self, channel: u16) -> &[Flow]
+        ensures { result.now ≡ flows_in (told_at self.now channel) }
+    {
         match self.of(channel) {
             Some(told) => told.messages.flows.as_slice(),
             None => &[],
@@ -124,7 +131,9 @@ impl ToldChannels {
     }
 
     /// How busy a channel is in each of 20 slices of its figures' span; none where that is not told.
-    pub(crate) fn load(&self, channel: u16) -> &[Slice] {
+    pub(crate) fn load(&self, channel: u16) -> &[Slice]
+        ensures { result.now ≡ slices_in (told_at self.now channel) }
+    {
         match self.of(channel) {
             Some(told) => told.messages.slices.as_slice(),
             None => &[],

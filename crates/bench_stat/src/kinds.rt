@@ -1,10 +1,12 @@
 //! The packets of a recording by their type.
+ghost use Rattle.bench_stat.specs.KindText as text;
 ghost use Rattle.bench_stat.specs.Kinds as spec;
 ghost use Rattle.bench_stat.specs.Kinds.{AreKinds};
 ghost use Rattle.ch11_header.specs.declared.header.Header.{Header as HeaderValue};
 ghost use Rattle.bench_stat.specs.Figures.{headers};
 ghost use Rattle.ch11_stream.specs.Folding.{FoldsPackets};
-ghost use Rattle.std.specs.Prelude.{◌≡◌, ◌++◌, ◌∷◌, [], ℕ, List, Some, length, IfOk};
+ghost use Rattle.std.specs.Io.KnownBytes.{Appends};
+ghost use Rattle.std.specs.Prelude.{◌≡◌, ◌++◌, ◌∷◌, [], ℕ, List, Some, length, IfOk, OnOk};
 
 use crate::counts::more;
 use ch11_header::Header;
@@ -88,22 +90,45 @@ fn no_kinds(alloc: Global) -> Result<Vec<KindFigures>, AllocError>
 
 /// Writes for each type of which there are packets how many there are, and how many bytes: as lines, or as rows of
 /// comma-separated values behind an empty line.
-pub fn print_kinds<W: Write>(out: &mut W, kinds: &[KindFigures], rows: bool) -> io::Result<()> {
-    if rows {
-        writeln!(out, "\ntype,packets,bytes")?;
-    } else {
-        writeln!(out, "packets by type")?;
-    }
-    for (kind, figures) in kinds.iter().enumerate() {
-        let (packets, bytes) = (figures.packets, figures.bytes);
-        if packets == 0 {
-            continue;
-        }
-        if rows {
-            writeln!(out, "{kind:02X},{packets},{bytes}")?;
-        } else {
-            writeln!(out, "  type {kind:02X}   {packets} packets, {bytes} bytes")?;
-        }
+#[tactic(auto, unfolding(crate::specs::KindText::kinds_text))]
+pub fn print_kinds<W: Write>(out: &mut W, kinds: &[KindFigures], rows: bool) -> io::Result<()>
+    ensures { OnOk result (Appends (W.contents out.old) (W.contents out.new) (text.kinds_text rows kinds.now)) }
+{
+    print_head(out, rows)?;
+    for kind in 0..kinds.len() {
+        print_kind(out, kind, &kinds[kind], rows)?;
     }
     Ok(())
+}
+
+/// Writes what stands in front of the types.
+fn print_head<W: Write>(out: &mut W, rows: bool) -> io::Result<()>
+    ensures { OnOk result (Appends (W.contents out.old) (W.contents out.new) (text.head_of rows)) }
+{
+    if rows {
+        writeln!(out, "\ntype,packets,bytes")
+    } else {
+        writeln!(out, "packets by type")
+    }
+}
+
+/// Writes how many packets of a type there are, where there are any.
+fn print_kind<W: Write>(
+    out: &mut W,
+    kind: usize,
+    figures: &KindFigures,
+    rows: bool,
+) -> io::Result<()>
+    ensures { OnOk result (Appends (W.contents out.old) (W.contents out.new)
+        (text.kind_text rows kind figures.now)) }
+{
+    let (packets, bytes) = (figures.packets, figures.bytes);
+    if packets == 0 {
+        return Ok(());
+    }
+    if rows {
+        writeln!(out, "{kind:02X},{packets},{bytes}")
+    } else {
+        writeln!(out, "  type {kind:02X}   {packets} packets, {bytes} bytes")
+    }
 }

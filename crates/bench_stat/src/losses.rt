@@ -1,5 +1,6 @@
 //! What packets say of messages that are missing.
 ghost use Rattle.bench_stat.specs.Details as spec;
+ghost use Rattle.bench_stat.specs.PageText.{no_losses};
 ghost use Rattle.ch11_reader.specs.Contents.{capped};
 ghost use Rattle.bench_stat.specs.Figures.{one_if};
 ghost use Rattle.ch11_reader.specs.declared.packet.Packet.{Packet as PacketValue};
@@ -19,7 +20,8 @@ pub struct Losses {
 impl Losses {
     /// What no packets say.
     pub(crate) fn none() -> Losses
-        ensures { (channel : ℕ) → result ≡ spec.losses_of channel [] }
+        ensures value { result ≡ no_losses }
+        ensures none { (channel : ℕ) → result ≡ spec.losses_of channel [] }
     {
         Losses {
             overflows: 0,

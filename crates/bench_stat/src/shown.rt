@@ -1,4 +1,6 @@
 //! What is shown beside the figures.
+ghost use Rattle.bench_stat.specs.Times.{asked_times, between_if};
+ghost use Rattle.std.specs.Prelude.{◌≡◌};
 
 use crate::channels::ChannelFigures;
 use crate::times::Times;
@@ -24,7 +26,9 @@ impl Shown {
     }
 
     /// The times of day of a channel, where they are asked for.
-    pub(crate) fn times_of(&self, clock: &Clock, figures: &ChannelFigures) -> Option<Times> {
+    pub(crate) fn times_of(&self, clock: &Clock, figures: &ChannelFigures) -> Option<Times>
+        ensures { between_if result ≡ asked_times self.now.time clock.now figures.now.traffic }
+    {
         if self.time {
             Some(Times::of(clock, &figures.traffic))
         } else {

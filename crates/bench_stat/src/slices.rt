@@ -1,7 +1,8 @@
 //! The load of a channel over time.
+ghost use Rattle.bench_stat.specs.PageText.{slice_load};
 ghost use Rattle.bench_stat.specs.Slices as spec;
 ghost use Rattle.ch11_layout.specs.Stamps.{Recorded};
-ghost use Rattle.std.specs.Prelude.{◌≡◌, ◌∷◌, [], List, length, map, IfOk};
+ghost use Rattle.std.specs.Prelude.{◌≡◌, ◌∷◌, [], List, length, IfOk};
 
 use crate::counts::more;
 use crate::flows::end_of;
@@ -25,7 +26,9 @@ pub struct Slice {
 
 impl Slice {
     /// The share of the slice in which the bus was busy, in hundredths of a per cent.
-    pub fn load(&self) -> u64 {
+    pub fn load(&self) -> u64
+        ensures { result ≡ slice_load self.now }
+    {
         share_of(self.busy, self.end.saturating_sub(self.begin)).unwrap_or(0)
     }
 

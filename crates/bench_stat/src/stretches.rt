@@ -46,7 +46,8 @@ impl Stretches {
 
     /// The span of all stretches, in ticks.
     pub fn span(&self) -> u64
-        ensures { (history : List Recorded) → self.now ≡ spec.stretches_of history → result ≡ spec.span history }
+        ensures value { result ≡ spec.kept_span self.now }
+        ensures span { (history : List Recorded) → self.now ≡ spec.stretches_of history → result ≡ spec.span history }
     {
         self.taken()
     }

@@ -1,5 +1,6 @@
 //! The figures of a terminal.
 ghost use Rattle.bench_stat.specs.Figures.{figures_of, terminals_of, is_receive_call, is_transmit_call, is_mode_call};
+ghost use Rattle.bench_stat.specs.ChannelText as text;
 ghost use Rattle.bench_stat.specs.Steps.{with_kind, with_response, with_call};
 ghost use Rattle.bench_stat.specs.declared.calls.Call.{Call as CallValue};
 ghost use Rattle.mil_word.specs.Fields.{field_values};
@@ -48,12 +49,16 @@ impl TerminalFigures {
     }
 
     /// How many commands it got, as far as 64 bits count.
-    pub fn commands(&self) -> u64 {
+    pub fn commands(&self) -> u64
+        ensures { result ≡ text.commands_of self.now }
+    {
         more(more(self.receive, self.transmit), self.mode)
     }
 
     /// What is shown of it in front of its response times: the commands of each kind, errors and responses.
-    pub(crate) fn counts(&self) -> [u64; 5] {
+    pub(crate) fn counts(&self) -> [u64; 5]
+        ensures { result ≡ text.counts_of self.now }
+    {
         [
             self.receive,
             self.transmit,
@@ -64,12 +69,24 @@ impl TerminalFigures {
     }
 
     /// The mean response time in hundredths of a µs, rounded down; None where there was no response.
-    pub fn mean(&self) -> Option<u64> {
+    pub fn mean(&self) -> Option<u64>
+        ensures { result ≡ text.mean_of self.now }
+    {
         if self.responses == 0 {
             return None;
         }
         let mean = u128::from(self.total) * 10 / u128::from(self.responses);
-        Some(u64::try_from(mean).unwrap_or(u64::MAX))
+        if mean > u128::from(u64::MAX) {
+            return Some(u64::MAX);
+        }
+        Some(mean as u64)
+    }
+
+    /// Whether it was called at all.
+    pub(crate) fn is_called(&self) -> bool
+        ensures { result ≡ text.is_called self.now }
+    {
+        self.commands() > 0
     }
 
     fn note_kind(&mut self, call: &Call)

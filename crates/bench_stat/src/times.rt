@@ -1,7 +1,7 @@
 //! The times of day of a channel.
 ghost use Rattle.bench_clock.specs.Time.{time_of};
 ghost use Rattle.bench_stat.specs.Figures.{traffic_of};
-ghost use Rattle.bench_stat.specs.Times.{AreTimes, time_by_stamps};
+ghost use Rattle.bench_stat.specs.Times.{AreTimes, between, between_of, time_by_stamps};
 ghost use Rattle.ch11_layout.specs.Stamps.{Recorded};
 ghost use Rattle.std.specs.Prelude.{◌≡◌, List, option_map};
 
@@ -22,7 +22,9 @@ pub struct Times {
 impl Times {
     /// Those of a channel by the recording's clock.
     pub fn of(clock: &Clock, traffic: &Traffic) -> Times
-        ensures { (history : List Recorded) → traffic.now ≡ traffic_of history → AreTimes clock.now history result }
+        ensures value { between_of result ≡ between clock.now traffic.now }
+        ensures times { (history : List Recorded) → traffic.now ≡ traffic_of history
+            → AreTimes clock.now history result }
     {
         Times {
             first: time_by(clock, traffic.stamps, traffic.begin),

@@ -3,7 +3,7 @@ ghost use Rattle.bench_select.specs.declared.selection.Selection.{Selection as S
 ghost use Rattle.bench_stat.specs.Told.{IsListedBehind, IsTold};
 ghost use Rattle.bench_stat.specs.declared.shown.Shown.{Shown as ShownValue};
 ghost use Rattle.ch11_reader.specs.Recording.{Found};
-ghost use Rattle.std.specs.Prelude.{◌≡◌, ◌+◌, ◌<◌, ◌^◌, ◌++◌, ◌∷◌, [], ℕ, List, IfOk, length};
+ghost use Rattle.std.specs.Prelude.{◌+◌, ◌<◌, ◌^◌, ◌++◌, ◌∷◌, [], ℕ, List, IfOk, length};
 
 use crate::followed::Followed;
 use crate::losses::Losses;

@@ -3,7 +3,9 @@ ghost use Rattle.ch11_reader.specs.Contents.{capped};
 ghost use Rattle.bench_stat.specs.Figures as spec;
 ghost use Rattle.bench_stat.specs.Figures.{traffic_of, duration, load};
 ghost use Rattle.bench_stat.specs.Steps.{with_traffic};
-ghost use Rattle.bench_stat.specs.Stretches.{span};
+ghost use Rattle.bench_stat.specs.ChannelText as text;
+ghost use Rattle.bench_stat.specs.RowText as rows;
+ghost use Rattle.bench_stat.specs.Stretches.{kept_span, span};
 ghost use Rattle.ch11_layout.specs.Stamps.{Recorded};
 ghost use Rattle.std.specs.Prelude.{◌≡◌, ◌∷◌, [], List};
 
@@ -53,25 +55,31 @@ impl Traffic {
     /// The time from the first message's first word to the last message's end, in ticks; where stamps fall, the sum of
     /// the spans of the stretches between.
     pub fn span(&self) -> u64
-        ensures { (history : List Recorded) → self.now ≡ traffic_of history → result ≡ span history }
+        ensures value { result ≡ kept_span self.now.stretches }
+        ensures span { (history : List Recorded) → self.now ≡ traffic_of history → result ≡ span history }
     {
         self.stretches.span()
     }
 
     /// The share of the span in which the bus was busy, in hundredths of a per cent; None where there is no span.
     pub fn load(&self) -> Option<u64>
-        ensures { (history : List Recorded) → self.now ≡ traffic_of history → result ≡ load history }
+        ensures value { result ≡ text.load_of self.now }
+        ensures load { (history : List Recorded) → self.now ≡ traffic_of history → result ≡ load history }
     {
         share_of(self.busy, self.span())
     }
 
     /// Whether the times of its messages are known, which then are all told by one clock.
-    pub fn has_times(&self) -> bool {
-        self.stamps != Some(StampKind::Unknown)
+    pub fn has_times(&self) -> bool
+        ensures { result ≡ text.has_times self.now }
+    {
+        !matches!(self.stamps, Some(StampKind::Unknown))
     }
 
     /// The span where times are known.
-    pub(crate) fn known_span(&self) -> Option<u64> {
+    pub(crate) fn known_span(&self) -> Option<u64>
+        ensures { result ≡ text.known_span self.now }
+    {
         if self.has_times() {
             Some(self.span())
         } else {
@@ -79,8 +87,17 @@ impl Traffic {
         }
     }
 
+    /// The load where times are known.
+    pub(crate) fn known_load(&self) -> Option<u64>
+        ensures { result ≡ text.known_load self.now }
+    {
+        if self.has_times() { self.load() } else { None }
+    }
+
     /// Whether its load over time is told: it has a span, and no stamp falls, so that the slices are times of the bus.
-    pub(crate) fn has_slices(&self) -> bool {
+    pub(crate) fn has_slices(&self) -> bool
+        ensures { result ≡ rows.has_slices self.now }
+    {
         self.has_times() && self.stretches.falls == 0 && self.span() > 0
     }
 

@@ -1,4 +1,4 @@
-use Rattle.std.proofs.Common.{◌≡◌, ◌+◌, ◌-◌, ◌<◌, ◌^◌, List, length, refl, ap, reverse, subst, arith}
+use Rattle.std.proofs.Common.{◌-◌, ◌<◌, ◌^◌, List, length, refl, ap, reverse, subst, arith}
 use Rattle.ch11_reader.specs.Recording.{Found}
 use Rattle.ch11_stream.specs.Reading.{last_found}
 use Rattle.ch11_stream.proofs.Folding.{all_found, not_found}

@@ -1,5 +1,4 @@
-use Rattle.std.proofs.Common.{◌≡◌, ◌++◌, List, refl, arith}
-use Rattle.ch11_layout.specs.Stamps.{Recorded}
+use Rattle.std.proofs.Common.{◌≡◌, ◌++◌, refl, arith}
 use Rattle.bench_stat.specs.Chosen.{picked}
 use Rattle.bench_stat.specs.Steps.{tally_of}
 use Rattle.bench_stat.proofs.Histories.{begins, goes_on, ends}

@@ -4,5 +4,5 @@ use Rattle.bench_stat.specs.Figures.{share_of}
 use Rattle.bench_stat.specs.Stretches.{span}
 use Rattle.bench_stat.proofs.traffic.Traffic.load.Goals as goal
 
-pub returns : goal.returns
-returns c = λ history same. c.share_of.ensures ∙ ap (λ (n : ℕ). share_of c.args.self.now.busy n) (c.span.ensures history same) ∙ ap (λ (t : Traffic). share_of t.busy (span history)) same
+pub returns-clause-load : goal.returns-clause-load
+returns-clause-load c = λ history same. c.share_of.ensures ∙ ap (λ (n : ℕ). share_of c.args.self.now.busy n) (c.span.ensures.span history same) ∙ ap (λ (t : Traffic). share_of t.busy (span history)) same
