@@ -3,7 +3,7 @@
 use bench_requests::Fault;
 use clap::error::ErrorKind;
 use clap::{ArgMatches, Command, Error};
-use command_export::{completing, drawing, exporting};
+use command_export::{completing, drawing, exporting, signalling};
 use command_judge::{checking, judging};
 use command_listing::{dumping, statistics};
 use command_material::{comparing, cutting};
@@ -39,6 +39,8 @@ pub enum Request<'a> {
     Stat(statistics::Request<'a>),
     /// The messages of a recording, written to a file for other programs.
     Export(exporting::Request<'a>),
+    /// The values of signals in a recording, written to a file for other programs.
+    Signals(signalling::Request<'a>),
     /// The messages of a recording over time, written to a file as a picture.
     Draw(drawing::Request<'a>),
     /// A recording, judged by rules.
@@ -118,6 +120,7 @@ fn plain_request<'a>(name: &str, given: &ArgMatches<'a>) -> Request<'a> {
 fn writing_request<'a>(name: &str, given: &ArgMatches<'a>) -> Request<'a> {
     match name {
         "export" => Request::Export(exporting::request_in(given)),
+        "signals" => Request::Signals(signalling::request_in(given)),
         "draw" => Request::Draw(drawing::request_in(given)),
         "complete" => Request::Complete(completing::request_in(given)),
         "cut" => Request::Cut(cutting::request_in(given)),
@@ -142,6 +145,7 @@ fn bench_command<'a>(alloc: Global) -> Result<Command<'a>, AllocError> {
     let bench = with(bench, stepping::command(alloc));
     let bench = with(bench, statistics::command(alloc));
     let bench = with(bench, exporting::command(alloc));
+    let bench = with(bench, signalling::command(alloc));
     let bench = with(bench, drawing::command(alloc));
     let bench = with(bench, judging::command(alloc));
     let bench = with(bench, completing::command(alloc));

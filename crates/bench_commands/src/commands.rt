@@ -7,7 +7,7 @@ use crate::pointing::point;
 use bench_requests::Fault;
 use clap::Error;
 use clap::error::ErrorKind;
-use command_export::{completing, drawing, exporting};
+use command_export::{completing, drawing, exporting, signalling};
 use command_judge::{checking, judging};
 use command_listing::{dumping, statistics};
 use command_material::{comparing, cutting};
@@ -114,6 +114,7 @@ where
         Request::Step(request) => stepping::run(rt, errors, request, asked.context),
         Request::Stat(request) => statistics::run(rt, errors, request),
         Request::Export(request) => exporting::run(rt, errors, request),
+        Request::Signals(request) => signalling::run(rt, errors, request),
         Request::Draw(request) => drawing::run(rt, errors, request),
         Request::Judge(request) => judging::run(rt, errors, request),
         Request::Complete(request) => completing::run(rt, errors, request),

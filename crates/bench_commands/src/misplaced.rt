@@ -26,6 +26,7 @@ pub(crate) enum Content {
     Waves,
     Job,
     Rules,
+    Dictionary,
     Script,
 }
 
@@ -42,6 +43,9 @@ impl Content {
             Content::Waves => "a value change dump, which bench export wrote",
             Content::Job => "a job; bench check tries it, and bench run records it",
             Content::Rules => "a text of rules; bench judge reads it beside a recording",
+            Content::Dictionary => {
+                "a dictionary of signals; bench signals reads it beside a recording"
+            }
             Content::Script => {
                 "a script; bench assemble reads it, and a job has one behind its line script"
             }
@@ -105,6 +109,9 @@ fn content_behind(word: &[u8]) -> Option<Content> {
     if word == b"expect".as_slice() {
         return Some(Content::Rules);
     }
+    if word == b"signal".as_slice() {
+        return Some(Content::Dictionary);
+    }
     if is_one_of(word, SCRIPT_WORDS) {
         return Some(Content::Script);
     }
@@ -156,6 +163,7 @@ fn order_of(request: &Request<'_>) -> &'static str {
             "  bench step takes the recording, then the report of its run, then the jobs of it\n"
         }
         Request::Judge(_) => "  bench judge takes the recording, then the rules\n",
+        Request::Signals(_) => "  bench signals takes the recording, then the dictionary\n",
         _ => "",
     }
 }
@@ -204,6 +212,7 @@ fn recording_in<'a>(request: &Request<'a>) -> Option<&'a str> {
         Request::Dump(dumping::Request::Messages(messages)) => Some(messages.recording),
         Request::Stat(request) => Some(request.recording),
         Request::Export(request) => Some(request.extract.recording),
+        Request::Signals(request) => Some(request.extract.recording),
         Request::Draw(request) => Some(request.extract.recording),
         Request::Complete(request) => Some(request.recording),
         Request::Judge(request) => Some(request.recording),

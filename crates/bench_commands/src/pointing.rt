@@ -5,7 +5,7 @@
 use crate::command_line::{Asked, Request};
 use crate::differing::difference_of;
 use crate::misplaced::{Content, named_no_recording, no_recording, other_in_place};
-use crate::reasoning::{reason_of_job, reason_of_rules, reason_of_script};
+use crate::reasoning::{reason_of_dictionary, reason_of_job, reason_of_rules, reason_of_script};
 use crate::refusing::refusal_of;
 use bench_assemble::AssembleFault;
 use bench_explain::explain;
@@ -17,6 +17,7 @@ use command_listing::dumping;
 use frame_text::Cause;
 use job_file::{JobError, read_job};
 use judge_rules::RuleError;
+use signal_dictionary::DictionaryError;
 use std::alloc::{AllocError, Global};
 use std::fmt::Write;
 use std::io;
@@ -86,6 +87,7 @@ fn particular<R: Files + AllocGlobal>(
             report_at_fault(rt, request, step.report, error.line, fault)
         }
         (Fault::Rules(error), _) => rules_at_fault(rt, request, error),
+        (Fault::Dictionary(error), _) => dictionary_at_fault(rt, request, error),
         (Fault::NoneSelected, _) => crossed_bounds(rt, request),
         (Fault::Mismatch { channel, number }, Request::Step(step)) => {
             difference_of(rt, step, *channel, *number)
@@ -276,7 +278,64 @@ fn rules_at_fault<R: Files + AllocGlobal>(
     let text = text.as_slice();
     match other_in_place(rt, request, Content::Rules, name, text)? {
         Some(lines) => Ok(Some(lines)),
-        None => told(rt, name, text, reason_of_rules(rt.alloc(), text, error)?),
+        None => {
+            let dictionary = dictionary_again(rt, request);
+            let signals = match &dictionary {
+                Some(text) => Some(text.as_slice()),
+                None => None,
+            };
+            told(
+                rt,
+                name,
+                text,
+                reason_of_rules(rt.alloc(), text, signals, error)?,
+            )
+        }
+    }
+}
+
+/// The text of the dictionary that a request names, read once more; none where it names none, or that fails.
+fn dictionary_again<R: Files + AllocGlobal>(rt: &R, request: &Request<'_>) -> Option<Vec<u8>> {
+    let name = dictionary_of(request)?;
+    read_again(rt, name).ok()
+}
+
+/// The dictionary that a request names; none where it names none.
+fn dictionary_of<'a>(request: &Request<'a>) -> Option<&'a str> {
+    match request {
+        Request::Signals(request) => Some(request.dictionary),
+        Request::Export(request) => request.signals,
+        Request::Draw(request) => request.signals,
+        Request::Stat(request) => request.signals,
+        Request::Judge(request) => request.signals,
+        Request::Check(request) => request.signals,
+        Request::Run(request) => request.run.signals,
+        Request::Dump(dumping::Request::Messages(messages)) => messages.signals,
+        _ => None,
+    }
+}
+
+/// Why a dictionary is refused, as lines: that its file is of another kind, or the reason of its text.
+fn dictionary_at_fault<R: Files + AllocGlobal>(
+    rt: &R,
+    request: &Request<'_>,
+    error: &DictionaryError,
+) -> Result<Option<String>, AllocError> {
+    let Some(name) = dictionary_of(request) else {
+        return Ok(None);
+    };
+    let Ok(text) = read_again(rt, name) else {
+        return Ok(None);
+    };
+    let text = text.as_slice();
+    match other_in_place(rt, request, Content::Dictionary, name, text)? {
+        Some(lines) => Ok(Some(lines)),
+        None => told(
+            rt,
+            name,
+            text,
+            reason_of_dictionary(rt.alloc(), text, error)?,
+        ),
     }
 }
 
@@ -289,6 +348,7 @@ fn crossed_bounds<R: AllocGlobal>(
         Request::Dump(dumping::Request::Messages(messages)) => &messages.selection,
         Request::Stat(request) => &request.selection,
         Request::Export(request) => &request.extract.selection,
+        Request::Signals(request) => &request.extract.selection,
         Request::Draw(request) => &request.extract.selection,
         Request::Cut(request) => &request.extract.selection,
         Request::Compare(request) => &request.selection,

@@ -1,14 +1,15 @@
 //! Faults of scripts, jobs and rules as those that have their reasons in words.
 
 use bench_reasons::{
-    LineFault, Place, Reason, RuleFault, ScriptFault, Text, job_script_reason, line_reason,
-    rule_reason, script_reason,
+    LineFault, Place, Reason, RuleFault, ScriptFault, Text, dictionary_reason, job_script_reason,
+    line_reason, rule_reason, script_reason, signal_rule_reason,
 };
 use frame_text::Cause;
 use job_file::JobError;
 use judge_rules::RuleError;
 use mil_host::BadAction;
 use mil_line::LineError;
+use signal_dictionary::DictionaryError;
 use std::alloc::{AllocError, Global};
 
 /// Why a script, or a line and a message, is refused.
@@ -40,19 +41,42 @@ pub(crate) fn reason_of_job(
     }
 }
 
-/// Why rules are refused; none where their text alone does not say.
+/// Why rules are refused, which may name the signals of a dictionary where there is one; none where their text alone
+/// does not say.
 pub(crate) fn reason_of_rules(
     alloc: Global,
     text: &[u8],
+    dictionary: Option<&[u8]>,
     error: &RuleError,
 ) -> Result<Option<Reason>, AllocError> {
-    let fault = match error.fault {
-        judge_rules::RuleFault::Word => RuleFault::Word,
-        judge_rules::RuleFault::Number => RuleFault::Number,
-        judge_rules::RuleFault::Range => RuleFault::Range,
-        judge_rules::RuleFault::Memory => return Ok(None),
-    };
-    rule_reason(alloc, text, error.line, fault)
+    match (rule_fault(error.fault), dictionary) {
+        (Some(fault), None) => rule_reason(alloc, text, error.line, fault),
+        (Some(fault), Some(dictionary)) => {
+            signal_rule_reason(alloc, text, dictionary, error.line, fault)
+        }
+        (None, _) => Ok(None),
+    }
+}
+
+/// Why a dictionary is refused; none where its text alone does not say.
+pub(crate) fn reason_of_dictionary(
+    alloc: Global,
+    text: &[u8],
+    error: &DictionaryError,
+) -> Result<Option<Reason>, AllocError> {
+    match rule_fault(error.fault) {
+        Some(fault) => dictionary_reason(alloc, text, error.line, fault),
+        None => Ok(None),
+    }
+}
+
+fn rule_fault(fault: judge_rules::RuleFault) -> Option<RuleFault> {
+    match fault {
+        judge_rules::RuleFault::Word => Some(RuleFault::Word),
+        judge_rules::RuleFault::Number => Some(RuleFault::Number),
+        judge_rules::RuleFault::Range => Some(RuleFault::Range),
+        judge_rules::RuleFault::Memory => None,
+    }
 }
 
 fn place_of(place: frame_text::Place) -> Place {

@@ -5,3 +5,4 @@ pub mod Endings
 pub mod Losses
 pub mod Listings
 pub mod Judging
+pub mod Dictionaries

@@ -15,7 +15,7 @@ use Rattle.bench_requests.specs.declared.fault.Fault.{Fault}
 use Rattle.bench_requests.specs.declared.fault.Fault.TheVariants.{Text, Script, Recording, Report, Mismatch, Job, Run}
 use Rattle.bench_requests.specs.declared.fault.Fault.TheVariants.{Sink, Device, System, Unknown, Rules, NotHeld, Memory}
 use Rattle.bench_requests.specs.declared.fault.Fault.TheVariants.{OneFile, Busy, OtherKind, OtherPart, Usage}
-use Rattle.bench_requests.specs.declared.fault.Fault.TheVariants.{NoneSelected, Suspicious, Differ, OneOfTwo}
+use Rattle.bench_requests.specs.declared.fault.Fault.TheVariants.{NoneSelected, Suspicious, Differ, Dictionary, OneOfTwo}
 
 abbrev pub status_of : Fault → ℕ
 -- the input was refused
@@ -29,6 +29,7 @@ status_of (Job fault) = 1
 status_of (Run fault) = 1
 status_of (Unknown code) = 1
 status_of (Rules fault) = 1
+status_of (Dictionary fault) = 1
 status_of NoneSelected = 1
 -- a file or a stream failed
 status_of (Sink taken) = 3

@@ -15,6 +15,7 @@ use bench_step::StepFault;
 use ch11_reader::{ReadError, Refusal};
 use job_file::JobError;
 use judge_rules::RuleError;
+use signal_dictionary::DictionaryError;
 use std::alloc::AllocError;
 use std::io;
 use thiserror::Error;
@@ -61,6 +62,9 @@ pub enum Fault<'a> {
     /// The text of rules was refused.
     #[error("{0}")]
     Rules(RuleError),
+    /// The text of a dictionary of signals was refused.
+    #[error("{0}")]
+    Dictionary(DictionaryError),
     /// No message of a recording is among those that were asked for.
     #[error("no message is selected")]
     NoneSelected,
@@ -104,6 +108,7 @@ impl<'a> Fault<'a> {
             Fault::Job(_) | Fault::Run(_) | Fault::OneOfTwo { .. } => 1,
             Fault::Report(_) | Fault::Mismatch { .. } => 1,
             Fault::Rules(_) | Fault::Unknown(_) => 1,
+            Fault::Dictionary(_) => 1,
             Fault::NoneSelected => 1,
             Fault::Sink { .. } | Fault::Device(_) => 3,
             Fault::System { .. } => 3,

@@ -2,11 +2,12 @@
 //! its end, and why it is refused with which exit status.
 //!
 //! It may know: jobs, headers, the reader, the packets of a stream, reports, what runs share, runs, rules, verdicts,
-//! files, words of a text, and the faults of `bench_one`, `bench_assemble`, `bench_dump` and `bench_step`. It has no
-//! tests: what it says is tried by `.ci/commands` and `.ci/faults`. Its wrong bodies: `edits/`.
+//! dictionaries of signals, files, words of a text, and the faults of `bench_one`, `bench_assemble`, `bench_dump` and
+//! `bench_step`. It has no tests: what it says is tried by `.ci/commands` and `.ci/faults`. Its wrong bodies: `edits/`.
 #![tactic(auto)]
 
 mod apart;
+mod dictionaries;
 mod ending;
 mod endings;
 mod fault;
@@ -20,6 +21,7 @@ mod run_files;
 mod settings;
 
 pub use apart::{Place, told_apart};
+pub use dictionaries::dictionary_of;
 pub use ending::Ending;
 pub use endings::{ending_of_run, ending_of_settings};
 pub use fault::Fault;

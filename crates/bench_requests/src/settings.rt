@@ -22,6 +22,8 @@ pub struct RunRequest<'a> {
     pub prologue: Option<&'a str>,
     /// The file of the rules to judge the recording by, if any.
     pub judge: Option<&'a str>,
+    /// The file of a dictionary whose signals these rules may name, if any.
+    pub signals: Option<&'a str>,
     /// The file to write the recording to.
     pub out: &'a str,
     /// The file to write the report to.

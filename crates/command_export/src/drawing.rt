@@ -6,11 +6,13 @@ use bench_names::ChannelNames;
 use bench_requests::{Fault, write_new};
 use bench_select::Selection;
 use clap::{ArgMatches, Command};
+use command_parts::dictionaries::selection_by;
 use command_parts::extracting::{Extract, extract_options};
 use command_parts::looking::{tell_of_unknown, tell_of_unread};
-use command_parts::options::{command_of, time_channel};
+use command_parts::options::{command_of, file, time_channel};
 use command_parts::recordings::{Recording, Source, Times, fault_of_reading};
 use command_parts::selecting::selection_options;
+use signal_dictionary::Signal;
 use std::alloc::{AllocError, Global};
 use std::io::IsTerminal;
 use std::rt::{Clock, Files};
@@ -26,17 +28,26 @@ recording, from tick 0 of its stamps, or from 1970 where these are times of day.
 period, a dashed line marks the begin of a frame. Where the mouse rests on a bar, a browser shows the message
 decoded.
 
+With --signals DICTIONARY (bench signals --help) each signal has a lane of its own below, for each channel that has it
+(up to 64): its values over time as steps, with the least and the greatest at the left, or its names as bands; --only
+then takes signal NAME too.
+
 Example:
   bench draw flight.ch11 --out flight.svg
-  bench draw flight.ch11 --out retry.svg --channel 2 --from 15 --to 20";
+  bench draw flight.ch11 --out retry.svg --channel 2 --from 15 --to 20
+  bench draw flight.ch11 --out speed.svg --signals avionics.signals";
 
 /// The command line of `bench draw`.
 pub fn command<'a>(alloc: Global) -> Result<Command<'a>, AllocError> {
     let about = "Draws the messages of a recording over time, as a picture for a browser";
     let out = "The file to write the picture to, as SVG";
     let rows = extract_options("The Chapter 11 file to draw", out);
-    let (times, selection) = ([time_channel()], selection_options());
-    command_of(alloc, "draw", about, NOTES, &[&rows, &times, &selection])
+    let signals = "The dictionary of signals of which each has a lane";
+    let (more, selection) = (
+        [file("signals", signals), time_channel()],
+        selection_options(),
+    );
+    command_of(alloc, "draw", about, NOTES, &[&rows, &more, &selection])
 }
 
 /// What is to be drawn, and where to.
@@ -46,6 +57,8 @@ pub struct Request<'a> {
     pub extract: Extract<'a>,
     /// The channel whose time packets tell times of day; all where none is named.
     pub time_channel: Option<u16>,
+    /// The file of a dictionary whose signals have lanes, if any.
+    pub signals: Option<&'a str>,
 }
 
 /// What a command line asks of `bench draw`.
@@ -53,6 +66,7 @@ pub fn request_in<'a>(given: &ArgMatches<'a>) -> Request<'a> {
     Request {
         extract: Extract::given(given),
         time_channel: given.get_one::<u16>("time-channel"),
+        signals: given.get_str("signals"),
     }
 }
 
@@ -73,12 +87,13 @@ pub fn run<'a, R: Files<File: Hold> + AllocGlobal + Clock, E: Eprint + IsTermina
     request: &Request<'a>,
 ) -> Result<(), Fault<'a>> {
     let extract = &request.extract;
-    let selection = extract.judge(rt, Kind::Picture)?;
+    let signals = extract.judge(rt, Kind::Picture, request.signals)?;
+    let selection = selection_by(&extract.selection, request.signals, signals.as_slice())?;
     let source = Source::of(rt, errors, extract.recording)?;
     let recording = source.recording(false, false);
     let stamps = recording.stamps(true)?;
     let selection = selection.counting_from(stamps.origins.as_slice());
-    let drawn = draw_recording(&recording, request, &selection);
+    let drawn = draw_recording(&recording, request, &selection, signals.as_slice());
     source.end();
     tell_of_unknown(errors, extract.recording, &stamps);
     let drawn = drawn?;
@@ -108,19 +123,21 @@ struct Drawn {
     unread: bool,
 }
 
-/// Draws a recording: a pass for its clock, and those of the picture.
+/// Draws a recording with the lanes of these signals: a pass for its clock, and those of the picture.
 fn draw_recording<'a, R: Files + AllocGlobal + Clock, E: Eprint + IsTerminal>(
     recording: &Recording<'_, 'a, R, E>,
     request: &Request<'a>,
     selection: &Selection,
+    signals: &[Signal],
 ) -> Result<Drawn, Fault<'a>> {
+    let alloc = recording.alloc();
     let read = recording.clock(Times {
         asked: true,
         channel: request.time_channel,
     })?;
     let front = recording.front()?;
     let names = ChannelNames::of(front.as_slice());
-    match draw(recording.alloc(), recording, selection, &read.clock, &names) {
+    match draw(alloc, recording, selection, &read.clock, &names, signals) {
         Ok(drawing) => Ok(Drawn {
             drawing,
             unread: read.unread,

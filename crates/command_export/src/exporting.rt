@@ -1,19 +1,23 @@
 //! `bench export`: the messages of a recording for spreadsheets, data frames and waveform viewers.
 
+use crate::signalling::write_values;
 use bench_clock::Clock as RecordingClock;
 use bench_export::{Columns, ExportFault, Table, export, export_waves, selects_any};
 use bench_files::{Hold, Kind, OutFile};
 use bench_requests::Fault;
 use bench_select::Selection;
+use bench_signals::{Rows, Sheet};
 use ch11_stream::Advance;
 use clap::{ArgMatches, Command};
+use command_parts::dictionaries::selection_by;
 use command_parts::extracting::{Extract, extract_options};
 use command_parts::looking::{tell_of_unknown, tell_of_unread};
-use command_parts::options::{Row, choice, command_of, flag, time_channel};
+use command_parts::options::{Row, choice, command_of, file, flag, time_channel};
 use command_parts::recordings::{Recording, Source, Times};
 use command_parts::replacing::{begin_to_write, is_replaced, put_or_give_up};
 use command_parts::selecting::selection_options;
 use command_parts::streams::flushed;
+use signal_dictionary::Signal;
 use std::alloc::{AllocError, Global};
 use std::io::{BufWriter, IsTerminal, Write};
 use std::rt::{Clock, Files};
@@ -33,6 +37,8 @@ With --vcd the file is a value change dump (IEEE 1364), as GTKWave shows it: for
 line, its kind (1 command, 2 data, 3 status), its terminal and the number of its message, and whether it is of a message
 with an error. The signals of line A of channel 1 are named ch1_A_word, ch1_A_kind and so on.
 
+--signals DICTIONARY puts a column for each signal behind the others of --frames (bench signals --help).
+
 --channel, --line, --only, --errors, --from and --to choose messages, numbered as in the file.
 
 Examples:
@@ -49,13 +55,15 @@ pub fn command<'a>(alloc: Global) -> Result<Command<'a>, AllocError> {
 }
 
 /// The options that say what messages are exported as.
-fn form_options<'a>() -> [Row<'a>; 5] {
+fn form_options<'a>() -> [Row<'a>; 6] {
     let frames = "Writes rows with a column for each value, for data frames";
     let hex = "With --frames: puts 0x in front of words";
     let time = "Writes the time of day behind each time stamp, by the recording's time packets";
     let vcd = "Writes a value change dump, for waveform viewers";
+    let signals = "With --frames: the dictionary of signals of which each has a column";
     [
         flag("frames", frames),
+        file("signals", signals).only_with("frames"),
         choice("hex", "PREFIX", &["0x"], hex).only_with("frames"),
         flag("time", time).never_with(&["vcd"]),
         time_channel().only_with("time"),
@@ -81,6 +89,14 @@ impl Exported {
         }
     }
 
+    /// The columns of rows.
+    fn columns(self) -> Columns {
+        match self {
+            Exported::Rows { columns, .. } => columns,
+            Exported::Waves => Columns::Messages,
+        }
+    }
+
     /// Whether times of day are asked for.
     fn is_timed(self) -> bool {
         matches!(self, Exported::Rows { timed: true, .. })
@@ -96,6 +112,8 @@ pub struct Request<'a> {
     pub exported: Exported,
     /// The channel whose time packets tell times of day; all where none is named.
     pub time_channel: Option<u16>,
+    /// The file of a dictionary whose signals have columns, if any.
+    pub signals: Option<&'a str>,
 }
 
 impl<'a> Request<'a> {
@@ -121,12 +139,20 @@ impl<'a> Request<'a> {
     }
 }
 
+/// Which messages are exported, and with which signals.
+#[derive(Clone, Copy)]
+struct Chosen<'c> {
+    selection: &'c Selection<'c>,
+    signals: &'c [Signal],
+}
+
 /// What a command line asks of `bench export`.
 pub fn request_in<'a>(given: &ArgMatches<'a>) -> Request<'a> {
     Request {
         extract: Extract::given(given),
         exported: exported_in(given),
         time_channel: given.get_one::<u16>("time-channel"),
+        signals: given.get_str("signals"),
     }
 }
 
@@ -158,12 +184,23 @@ pub fn run<'a, R: Files<File: Hold> + AllocGlobal + Clock, E: Eprint + IsTermina
     errors: &E,
     request: &Request<'a>,
 ) -> Result<(), Fault<'a>> {
-    let selection = request.extract.judge(rt, request.exported.kind())?;
+    let signals = request
+        .extract
+        .judge(rt, request.exported.kind(), request.signals)?;
+    let selection = selection_by(
+        &request.extract.selection,
+        request.signals,
+        signals.as_slice(),
+    )?;
     let source = Source::of(rt, errors, request.extract.recording)?;
     let recording = source.recording(false, false);
     let stamps = recording.stamps(true)?;
     let selection = selection.counting_from(stamps.origins.as_slice());
-    let written = export_recording(rt, &recording, request, &selection);
+    let chosen = Chosen {
+        selection: &selection,
+        signals: signals.as_slice(),
+    };
+    let written = export_recording(rt, &recording, request, chosen);
     source.end();
     tell_of_unknown(errors, request.extract.recording, &stamps);
     tell_of_unread(errors, request.extract.recording, written?);
@@ -178,42 +215,67 @@ fn export_recording<'a, R: Files<File: Hold> + AllocGlobal + Clock, E: Eprint + 
     rt: &R,
     recording: &Recording<'_, 'a, R, E>,
     request: &Request<'a>,
-    selection: &Selection,
+    chosen: Chosen<'_>,
 ) -> Result<bool, Fault<'a>> {
     if !is_replaced(rt, request.extract.out) {
-        some_selected(recording, request, selection)?;
+        some_selected(recording, &request.extract, chosen.selection)?;
     }
     let read = recording.clock(request.times())?;
     let (file, writer) = match request.begin(rt) {
         Ok(begun) => begun,
         Err(fault) => {
-            some_selected(recording, request, selection)?;
+            some_selected(recording, &request.extract, chosen.selection)?;
             return Err(fault);
         }
     };
-    let written = write_messages(recording, request, selection, &read.clock, writer);
+    let written = if request.signals.is_some() {
+        write_signals(recording, request, chosen, &read.clock, writer)
+    } else {
+        write_messages(recording, request, chosen.selection, &read.clock, writer)
+    };
     put_or_give_up(rt, request.extract.out, file, written)?;
     Ok(read.unread)
 }
 
 /// The fault of a recording that cannot be read, or whose selection has no message: a pass.
-fn some_selected<'a, R: Files + AllocGlobal + Clock, E: Eprint + IsTerminal>(
+pub(crate) fn some_selected<'a, R: Files + AllocGlobal + Clock, E: Eprint + IsTerminal>(
     recording: &Recording<'_, 'a, R, E>,
-    request: &Request<'a>,
+    extract: &Extract<'a>,
     selection: &Selection,
 ) -> Result<(), Fault<'a>> {
     let bytes = recording.begin_reading()?;
     let selected = selects_any(recording.alloc(), bytes, selection);
-    judge_selected(request, recording.answer(selected)?)
+    judge_selected(extract, recording.answer(selected)?)
 }
 
 /// The fault of a selection that has no message.
-fn judge_selected<'a>(request: &Request<'a>, selected: bool) -> Result<(), Fault<'a>> {
-    if selected || request.extract.selection.is_empty() {
+pub(crate) fn judge_selected<'a>(extract: &Extract<'a>, selected: bool) -> Result<(), Fault<'a>> {
+    if selected || extract.selection.is_empty() {
         Ok(())
     } else {
         Err(Fault::NoneSelected)
     }
+}
+
+/// Writes the messages of a recording with their signals to where the bytes of the out file go.
+fn write_signals<'a, R: Files + AllocGlobal + Clock, E: Eprint + IsTerminal, W: Write + Drop>(
+    recording: &Recording<'_, 'a, R, E>,
+    request: &Request<'a>,
+    chosen: Chosen<'_>,
+    clock: &RecordingClock,
+    writer: W,
+) -> Result<(), Fault<'a>> {
+    let sheet = Sheet {
+        table: Table {
+            columns: request.exported.columns(),
+            timed: request.exported.is_timed(),
+            selection: *chosen.selection,
+        },
+        signals: chosen.signals,
+        rows: Rows::Frames,
+        changes: false,
+    };
+    write_values(recording, &request.extract, &sheet, clock, writer)
 }
 
 /// Writes the messages of a recording to where the bytes of the out file go.
@@ -241,17 +303,17 @@ fn write_messages<'a, R: Files + AllocGlobal + Clock, E: Eprint + IsTerminal, W:
         }
     };
     match written {
-        Ok(selected) => judge_selected(request, selected),
+        Ok(selected) => judge_selected(&request.extract, selected),
         Err(ExportFault::Reading(fault)) => recording.answer(Err(fault)),
         Err(ExportFault::Writing(fault)) => {
-            some_selected(recording, request, selection)?;
+            some_selected(recording, &request.extract, selection)?;
             Err(fault_of_writing(request.extract.out, fault))
         }
     }
 }
 
 /// The fault of an out file that was not written to its end.
-fn fault_of_writing<'a>(out: &'a str, fault: WriteFault) -> Fault<'a> {
+pub(crate) fn fault_of_writing<'a>(out: &'a str, fault: WriteFault) -> Fault<'a> {
     match fault {
         WriteFault::Memory => Fault::Memory,
         WriteFault::Device => Fault::Device(out),

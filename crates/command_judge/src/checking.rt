@@ -4,7 +4,8 @@ use bench_check::{Bits, Way, check_job};
 use bench_requests::{Fault, jobs_of, read_texts};
 use bench_settings::{DEFAULT_LIMIT, DEFAULT_QUEUE, DEFAULT_VERSION, Settings, judge};
 use clap::{ArgMatches, Command};
-use command_parts::options::{command_of, flag, jobs, words_in};
+use command_parts::dictionaries::signals_in;
+use command_parts::options::{command_of, file, flag, jobs, words_in};
 use command_parts::streams::{listing, on_stream, printed};
 use job_file::Job;
 use std::alloc::{AllocError, Global};
@@ -25,6 +26,8 @@ With --summary the messages are only counted, and what is probably a mistake goe
 from a subaddress where no words were put up, and messages that are answered with message_error and not sent again.
 With --strict it goes as far, and the status is 5 where anything is probably a mistake.
 
+With --signals DICTIONARY the values of signals in a message stand below what it came to (bench signals --help).
+
 Example:
   bench check avionics.job
   bench check --strict avionics.job
@@ -35,6 +38,7 @@ pub fn command<'a>(alloc: Global) -> Result<Command<'a>, AllocError> {
     let about = "Tries jobs without a recording, and says what is probably a mistake";
     let summary = "Says only what is probably a mistake, and how many messages there are";
     let strict = "Ends with status 5 where anything is probably a mistake";
+    let signals = "Shows the values of the signals of this dictionary in each message";
     let rows = [
         flag("summary", summary),
         flag(
@@ -42,6 +46,7 @@ pub fn command<'a>(alloc: Global) -> Result<Command<'a>, AllocError> {
             "Shows the bits of each status word by their names too",
         ),
         flag("strict", strict),
+        file("signals", signals).never_with(&["summary"]),
         jobs(),
     ];
     command_of(alloc, "check", about, NOTES, &[&rows])
@@ -52,8 +57,10 @@ pub fn command<'a>(alloc: Global) -> Result<Command<'a>, AllocError> {
 pub struct Request<'a> {
     /// The files of the jobs.
     pub jobs: Vec<&'a str>,
-    /// How they are tried, and what is told of them.
-    pub way: Way,
+    /// How they are tried, and what is told of them but for signals.
+    pub way: Way<'static>,
+    /// The file of a dictionary whose signals are shown, if any.
+    pub signals: Option<&'a str>,
 }
 
 /// What a command line asks of `bench check`.
@@ -68,7 +75,9 @@ pub fn request_in<'a>(alloc: Global, given: &ArgMatches<'a>) -> Result<Request<'
             } else {
                 Bits::Digits
             },
+            signals: &[],
         },
+        signals: given.get_str("signals"),
     })
 }
 
@@ -82,16 +91,23 @@ pub fn strict_verdict<'a>(is_suspicious: bool) -> Result<(), Fault<'a>> {
 }
 
 /// Tries jobs, one after the other, each under a line with the name of its file where there are several. All files
-/// are read and judged before the first job is tried, as for a run.
+/// are read and judged before the first job is tried, as for a run, a dictionary of signals before all jobs.
 pub fn run<'a, R: Files + AllocGlobal + Print>(
     rt: &R,
     request: &Request<'a>,
 ) -> Result<(), Fault<'a>> {
+    let signals = signals_in(rt, request.signals)?;
     let names = request.jobs.as_slice();
     let texts = read_texts(rt, names)?;
     let jobs = jobs_of(rt.alloc(), &texts)?;
     judge_jobs(rt.alloc(), &jobs)?;
-    print_checks(rt, request, &texts, &jobs)
+    let way = Way {
+        summary: request.way.summary,
+        strict: request.way.strict,
+        bits: request.way.bits,
+        signals: signals.as_slice(),
+    };
+    print_checks(rt, names, way, &texts, &jobs)
 }
 
 /// Judges jobs as those of a run with the settings that it has where none are given.
@@ -113,15 +129,16 @@ fn judge_jobs<'a>(alloc: Global, jobs: &[Job]) -> Result<(), Fault<'a>> {
 /// anything is probably a mistake.
 fn print_checks<'a, R: AllocGlobal + Print>(
     rt: &R,
-    request: &Request<'a>,
+    names: &[&'a str],
+    way: Way<'_>,
     texts: &[Vec<u8>],
     jobs: &[Job],
 ) -> Result<(), Fault<'a>> {
     let mut out = on_stream("-", BufWriter::new(rt.alloc(), listing(rt)))?;
-    match check_each(rt.alloc(), request, texts, jobs, &mut out) {
+    match check_each(rt.alloc(), names, way, texts, jobs, &mut out) {
         Ok(is_suspicious) => {
             printed(Ok(()), &mut out)?;
-            strict_verdict(request.way.strict && is_suspicious)
+            strict_verdict(way.strict && is_suspicious)
         }
         Err(fault) => printed(Err(fault), &mut out),
     }
@@ -131,7 +148,8 @@ fn print_checks<'a, R: AllocGlobal + Print>(
 /// probably a mistake is answered.
 fn check_each<W: Write>(
     alloc: Global,
-    request: &Request<'_>,
+    names: &[&str],
+    way: Way<'_>,
     texts: &[Vec<u8>],
     jobs: &[Job],
     out: &mut W,
@@ -139,11 +157,11 @@ fn check_each<W: Write>(
     let several = jobs.len() > 1;
     let mut room = 0u64;
     let mut is_suspicious = false;
-    for ((name, text), job) in request.jobs.iter().zip(texts).zip(jobs) {
+    for ((name, text), job) in names.iter().zip(texts).zip(jobs) {
         if several {
             print_name(out, name)?;
         }
-        let checked = check_job(alloc, job, text, request.way, out)?;
+        let checked = check_job(alloc, job, text, way, out)?;
         room = room.saturating_add(checked.room);
         is_suspicious = is_suspicious || checked.is_suspicious;
     }

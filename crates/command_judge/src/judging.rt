@@ -1,5 +1,6 @@
 //! `bench judge`: whether a recording is what rules expect.
 
+use crate::signal_judging::run_with;
 use bench_files::{Hold, Kind};
 use bench_json::{Form, JsonLines};
 use bench_judge::{
@@ -13,6 +14,7 @@ use bench_requests::{
 use bench_watch::Reopen;
 use ch11_reader::Skip;
 use clap::{ArgMatches, Command};
+use command_parts::dictionaries::dictionary_in;
 use command_parts::hosts::System;
 use command_parts::looking::tell_of_unknown;
 use command_parts::options::{argument, command_of, file, flag, force, json, optional};
@@ -39,6 +41,10 @@ message has to be clean: of one of the standard's ten forms, all replies in time
   KIND      ok, fail, clean, silent, or a bit of the block status word as dump --decode names it
   TIME      a number with s, ms or us, as for --from: of messages that began then or later, or then or earlier
 
+With --signals DICTIONARY (bench signals --help) a selector may be signal NAME, for the messages that have it; behind it
+a check may also be value LOW HIGH, of names value LABEL, or step MOST, the most by which a value may differ from the
+one before it in its channel.
+
 A rule is held where no message that it selects misses it and it selects one at least. Prints a line for each
 message that misses a rule, one for each rule, and how many rules are not held.
 Exit status: 0 all rules are held, 5 one is not; else as for all commands.
@@ -56,6 +62,10 @@ pub fn command<'a>(alloc: Global) -> Result<Command<'a>, AllocError> {
         ),
         flag("skip", "Judges what is sound of a damaged recording"),
         json(),
+        file(
+            "signals",
+            "The dictionary of signals that rules may name as a selector",
+        ),
         force(),
         argument("RECORDING", "The Chapter 11 file to judge"),
         optional("RULES", "The rules to judge it by, as a text"),
@@ -78,6 +88,8 @@ pub struct Request<'a> {
     pub json: bool,
     /// Whether a file of another kind may be replaced by the verdicts.
     pub force: bool,
+    /// The file of a dictionary whose signals rules may name, if any.
+    pub signals: Option<&'a str>,
 }
 
 /// What a command line asks of `bench judge`.
@@ -89,11 +101,12 @@ pub fn request_in<'a>(given: &ArgMatches<'a>) -> Request<'a> {
         skip: given.get_flag("skip"),
         json: given.get_flag("json"),
         force: given.get_flag("force"),
+        signals: given.get_str("signals"),
     }
 }
 
 /// What the rules are named by where there is no file of them.
-const STANDARD: &str = "standard rule";
+pub(crate) const STANDARD: &str = "standard rule";
 
 /// Rules, and the text that spells them.
 #[derive(Clone, Copy)]
@@ -142,7 +155,7 @@ fn fault_of_printing<'a>(fault: PrintFault) -> Fault<'a> {
 }
 
 /// Says that messages are missing from a recording, and how many packets say so, where any do.
-fn tell_lost<E: Eprint>(errors: &E, lost: &Lost) {
+pub(crate) fn tell_lost<E: Eprint>(errors: &E, lost: &Lost) {
     if lost.is_any() {
         // Nothing else is lost where standard error takes no more.
         let _ = eprintln!(errors; "messages are missing from this recording: {lost}");
@@ -166,6 +179,10 @@ pub fn run<'a, R: System, E: Eprint + IsTerminal>(
             &[request.recording, rules],
         )?;
     }
+    if let Some(dictionary) = request.signals {
+        let signals = dictionary_in(rt, dictionary)?;
+        return run_with(rt, errors, request, signals.as_slice());
+    }
     let source = Source::of(rt, errors, request.recording)?;
     let given = given_rules(rt, request)?;
     let recording = source.recording(request.skip, true);
@@ -175,7 +192,7 @@ pub fn run<'a, R: System, E: Eprint + IsTerminal>(
 }
 
 /// The text of the file of rules, if there is one.
-fn given_rules<'a, R: Files + AllocGlobal>(
+pub(crate) fn given_rules<'a, R: Files + AllocGlobal>(
     rt: &R,
     request: &Request<'a>,
 ) -> Result<Option<Vec<u8>>, Fault<'a>> {
@@ -186,7 +203,7 @@ fn given_rules<'a, R: Files + AllocGlobal>(
 }
 
 /// A text, if there is one.
-fn lent(given: &Option<Vec<u8>>) -> Option<&[u8]> {
+pub(crate) fn lent(given: &Option<Vec<u8>>) -> Option<&[u8]> {
     match given {
         Some(text) => Some(text.as_slice()),
         None => None,
@@ -223,7 +240,7 @@ fn judge_recording<'a, R: System, E: Eprint + IsTerminal>(
 }
 
 /// Whether packets may be told that miss one of these rules.
-fn tells_packets(rules: &[Rule]) -> bool {
+pub(crate) fn tells_packets(rules: &[Rule]) -> bool {
     for rule in rules {
         if matches!(rule.check, Check::Whole) {
             return true;
@@ -233,7 +250,7 @@ fn tells_packets(rules: &[Rule]) -> bool {
 }
 
 /// The bytes that are skipped of a recording, in a pass of its own where they are asked for, and else none.
-fn skips_of<'a, R: Files + AllocGlobal + Clock, E: Eprint + IsTerminal>(
+pub(crate) fn skips_of<'a, R: Files + AllocGlobal + Clock, E: Eprint + IsTerminal>(
     recording: &Recording<'_, 'a, R, E>,
     asked: bool,
 ) -> Result<Vec<Skip>, Fault<'a>> {
@@ -276,7 +293,7 @@ fn judge_by<'a, R: System, E: Eprint + IsTerminal>(
 }
 
 /// What the packets of the recording with this name say of messages that are missing: a pass.
-fn lost_of<'a, R: Files + AllocGlobal + Clock, E: Eprint + IsTerminal>(
+pub(crate) fn lost_of<'a, R: Files + AllocGlobal + Clock, E: Eprint + IsTerminal>(
     name: &'a str,
     recording: &Recording<'_, 'a, R, E>,
 ) -> Result<Lost, Fault<'a>> {
@@ -340,7 +357,7 @@ fn print_judged<R: System, E: Eprint + IsTerminal>(
 }
 
 /// Writes the JUnit file if it could be made.
-fn write_report<'a, R: Files<File: Hold> + AllocGlobal>(
+pub(crate) fn write_report<'a, R: Files<File: Hold> + AllocGlobal>(
     rt: &R,
     request: &Request<'a>,
     junit: &'a str,

@@ -4,11 +4,13 @@ use bench_decode::{Output, Shown, decode, decode_by_time};
 use bench_json::{Form, JsonLines};
 use bench_requests::{Fault, Listing, unless_gone};
 use clap::ArgMatches;
+use command_parts::dictionaries::{selection_by, signals_in};
 use command_parts::looking::{tell_of_loss, tell_of_unknown};
 use command_parts::recordings::{Recording, Source};
-use command_parts::selecting::{GivenSelection, given_selection, selection_in};
+use command_parts::selecting::{GivenSelection, given_selection, judge_selection};
 use command_parts::streams::unless_refused;
 use command_parts::terminals::is_for_people;
+use signal_dictionary::Signal;
 use std::io::{self, IsTerminal, Printer, Write};
 use std::rt::{Clock, Env, Files};
 
@@ -27,6 +29,17 @@ pub struct Messages<'a> {
     pub by_time: bool,
     /// Whether lines are JSON lines.
     pub json: bool,
+    /// The file of a dictionary whose signals are shown behind data words, if any.
+    pub signals: Option<&'a str>,
+}
+
+impl<'a> Messages<'a> {
+    /// The signals of the dictionary, none where no dictionary is named. A usage fault of the words comes before its
+    /// own.
+    fn dictionary<R: Files + AllocGlobal>(&self, rt: &R) -> Result<Vec<Signal>, Fault<'a>> {
+        judge_selection(&self.selection)?;
+        signals_in(rt, self.signals)
+    }
 }
 
 /// Whether `bench dump` is asked for messages alone: decoded, by time, or some of them.
@@ -43,6 +56,7 @@ pub(crate) fn messages_in<'a>(given: &ArgMatches<'a>) -> Messages<'a> {
         skip: given.get_flag("skip"),
         by_time: given.get_flag("by-time"),
         json: given.get_flag("json"),
+        signals: given.get_str("signals"),
     }
 }
 
@@ -53,7 +67,8 @@ pub(crate) fn show_messages<
     R: Env + Files + AllocGlobal + Print + Clock,
     E: Eprint + IsTerminal,
 >(rt: &R, errors: &E, request: &Messages<'a>) -> Result<(), Fault<'a>> {
-    let output = output_of(rt, request)?;
+    let signals = request.dictionary(rt)?;
+    let output = output_of(rt, request, signals.as_slice())?;
     let source = if request.by_time {
         Source::kept(rt, errors, request.recording)?
     } else {
@@ -100,12 +115,15 @@ fn listing_of<'r, R: Print>(rt: &'r R, output: &Output) -> Listing<Printer<'r, R
 }
 
 /// What is asked for, as it is printed.
-fn output_of<'a, R: Env + Files + AllocGlobal>(
+fn output_of<'a, 's, R: Env + Files + AllocGlobal>(
     rt: &R,
     request: &Messages<'a>,
-) -> Result<Output<'static>, Fault<'a>> {
+    signals: &'s [Signal],
+) -> Result<Output<'s>, Fault<'a>> {
+    let selection = selection_by(&request.selection, request.signals, signals)?;
     Ok(Output {
-        selection: selection_in(&request.selection)?,
+        selection,
+        signals,
         decoded: request.decoded,
         shown: if request.decoded && is_for_people(rt) {
             Shown::Colored

@@ -6,7 +6,7 @@ use bench_json::{Form, JsonLines};
 use bench_requests::{Fault, Listing, unless_gone};
 use clap::{ArgMatches, Command};
 use command_parts::looking::{tell_of_loss, tell_of_unknown, tell_of_unread};
-use command_parts::options::{argument, command_of, flag, json, time_channel};
+use command_parts::options::{argument, command_of, file, flag, json, time_channel};
 use command_parts::recordings::{Recording, Source, Times};
 use command_parts::selecting::selection_options;
 use command_parts::streams::unless_refused;
@@ -42,8 +42,9 @@ time packets, as `bench complete --time` writes them, has none.
 With --decode each message is a line as people read it, with its time in seconds, its number in the file and in
 its channel, its form, status words, data words and errors by name; packets have no line. --channel, --line, --only,
 --errors, --from and --to show some messages alone, numbered as in the file, decoded or not. --by-time shows them
-in the order of their time stamps, all channels together, those of one stamp in the file's order. --json shows each line
-as an object whose keys are the words of the line.
+in the order of their time stamps, all channels together, those of one stamp in the file's order. --signals
+DICTIONARY shows the values of signals behind the data words (bench signals --help); --only then takes signal NAME too.
+--json shows each line as an object whose keys are the words of the line.
 
   SELECTOR  any, rx A S, tx A S, rt A S A S (sender first), mode A C, brx S, brt A S S (sender first), bmode C
             address A, subaddress S, mode code C: a number, or * for any
@@ -72,6 +73,11 @@ pub fn command<'a>(alloc: Global) -> Result<Command<'a>, AllocError> {
             "Shows each message as people read it, on one line",
         ),
         flag("by-time", by_time),
+        file(
+            "signals",
+            "With --decode: the dictionary of signals to show behind data words",
+        )
+        .only_with("decode"),
     ];
     let selection = selection_options();
     command_of(alloc, "dump", about, NOTES, &[&rows, &selection])

@@ -5,16 +5,21 @@ use bench_json::{Form, JsonLines};
 use bench_names::ChannelNames;
 use bench_requests::Fault;
 use bench_select::Selection;
+use bench_signals::{SignalFigures, count_signals, print_signals};
 use bench_stat::{
     ChannelFigures, KindFigures, Shown, ToldChannels, print_kinds, print_page, print_tables,
     read_kinds, stat, told_channels,
 };
 use clap::{ArgMatches, Command};
+use command_parts::dictionaries::{selection_by, signals_in};
 use command_parts::looking::{tell_of_loss, tell_of_unknown, tell_of_unread};
-use command_parts::options::{argument, choice, command_of, flag, json, time_channel};
+use command_parts::options::{argument, choice, command_of, file, flag, json, time_channel};
 use command_parts::recordings::{Recording, Source, Times};
-use command_parts::selecting::{GivenSelection, given_selection, selection_in, selection_options};
+use command_parts::selecting::{
+    GivenSelection, given_selection, judge_selection, selection_options,
+};
 use command_parts::streams::{listing, on_stream, printed, unless_refused};
+use signal_dictionary::Signal;
 use std::alloc::{AllocError, Global};
 use std::io;
 use std::io::{BufWriter, IsTerminal, Write};
@@ -31,6 +36,9 @@ With --time a line behind the span tells the times of day (UTC) of the channel's
 --time has them; a channel for which neither its stamps nor the recording's time packets tell them has no such line.
 With --csv each row of a terminal or a subaddress ends with the two times of its channel, in columns first_time and
 last_time. With --json each row is an object.
+
+--signals DICTIONARY tells behind all that, for each signal in each channel that has it, its messages, its changes, and
+its least, greatest, first and last value with their times (bench signals --help); --only then takes signal NAME too.
 
 Example:
   bench stat flight.ch11
@@ -51,6 +59,10 @@ pub fn command<'a>(alloc: Global) -> Result<Command<'a>, AllocError> {
         flag("load", "Shows the bus load over time, in twenty slices"),
         flag("time", time),
         time_channel().only_with("time"),
+        file(
+            "signals",
+            "Shows the figures of the signals of this dictionary too",
+        ),
     ];
     let arguments = [argument("RECORDING", "The Chapter 11 file to count in")];
     let selection = selection_options();
@@ -78,9 +90,18 @@ pub struct Request<'a> {
     pub shown: Shown,
     /// The channel whose time packets tell times of day; all where none is named.
     pub time_channel: Option<u16>,
+    /// The file of a dictionary whose signals are counted, if any.
+    pub signals: Option<&'a str>,
 }
 
-impl Request<'_> {
+impl<'a> Request<'a> {
+    /// The signals of the dictionary, none where no dictionary is named. A usage fault of the words comes before its
+    /// own.
+    fn dictionary<R: Files + AllocGlobal>(&self, rt: &R) -> Result<Vec<Signal>, Fault<'a>> {
+        judge_selection(&self.selection)?;
+        signals_in(rt, self.signals)
+    }
+
     /// The times of day that are asked for.
     fn times(&self) -> Times {
         Times {
@@ -104,6 +125,7 @@ pub fn request_in<'a>(given: &ArgMatches<'a>) -> Request<'a> {
             time: given.get_flag("time"),
         },
         time_channel: given.get_one::<u16>("time-channel"),
+        signals: given.get_str("signals"),
     }
 }
 
@@ -115,16 +137,17 @@ pub fn run<'a, R: Files + AllocGlobal + Print + Clock, E: Eprint + IsTerminal>(
     errors: &E,
     request: &Request<'a>,
 ) -> Result<(), Fault<'a>> {
-    let selection = selection_in(&request.selection)?;
+    let signals = request.dictionary(rt)?;
+    let selection = selection_by(&request.selection, request.signals, signals.as_slice())?;
     let source = Source::of(rt, errors, request.recording)?;
     let recording = source.recording(false, true);
     let stamps = recording.stamps(true)?;
     let selection = selection.counting_from(stamps.origins.as_slice());
-    let counted = count(&recording, request, &selection);
+    let counted = count(&recording, request, &selection, signals.as_slice());
     source.end();
     tell_of_unknown(errors, request.recording, &stamps);
     let counted = counted?;
-    print_counted(rt, &counted, request)?;
+    print_counted(rt, &counted, request, signals.as_slice())?;
     tell_of_unread(errors, request.recording, counted.times.unread);
     tell_of_loss(errors, &recording);
     Ok(())
@@ -138,6 +161,7 @@ struct Counted {
     times: ReadClock,
     front: Vec<u8>,
     kinds: Vec<KindFigures>,
+    signals: Vec<SignalFigures>,
 }
 
 /// The figures of a recording, and in further passes times of day and what more is shown.
@@ -145,6 +169,7 @@ fn count<'a, R: Files + AllocGlobal + Clock, E: Eprint + IsTerminal>(
     recording: &Recording<'_, 'a, R, E>,
     request: &Request<'a>,
     selection: &Selection,
+    signals: &[Signal],
 ) -> Result<Counted, Fault<'a>> {
     let bytes = recording.begin_reading()?;
     let figures = recording.answer(stat(recording.alloc(), bytes, selection))?;
@@ -154,13 +179,30 @@ fn count<'a, R: Files + AllocGlobal + Clock, E: Eprint + IsTerminal>(
     let times = recording.clock(request.times())?;
     let told = told_of(recording, request, selection, figures.as_slice())?;
     let kinds = kinds_of(recording, request)?;
+    let signals = signals_of(recording, request, selection, signals)?;
     Ok(Counted {
         figures,
         told,
         times,
         front: recording.front()?,
         kinds,
+        signals,
     })
+}
+
+/// The figures of signals, where a dictionary is named.
+fn signals_of<'a, R: Files + AllocGlobal + Clock, E: Eprint + IsTerminal>(
+    recording: &Recording<'_, 'a, R, E>,
+    request: &Request<'a>,
+    selection: &Selection,
+    signals: &[Signal],
+) -> Result<Vec<SignalFigures>, Fault<'a>> {
+    if request.signals.is_none() {
+        return Ok(Vec::new(recording.alloc()));
+    }
+    let bytes = recording.begin_reading()?;
+    let alloc = recording.alloc();
+    recording.answer(count_signals(alloc, bytes, selection, signals))
 }
 
 /// What more is shown of a recording.
@@ -201,16 +243,33 @@ fn print_counted<'a, R: AllocGlobal + Print>(
     rt: &R,
     counted: &Counted,
     request: &Request<'a>,
+    signals: &[Signal],
 ) -> Result<(), Fault<'a>> {
     if request.json {
         let out = on_stream("-", BufWriter::new(rt.alloc(), listing(rt)))?;
         let mut lines = JsonLines::over(rt.alloc(), Form::Tables, out);
-        let answer = print_figures(&mut lines, counted, request);
+        let answer = print_all(rt.alloc(), &mut lines, counted, request, signals);
         return unless_refused(lines.is_refused(), printed(answer, &mut lines));
     }
     let mut out = on_stream("-", BufWriter::new(rt.alloc(), listing(rt)))?;
-    let answer = print_figures(&mut out, counted, request);
+    let answer = print_all(rt.alloc(), &mut out, counted, request, signals);
     printed(answer, &mut out)
+}
+
+/// Prints figures, and behind them those of signals where a dictionary is named.
+fn print_all<W: Write>(
+    alloc: Global,
+    out: &mut W,
+    counted: &Counted,
+    request: &Request<'_>,
+    signals: &[Signal],
+) -> Result<(), WriteFault> {
+    print_figures(out, counted, request)?;
+    if request.signals.is_some() {
+        let figures = counted.signals.as_slice();
+        print_signals(alloc, out, signals, figures, request.rows)?;
+    }
+    Ok(())
 }
 
 /// Prints figures, and what is told beside them, as rows or as a page.

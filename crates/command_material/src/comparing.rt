@@ -7,7 +7,7 @@ use bench_compare::{
 };
 use bench_files::Kind;
 use bench_requests::{Fault, write_new};
-use bench_select::Selection;
+use bench_select::{Selection, Stamps};
 use ch11_stream::StreamFault;
 use clap::{ArgMatches, Command};
 use command_parts::hosts::System;
@@ -95,10 +95,7 @@ pub fn run<'a, R: System, E: Eprint + IsTerminal>(
     errors: &E,
     request: &Request<'a>,
 ) -> Result<(), Fault<'a>> {
-    let selection = selection_in(&request.selection)?;
-    if request.within > MOST_TICKS {
-        return Err(Fault::Usage("--within takes 0 to 1000000 ticks of 0.1 us"));
-    }
+    judge_options(request)?;
     if let Some(junit) = request.junit {
         let read = [request.first, request.second];
         may_write(rt, junit, Kind::Verdicts, request.force, &read)?;
@@ -106,7 +103,7 @@ pub fn run<'a, R: System, E: Eprint + IsTerminal>(
     let first = Source::of(rt, errors, request.first)?;
     let second = Source::of(rt, errors, request.second)?;
     let (one, other) = (first.recording(false, true), second.recording(false, true));
-    let compared = compare_recordings(errors, request, &one, &other, &selection);
+    let compared = compare_recordings(errors, request, &one, &other);
     first.end();
     second.end();
     let compared = compared?;
@@ -121,26 +118,44 @@ pub fn run<'a, R: System, E: Eprint + IsTerminal>(
     Ok(())
 }
 
+/// Refuses a selection that its options don't spell, and more ticks than there may be.
+fn judge_options<'a>(request: &Request<'a>) -> Result<(), Fault<'a>> {
+    selection_in(&request.selection)?;
+    if request.within > MOST_TICKS {
+        return Err(Fault::Usage("--within takes 0 to 1000000 ticks of 0.1 us"));
+    }
+    Ok(())
+}
+
 /// Compares two recordings.
 fn compare_recordings<'s, 'f, 'a, R: Files + AllocGlobal + Clock, E: Eprint + IsTerminal>(
     errors: &E,
     request: &Request<'a>,
     first: &'s Recording<'f, 'a, R, E>,
     second: &'s Recording<'f, 'a, R, E>,
-    selection: &Selection,
 ) -> Result<Vec<Compared>, Fault<'a>> {
-    let one = first.stamps(selection.is_timed())?;
-    let other = second.stamps(selection.is_timed())?;
+    let timed = selection_in(&request.selection)?.is_timed();
+    let one = first.stamps(timed)?;
+    let other = second.stamps(timed)?;
     tell_of_unknown(errors, request.first, &one);
     tell_of_unknown(errors, request.second, &other);
-    let of_first = selection.counting_from(one.origins.as_slice());
-    let of_second = selection.counting_from(other.origins.as_slice());
+    let of_first = selection_from(request, &one)?;
+    let of_second = selection_from(request, &other)?;
     let within = u64::from(request.within);
     match compare_chosen(first, second, of_first, of_second, within) {
         Ok(compared) => Ok(compared),
         Err(CompareFault::First(fault)) => Err(fault_of_side(request.first, fault)),
         Err(CompareFault::Second(fault)) => Err(fault_of_side(request.second, fault)),
     }
+}
+
+/// The selection that is asked for, whose times count from these stamps.
+fn selection_from<'s, 'a>(
+    request: &Request<'a>,
+    stamps: &'s Stamps,
+) -> Result<Selection<'s>, Fault<'a>> {
+    let selection = selection_in(&request.selection)?;
+    Ok(selection.counting_from(stamps.origins.as_slice()))
 }
 
 /// Compares what is chosen of two recordings.

@@ -11,7 +11,7 @@ use command_parts::looking::tell_of_unknown;
 use command_parts::options::{command_of, flag};
 use command_parts::recordings::{Recording, Source, fault_of_reading};
 use command_parts::replacing::{begin_to_write, is_replaced, put_or_give_up};
-use command_parts::selecting::selection_options;
+use command_parts::selecting::{selection_in, selection_options};
 use command_parts::streams::on_stream;
 use std::alloc::{AllocError, Global};
 use std::io::{self, BufWriter, IsTerminal, Write};
@@ -66,7 +66,8 @@ pub fn run<'a, R: Files<File: Hold> + AllocGlobal + Clock, E: Eprint + IsTermina
     errors: &E,
     request: &Request<'a>,
 ) -> Result<(), Fault<'a>> {
-    let selection = request.extract.judge(rt, Kind::Recording)?;
+    let _no_signals = request.extract.judge(rt, Kind::Recording, None)?;
+    let selection = selection_in(&request.extract.selection)?;
     let source = Source::of(rt, errors, request.extract.recording)?;
     let recording = source.recording(request.skip, false);
     let stamps = recording.stamps(selection.is_timed())?;

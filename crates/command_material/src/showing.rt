@@ -117,8 +117,8 @@ fn is_shown(line: &[u8], place: usize) -> bool {
     }
 }
 
-/// Whether a place of two lines is marked. Numbers in the file do not count, and times are marked, all of them, where it
-/// is their distances from the first of the channel that differ; of the rest each byte that differs.
+/// Whether a place of two lines is marked. Numbers in the file do not count, and times are marked, all of them, where
+/// it is their distances from the first of the channel that differ; of the rest each byte that differs.
 fn is_marked(part: Part, first: &[u8], second: &[u8], place: usize) -> bool {
     if place < NUMBER {
         return false;

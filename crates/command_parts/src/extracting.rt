@@ -1,12 +1,13 @@
 //! Messages of a recording that are written to a file of another kind, as `bench export` and `bench draw` do.
 
+use crate::dictionaries::signals_in;
 use crate::options::{Row, argument, file, force};
 use crate::replacing::may_write;
-use crate::selecting::{GivenSelection, given_selection, selection_in};
+use crate::selecting::{GivenSelection, given_selection, judge_selection};
 use bench_files::Kind;
 use bench_requests::Fault;
-use bench_select::Selection;
 use clap::ArgMatches;
+use signal_dictionary::Signal;
 use std::rt::Files;
 
 /// Which messages are written, and where to.
@@ -43,15 +44,18 @@ impl<'a> Extract<'a> {
         }
     }
 
-    /// The selection that is asked for. Its fault comes before that of an out file that is not to be replaced by one of
-    /// this kind, or that is the recording itself.
+    /// The signals of the dictionary in this file, none where none is named. A usage fault of the selection, and that
+    /// of an out file that is not to be replaced by one of this kind, or is one of those that are read, come before its
+    /// own.
     pub fn judge<R: Files + AllocGlobal>(
         &self,
         rt: &R,
         kind: Kind,
-    ) -> Result<Selection<'static>, Fault<'a>> {
-        let selection = selection_in(&self.selection)?;
-        may_write(rt, self.out, kind, self.force, &[self.recording])?;
-        Ok(selection)
+        dictionary: Option<&'a str>,
+    ) -> Result<Vec<Signal>, Fault<'a>> {
+        judge_selection(&self.selection)?;
+        let read = [self.recording, dictionary.unwrap_or(self.recording)];
+        may_write(rt, self.out, kind, self.force, &read)?;
+        signals_in(rt, dictionary)
     }
 }

@@ -2,11 +2,12 @@
 //! pass by pass, files that take their place once they are whole, and where they print.
 //!
 //! It may know: words, requests, files, the packets of a stream with `ch11_check`, times, watched files, rules,
-//! selections, words of a text. It has no tests: each command is tried by `.ci/commands`, and its faults by
-//! `.ci/faults`. It has no wrong bodies.
+//! dictionaries of signals, selections, words of a text. It has no tests: each command is tried by `.ci/commands`, and
+//! its faults by `.ci/faults`. It has no wrong bodies.
 #![tactic(auto)]
 
 pub mod context;
+pub mod dictionaries;
 pub mod extracting;
 pub mod hosts;
 pub mod looking;

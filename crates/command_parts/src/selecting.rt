@@ -6,6 +6,8 @@ use bench_select::{Bound, Selection, read_bound};
 use clap::ArgMatches;
 use judge_rules::{RuleFault, Selector, selector_of};
 use mil_word::Line;
+use signal_dictionary::Signal;
+use text_lines::Words;
 
 /// What a command line says of a selection.
 #[derive(Clone, Copy, Debug)]
@@ -82,6 +84,55 @@ pub fn given_selection<'a>(given: &ArgMatches<'a>) -> GivenSelection<'a> {
 
 /// The selection that a command line asks for, or the usage fault of an option that spells none.
 pub fn selection_in<'a>(given: &GivenSelection<'a>) -> Result<Selection<'static>, Fault<'a>> {
+    match only_in(given.only)? {
+        Only::Any => selection_of(given, None, None),
+        Only::Commands(selector) => selection_of(given, Some(selector), None),
+        Only::Signal(_) => Err(Fault::Usage(
+            "--only signal NAME asks for a signal of a dictionary, and there is none",
+        )),
+    }
+}
+
+/// The same of a command that has a dictionary: a signal that is asked for is one of its own.
+pub fn selection_among<'a, 's>(
+    given: &GivenSelection<'a>,
+    signals: &'s [Signal],
+) -> Result<Selection<'s>, Fault<'a>> {
+    match only_in(given.only)? {
+        Only::Any => selection_of(given, None, None),
+        Only::Commands(selector) => selection_of(given, Some(selector), None),
+        Only::Signal(name) => match signal_named(signals, name) {
+            Some(signal) => selection_of(given, None, Some(signal)),
+            None => Err(Fault::Usage(
+                "--only signal NAME asks for a signal that the dictionary does not have",
+            )),
+        },
+    }
+}
+
+/// The usage fault of an option of a selection, wherever its signal is looked for.
+pub fn judge_selection<'a>(given: &GivenSelection<'a>) -> Result<(), Fault<'a>> {
+    only_in(given.only)?;
+    let _selection = selection_of(given, None, None)?;
+    Ok(())
+}
+
+/// The signal of this name, if there is one.
+fn signal_named<'s>(signals: &'s [Signal], name: &[u8]) -> Option<&'s Signal> {
+    for signal in signals {
+        if signal.name.bytes.as_slice() == name {
+            return Some(signal);
+        }
+    }
+    None
+}
+
+/// The selection with this selector and this signal.
+fn selection_of<'a, 's>(
+    given: &GivenSelection<'a>,
+    selector: Option<Selector>,
+    signal: Option<&'s Signal>,
+) -> Result<Selection<'s>, Fault<'a>> {
     Ok(Selection {
         channel: given.channel,
         line: match given.line {
@@ -89,7 +140,8 @@ pub fn selection_in<'a>(given: &GivenSelection<'a>) -> Result<Selection<'static>
             Some(_) => Some(Line::B),
             None => None,
         },
-        selector: selector_in(given.only)?,
+        selector,
+        signal,
         errors: given.errors,
         from: bound_in(
             given.from,
@@ -114,13 +166,36 @@ fn bound_in<'a>(text: Option<&'a str>, fault: &'static str) -> Result<Option<Bou
     }
 }
 
-/// The selector that an option spells, if it is given.
-fn selector_in<'a>(text: Option<&'a str>) -> Result<Option<Selector>, Fault<'a>> {
+/// What messages an option chooses by what they are.
+#[derive(Clone, Copy)]
+enum Only<'a> {
+    /// All.
+    Any,
+    /// Those of these commands.
+    Commands(Selector),
+    /// Those that have the signal of this name.
+    Signal(&'a [u8]),
+}
+
+/// What the option spells, if it is given.
+fn only_in<'a>(text: Option<&'a str>) -> Result<Only<'a>, Fault<'a>> {
     let Some(text) = text else {
-        return Ok(None);
+        return Ok(Only::Any);
     };
+    let mut words = Words::of(text.as_bytes());
+    if !words.takes(b"signal") {
+        return selector_in(text);
+    }
+    match (words.next(), words.next()) {
+        (Some(name), None) => Ok(Only::Signal(name)),
+        _ => Err(Fault::Usage("--only signal takes one name of a dictionary")),
+    }
+}
+
+/// The selector that a text spells.
+fn selector_in<'a>(text: &str) -> Result<Only<'a>, Fault<'a>> {
     match selector_of(text.as_bytes()) {
-        Ok(selector) => Ok(Some(selector)),
+        Ok(selector) => Ok(Only::Commands(selector)),
         Err(RuleFault::Number) => Err(Fault::Usage(
             "--only takes a selector of rules, as \"tx 5 3\" or \"mode * 2\", with a number or * in each place",
         )),

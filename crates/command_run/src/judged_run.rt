@@ -4,10 +4,13 @@ use bench_files::leads_to_output;
 use bench_judge::{PassFault, RuleVerdict, write_verdicts};
 use bench_requests::{Fault, RunRequest, read_whole, rules_of, verdict_on};
 use command_judge::judging::{Spelled, fault_of_pass, print_verdicts};
+use command_judge::signal_judging::{AllSpelled, print_all_verdicts, rules_among};
 use command_parts::hosts::System;
-use command_parts::options::{Row, value};
+use command_parts::options::{Row, file, value};
 use command_parts::recordings::{Recording, Source};
 use judge_rules::Rule;
+use signal_dictionary::Signal;
+use signal_judge::{AllRules, write_all_verdicts};
 use std::fs;
 use std::io::{self, BufWriter, IsTerminal, Write};
 use std::os::unix::fs::FileTypeExt;
@@ -15,9 +18,16 @@ use std::rt::{Clock, Files};
 
 /// The rules of a run, and the text that spells them.
 #[derive(Drop)]
-pub(crate) struct RunRules {
+pub(crate) struct RunRules<'d> {
     text: Vec<u8>,
-    rules: Vec<Rule>,
+    rules: Rules<'d>,
+}
+
+/// Rules about messages alone, or those that may name signals.
+#[derive(Drop)]
+enum Rules<'d> {
+    Plain(Vec<Rule>),
+    All(AllRules<'d>),
 }
 
 /// The option that names the rules of a run.
@@ -27,6 +37,15 @@ pub(crate) fn judge_option<'a>() -> Row<'a> {
         "RULES",
         "The rules to judge the recording by once it is whole; status 5 where one is not held",
     )
+}
+
+/// The option that names the dictionary of the signals that these rules may name.
+pub(crate) fn signals_option<'a>() -> Row<'a> {
+    file(
+        "signals",
+        "With --judge: the dictionary of signals that rules may name as a selector",
+    )
+    .only_with("judge")
 }
 
 /// Whether a recording of this name can be read back: one that goes to a pipe or a device is gone, and one that goes
@@ -44,21 +63,31 @@ fn is_kept<R: Files>(rt: &R, name: &str) -> bool {
     }
 }
 
-/// The rules that a run is to be judged by, if any. A recording that cannot be read back is a usage fault then.
-pub(crate) fn rules_of_run<'a, R: Files + AllocGlobal>(
-    rt: &R,
-    request: &RunRequest<'a>,
-) -> Result<Option<RunRules>, Fault<'a>> {
-    let Some(name) = request.judge else {
-        return Ok(None);
-    };
-    if !is_kept(rt, request.out) {
+/// That a run that is judged records into a file that can be read back; else a usage fault.
+pub(crate) fn judge_kept<'a, R: Files>(rt: &R, request: &RunRequest<'a>) -> Result<(), Fault<'a>> {
+    if request.judge.is_some() && !is_kept(rt, request.out) {
         return Err(Fault::Usage(
             "--judge reads the recording back: --out has to be a file, and no pipe, device or standard output",
         ));
     }
+    Ok(())
+}
+
+/// The rules that a run is to be judged by, if any, which may name these signals where a dictionary is named.
+pub(crate) fn rules_of_run<'a, 'd, R: Files + AllocGlobal>(
+    rt: &R,
+    request: &RunRequest<'a>,
+    signals: &'d [Signal],
+) -> Result<Option<RunRules<'d>>, Fault<'a>> {
+    let Some(name) = request.judge else {
+        return Ok(None);
+    };
     let text = read_whole(rt, name)?;
-    let rules = rules_of(rt.alloc(), text.as_slice())?;
+    let rules = if request.signals.is_some() {
+        Rules::All(rules_among(rt.alloc(), text.as_slice(), signals)?)
+    } else {
+        Rules::Plain(rules_of(rt.alloc(), text.as_slice())?)
+    };
     Ok(Some(RunRules { text, rules }))
 }
 
@@ -85,11 +114,21 @@ impl<E: Eprint> Write for ErrorStream<'_, E> {
 fn tell_verdicts<R: Files + AllocGlobal + Clock, E: Eprint + IsTerminal>(
     errors: &E,
     recording: &Recording<'_, '_, R, E>,
-    rules: &[Rule],
+    rules: &Rules<'_>,
 ) -> Result<Vec<RuleVerdict>, PassFault> {
     let alloc = recording.alloc();
     let mut out = BufWriter::new(alloc, ErrorStream { errors })?;
-    write_verdicts(alloc, recording, rules, &[], &[], &mut out)
+    // the stamps of a run are ticks of the recorder's counter
+    let origins: &[Option<u64>] = &[];
+    match rules {
+        Rules::Plain(rules) => {
+            write_verdicts(alloc, recording, rules.as_slice(), origins, &[], &mut out)
+        }
+        Rules::All(rules) => {
+            let verdicts = write_all_verdicts(alloc, recording, rules, origins, &[], &mut out)?;
+            Ok(verdicts.in_order(alloc)?)
+        }
+    }
 }
 
 /// Judges what a run recorded, and prints the verdicts where its counts went. Where a rule is not held it ends with a
@@ -98,7 +137,7 @@ pub(crate) fn judge_run<'a, R: System, E: Eprint + IsTerminal>(
     rt: &R,
     errors: &E,
     request: &RunRequest<'a>,
-    given: &RunRules,
+    given: &RunRules<'_>,
 ) -> Result<(), Fault<'a>> {
     let source = Source::of(rt, errors, request.out)?;
     let judged = judge_recorded(rt, errors, request, given, &source.recording(false, true));
@@ -111,24 +150,47 @@ fn judge_recorded<'a, R: System, E: Eprint + IsTerminal>(
     rt: &R,
     errors: &E,
     request: &RunRequest<'a>,
-    given: &RunRules,
+    given: &RunRules<'_>,
     recording: &Recording<'_, 'a, R, E>,
 ) -> Result<Vec<RuleVerdict>, Fault<'a>> {
-    let rules = given.rules.as_slice();
     if !leads_to_output(rt, request.report) {
-        let text = given.text.as_slice();
-        let spelled = Spelled {
-            file: request.judge.unwrap_or(""),
-            text,
-            rules,
-            // the stamps of a run are ticks of the recorder's counter
-            origins: &[],
-            skips: &[],
-        };
-        return print_verdicts(rt, request.out, recording, spelled);
+        return print_judged(rt, request, given, recording);
     }
-    match tell_verdicts(errors, recording, rules) {
+    match tell_verdicts(errors, recording, &given.rules) {
         Ok(verdicts) => Ok(verdicts),
         Err(fault) => Err(fault_of_pass(request.out, fault)),
+    }
+}
+
+/// The verdicts on what a run recorded, which are printed to the standard output.
+fn print_judged<'a, R: System, E: Eprint + IsTerminal>(
+    rt: &R,
+    request: &RunRequest<'a>,
+    given: &RunRules<'_>,
+    recording: &Recording<'_, 'a, R, E>,
+) -> Result<Vec<RuleVerdict>, Fault<'a>> {
+    // the stamps of a run are ticks of the recorder's counter
+    let origins: &[Option<u64>] = &[];
+    let text = given.text.as_slice();
+    match &given.rules {
+        Rules::Plain(rules) => {
+            let spelled = Spelled {
+                file: request.judge.unwrap_or(""),
+                text,
+                rules: rules.as_slice(),
+                origins,
+                skips: &[],
+            };
+            print_verdicts(rt, request.out, recording, spelled)
+        }
+        Rules::All(rules) => {
+            let spelled = AllSpelled {
+                text,
+                rules,
+                origins,
+                skips: &[],
+            };
+            print_all_verdicts(rt, request.out, recording, spelled)
+        }
     }
 }

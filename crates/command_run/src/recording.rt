@@ -1,7 +1,7 @@
 //! `bench run`: jobs recorded into a file, and their report beside it.
 
 use crate::completed_run::{Completing, additions_in, record_completed, setup_in, start_in};
-use crate::judged_run::{judge_run, rules_of_run};
+use crate::judged_run::{judge_kept, judge_run, rules_of_run};
 use crate::live_run::{Going, Run, begin_showing, end_showing, record, way_of, with_posts};
 use crate::run_line::Request;
 use crate::strict_run::tell_mistakes;
@@ -18,6 +18,7 @@ use bench_settings::judge;
 use ch11_writer::StdSink;
 use command_export::completing::setup_text;
 use command_judge::checking::strict_verdict;
+use command_parts::dictionaries::signals_in;
 use command_parts::hosts::{Errors, Host};
 use command_parts::streams::{Printable, on_stream, print_to_output};
 use std::alloc::{AllocError, Global};
@@ -28,10 +29,10 @@ use std::rt::Files;
 /// Records the jobs into the out file; once that is whole, writes the report and prints how much was recorded. Before
 /// anything else the files that are written are told apart from one another and from those that are read. Then all
 /// files are read before the first of them is judged. Recording and report take the place of what is there together,
-/// once both are whole; jobs and settings are judged behind whether they can be written. Rules are read and judged
-/// before all that; the recording is judged by them behind its counts. Where that is asked for, the complete file of
-/// the recording stands in its place. Behind the counts it is also said what is probably a mistake in the jobs, where
-/// that is asked for: a fault of its own then, behind all others.
+/// once both are whole; jobs and settings are judged behind whether they can be written. A dictionary of signals and
+/// rules are read and judged before all that; the recording is judged by them behind its counts. Where that is asked
+/// for, the complete file of the recording stands in its place. Behind the counts it is also said what is probably a
+/// mistake in the jobs, where that is asked for: a fault of its own then, behind all others.
 pub fn run<'a, R: Host, E: Errors>(rt: &R, errors: &E, asked: &Request<'a>) -> Result<(), Fault<'a>>
 where
     R::Reader: 'static,
@@ -45,7 +46,9 @@ where
         &files_read(rt.alloc(), request, completing)?,
     )?;
     RunFiles::judge(rt, request)?;
-    let rules = rules_of_run(rt, request)?;
+    judge_kept(rt, request)?;
+    let signals = signals_in(rt, request.signals)?;
+    let rules = rules_of_run(rt, request, signals.as_slice())?;
     let prologue = match request.prologue {
         Some(name) => read_whole(rt, name)?,
         None => Vec::new(rt.alloc()),
@@ -214,6 +217,9 @@ fn files_read<'a>(
     }
     if let Some(rules) = request.judge {
         names.push(rules)?;
+    }
+    if let Some(dictionary) = request.signals {
+        names.push(dictionary)?;
     }
     if let Some(setup) = setup_in(completing) {
         names.push(setup)?;

@@ -1,7 +1,7 @@
 //! The command line of `bench run`.
 
 use crate::completed_run::{Completing, completing_in, completing_options};
-use crate::judged_run::judge_option;
+use crate::judged_run::{judge_option, signals_option};
 use crate::live_run::{Going, going_in, going_options};
 use crate::strict_run::strict_option;
 use bench_requests::RunRequest;
@@ -30,6 +30,7 @@ out there, and how many were is told, but the run waits for nothing.
 
 With --judge the recording is read back behind the counts and judged by rules, as bench judge does: status 5 where
 one is not held. Recording and report are kept either way. The rules are read first: a fault of theirs costs no run.
+With --signals DICTIONARY rules may name signals, as those of bench judge --signals.
 
 With --strict what is probably a mistake in the jobs, as bench check --strict finds it, is said on standard error
 behind the counts: status 5 where there is anything. Recording and report are kept either way.
@@ -71,13 +72,14 @@ fn setting_options<'a>() -> [Row<'a>; 5] {
 }
 
 /// The files of a run but its jobs.
-fn file_options<'a>() -> [Row<'a>; 6] {
+fn file_options<'a>() -> [Row<'a>; 7] {
     let prologue =
         "Packets to put in front of all others, such as a setup record (TMATS); none of MIL-STD-1553 messages";
     let report = "The file to write the report to; it is written only where the recording is whole";
     [
         file("prologue", prologue),
         judge_option(),
+        signals_option(),
         strict_option(),
         file("out", "The file to write the recording to").required(),
         file("report", report).required(),
@@ -116,6 +118,7 @@ fn run_in<'a>(alloc: Global, given: &ArgMatches<'a>) -> Result<RunRequest<'a>, A
         strict: given.get_flag("strict"),
         prologue: given.get_str("prologue"),
         judge: given.get_str("judge"),
+        signals: given.get_str("signals"),
         out: given.get_str("out").unwrap_or(""),
         report: given.get_str("report").unwrap_or(""),
         jobs: words_in(alloc, given, "JOB")?,

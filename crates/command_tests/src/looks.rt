@@ -1,6 +1,6 @@
 //! The commands for people who look: `bench_stat`, `bench_export`, `bench_draw`, `bench_explain`, `bench_judge`,
-//! `bench_complete`, `bench_cut`, `bench_compare` and `bench_decode`, and with them `bench_select`, `judge_rules` and
-//! `ch11_layout`.
+//! `bench_complete`, `bench_cut`, `bench_compare`, `bench_decode` and `bench_signals`, and with them `bench_select`,
+//! `judge_rules`, `signal_dictionary` and `ch11_layout`.
 
 mod comparisons;
 mod completions;
@@ -19,6 +19,7 @@ mod planned;
 mod seconds;
 mod selections;
 mod senders;
+mod signals;
 mod statistics;
 mod verdicts;
 mod waves;

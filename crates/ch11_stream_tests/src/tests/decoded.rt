@@ -29,6 +29,7 @@ fn output_of(errors: bool, decoded: bool) -> Output<'static> {
         decoded,
         shown: Shown::Plain,
         skip: false,
+        signals: &[],
     }
 }
 

@@ -27,13 +27,20 @@ fn drawn(
     selection: &Selection,
 ) -> Result<Drawing, DrawFault> {
     let clock = Clock::unset(alloc);
-    draw(alloc, recording, selection, &clock, &ChannelNames::of(&[]))
+    draw(
+        alloc,
+        recording,
+        selection,
+        &clock,
+        &ChannelNames::of(&[]),
+        &[],
+    )
 }
 
 /// The picture of a file in memory.
 fn whole(rt: &impl Abort, alloc: Global, file: &[u8], selection: &Selection) -> Drawing {
     let clock = Clock::unset(alloc);
-    draw(alloc, &file, selection, &clock, &ChannelNames::of(&[]))
+    draw(alloc, &file, selection, &clock, &ChannelNames::of(&[]), &[])
         .ok()
         .expect(rt, "a picture")
 }

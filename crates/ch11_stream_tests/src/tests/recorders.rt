@@ -205,6 +205,7 @@ fn messages_are_read_among_all_others(rt: HostRuntime) {
         decoded: true,
         shown: Shown::Plain,
         skip: false,
+        signals: &[],
     };
     let mut out = Vec::new(alloc);
     same(

@@ -146,6 +146,7 @@ fn chosen(rt: &impl Abort, alloc: Global, from: u64, to: u64, wanted: &str) {
         decoded: false,
         shown: Shown::Plain,
         skip: false,
+        signals: &[],
     };
     let mut out = Vec::new(alloc);
     let count = decode(alloc, reader_of(&days(), 7), &mut out, &output);
@@ -188,6 +189,7 @@ fn lines_have_times_in_seconds(rt: HostRuntime) {
         decoded: true,
         shown: Shown::Plain,
         skip: false,
+        signals: &[],
     };
     let mut out = Vec::new(alloc);
     let count = decode(alloc, reader_of(&days(), 7), &mut out, &output);

@@ -257,41 +257,49 @@ probably a mistake:
 queue 2: with room for so many nothing of this job is refused
 ";
 
+/// How a job is checked; no signals are shown.
+#[derive(Clone, Copy)]
+pub(crate) struct Checked {
+    summary: bool,
+    strict: bool,
+    bits: Bits,
+}
+
 /// Messages one by one, with status words as digits, or with the names of their bits.
-pub(crate) const DIGITS: Way = Way {
+pub(crate) const DIGITS: Checked = Checked {
     summary: false,
     strict: false,
     bits: Bits::Digits,
 };
 
-const NAMES: Way = Way {
+const NAMES: Checked = Checked {
     summary: false,
     strict: false,
     bits: Bits::Names,
 };
 
 /// A summary.
-const SUMMARY: Way = Way {
+const SUMMARY: Checked = Checked {
     summary: true,
     strict: false,
     bits: Bits::Digits,
 };
 
 /// All that is looked for, with the messages or with a summary.
-const STRICT: Way = Way {
+const STRICT: Checked = Checked {
     summary: false,
     strict: true,
     bits: Bits::Digits,
 };
 
-const STRICT_SUMMARY: Way = Way {
+const STRICT_SUMMARY: Checked = Checked {
     summary: true,
     strict: true,
     bits: Bits::Digits,
 };
 
 /// A job, how it is checked, what is printed, how much room it needs and whether anything is probably a mistake.
-pub(crate) type Row = (&'static str, Way, &'static str, u64, bool);
+pub(crate) type Row = (&'static str, Checked, &'static str, u64, bool);
 
 const ROWS: [Row; 9] = [
     (MISTAKEN, DIGITS, MISTAKES, 3, true),
@@ -318,10 +326,16 @@ const STRICT_ROWS: [Row; 7] = [
 
 /// What the job of a row comes to.
 pub(crate) fn comes_to(rt: &impl Abort, alloc: Global, row: &Row) {
-    let (text, way, wanted, room, is_suspicious) = row;
+    let (text, asked, wanted, room, is_suspicious) = row;
+    let way = Way {
+        summary: asked.summary,
+        strict: asked.strict,
+        bits: asked.bits,
+        signals: &[],
+    };
     let job = job_of(rt, alloc, text);
     let mut out = Vec::new(alloc);
-    let checked = check_job(alloc, &job, text.as_bytes(), *way, &mut out)
+    let checked = check_job(alloc, &job, text.as_bytes(), way, &mut out)
         .ok()
         .expect(rt, "a check");
     assert_eq!(rt; out.as_slice(), wanted.as_bytes());

@@ -283,6 +283,7 @@ fn printed(selection: Selection<'_>, decoded: bool) -> Output<'_> {
         decoded,
         shown: Shown::Plain,
         skip: false,
+        signals: &[],
     }
 }
 

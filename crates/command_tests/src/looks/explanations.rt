@@ -3,14 +3,14 @@ use crate::looks::equal::{reads, same_in};
 use bench_explain::{explain, groups, print_explanation, print_list};
 
 /// Every code that a crate below prints, and the words that stand for one.
-const CODES: [&str; 95] = [
+const CODES: [&str; 99] = [
     "S1", "S2", "S3", "S4", "S5", "S6", "S7", "S8", "S9", "S10", "S11", "M1", "M2", "M3", "M4",
     "M5", "A1", "A2", "A3", "P1", "P2", "P3", "P4", "P5", "P6", "P7", "P8", "C1", "C2", "C3", "C4",
     "C5", "C6", "J1", "J2", "J3", "J4", "J5", "J6", "J7", "J8", "J9", "H1", "H2", "H3", "L1", "L2",
     "L3", "K1", "K2", "K3", "K4", "K5", "N1", "N2", "F1", "F2", "F3", "G1", "G2", "V1", "U1", "U2",
     "U3", "U4", "U5", "X1", "X2", "X3", "X4", "Y1", "Y2", "Y3", "Y4", "O1", "O2", "O3", "O4", "E1",
-    "E2", "E3", "E4", "Q1", "Q2", "I1", "I2", "I3", "I4", "Z1", "Z2", "B1", "B2", "device",
-    "memory", "unknown",
+    "E2", "E3", "E4", "Q1", "Q2", "I1", "I2", "I3", "I4", "D1", "D2", "D3", "D4", "Z1", "Z2", "B1",
+    "B2", "device", "memory", "unknown",
 ];
 
 /// What is printed of one code.

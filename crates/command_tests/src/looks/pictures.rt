@@ -21,7 +21,7 @@ const MANY: &str =
 const SPARSE: &str = "channel 7\nterminal 5\nscript\nrepeat 100 { send A mode 5 2 gap 5310 }\n";
 
 /// How often a piece stands in a picture.
-fn count_of(picture: &[u8], piece: &[u8]) -> usize {
+pub(crate) fn count_of(picture: &[u8], piece: &[u8]) -> usize {
     picture
         .windows(piece.len().max(1))
         .filter(|window| *window == piece)
@@ -219,6 +219,7 @@ fn is_drawn(
         selection,
         &read.clock,
         &ChannelNames::of(file),
+        &[],
     )
     .ok()
     .expect(rt, "a picture");

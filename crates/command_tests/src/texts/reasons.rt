@@ -158,43 +158,43 @@ const LINES: [(&str, u64, LineFault, &str); 10] = [
         "at 1 31 busy on\n",
         1,
         LineFault::Number,
-        "  a:1\n  | at 1 31 busy on\n  |      ^^\n  this number is out of its range; terminal addresses are 0 to 30, and \
-         bc is the controller's host\n",
+        "  a:1\n  | at 1 31 busy on\n  |      ^^\n  this number is out of its range; terminal addresses are 0 to 30, \
+         and bc is the controller's host\n",
     ),
     (
         "channel 1\nat 1 bc date rx 5 1 00AA\n",
         2,
         LineFault::ActionWord,
-        "  a:2\n  | at 1 bc date rx 5 1 00AA\n  |         ^^^^\n  this word cannot stand here; the controller's host asks \
-         for data, ramp or insert\n",
+        "  a:2\n  | at 1 bc date rx 5 1 00AA\n  |         ^^^^\n  this word cannot stand here; the controller's host \
+         asks for data, ramp or insert\n",
     ),
     (
         "at 1 bc data mode 5 17 0001 0002\n",
         1,
         LineFault::ActionWord,
-        "  a:1\n  | at 1 bc data mode 5 17 0001 0002\n  |                             ^^^^\n  nothing more may stand in this \
-         line; take it out\n",
+        "  a:1\n  | at 1 bc data mode 5 17 0001 0002\n  |                             ^^^^\n  nothing more may stand \
+         in this line; take it out\n",
     ),
     (
         "at 1 bc ramp bmode 18 1 0000 0001\n",
         1,
         LineFault::ActionRange,
-        "  a:1\n  | at 1 bc ramp bmode 18 1 0000 0001\n  |                    ^^\n  this number is out of its range; mode \
-         codes with a data word of the controller are 17 and 20 to 31\n",
+        "  a:1\n  | at 1 bc ramp bmode 18 1 0000 0001\n  |                    ^^\n  this number is out of its range; \
+         mode codes with a data word of the controller are 17 and 20 to 31\n",
     ),
     (
         "at 1 bc insert at 1ms A tx 5 2 4\n",
         1,
         LineFault::ActionNumber,
-        "  a:1\n  | at 1 bc insert at 1ms A tx 5 2 4\n  |                   ^^^\n  this is not written as a number that may \
-         stand here; a message is held back until a tick of 0 to 140737488355328, in ticks of 0.1 us\n",
+        "  a:1\n  | at 1 bc insert at 1ms A tx 5 2 4\n  |                   ^^^\n  this is not written as a number \
+         that may stand here; a message is held back until a tick of 0 to 140737488355328, in ticks of 0.1 us\n",
     ),
     (
         "script\nat 1 bc insert at 5000 B rx 5 31 [0001]\n",
         2,
         LineFault::ActionRange,
-        "  a:2\n  | at 1 bc insert at 5000 B rx 5 31 [0001]\n  |                               ^^\n  this number is out of \
-         its range; subaddresses are 1 to 30; 0 and 31 are those of mode commands, mode0 and mode\n",
+        "  a:2\n  | at 1 bc insert at 5000 B rx 5 31 [0001]\n  |                               ^^\n  this number is \
+         out of its range; subaddresses are 1 to 30; 0 and 31 are those of mode commands, mode0 and mode\n",
     ),
 ];
 

@@ -1,0 +1,31 @@
+//! Dictionaries of signals, judged once their file is read.
+ghost use Rattle.bench_requests.specs.Dictionaries.{IsRefusedDictionary, fault_of_dictionary};
+ghost use Rattle.signal_dictionary.specs.Dictionary.{dictionary_in};
+ghost use Rattle.signal_dictionary.specs.Parts.{parts_of};
+ghost use Rattle.std.specs.Prelude.{◌≡◌, Ok, IfOk, IfErr, map};
+
+use crate::fault::Fault;
+use judge_rules::RuleFault;
+use signal_dictionary::{DictionaryError, Signal, read_dictionary};
+use std::alloc::Global;
+
+/// The fault of a dictionary that was refused.
+fn fault_of<'a>(error: DictionaryError) -> Fault<'a>
+    ensures { result ≡ fault_of_dictionary error }
+{
+    match error.fault {
+        RuleFault::Memory => Fault::Memory,
+        RuleFault::Word | RuleFault::Number | RuleFault::Range => Fault::Dictionary(error),
+    }
+}
+
+/// The signals that a text spells, or its first fault, or want of memory.
+pub fn dictionary_of<'a>(alloc: Global, text: &[u8]) -> Result<Vec<Signal>, Fault<'a>>
+    ensures signals { IfOk result (λ signals. dictionary_in text.now ≡ Ok (map parts_of signals.items)) }
+    ensures refused { IfErr result (IsRefusedDictionary (dictionary_in text.now)) }
+{
+    match read_dictionary(alloc, text) {
+        Ok(signals) => Ok(signals),
+        Err(error) => Err(fault_of(error)),
+    }
+}
