@@ -11,7 +11,7 @@ _bench_files() {
 
 _bench() {
     local word=${COMP_WORDS[COMP_CWORD]} before=${COMP_WORDS[COMP_CWORD - 1]} command='' place
-    local commands="one assemble run check dump step stat export draw judge complete cut compare explain help"
+    local commands="one assemble run check dump step stat export signals draw judge complete cut compare explain help"
     for ((place = 1; place < COMP_CWORD; place++)); do
         case ${COMP_WORDS[place]} in
             --context) place=$((place + 1)) ;;
@@ -39,7 +39,7 @@ _bench() {
             _bench_words "terminal subaddress" "$word"
             return
             ;;
-        --out | --report | --prologue | --judge | --junit | --setup)
+        --out | --report | --prologue | --judge | --junit | --setup | --signals)
             _bench_files "$word"
             return
             ;;
@@ -53,21 +53,26 @@ _bench() {
         one) options="--channel --version $options" ;;
         assemble) options="--force $options" ;;
         run)
-            options="--prologue --judge --strict --complete --setup --time --time-channel --second-time $options"
+            options="--prologue --judge --signals --strict --complete --setup --time --time-channel $options"
+            options="--second-time $options"
             options="--out --report --force $options"
             options="--live --pace --show --version --limit --queue --hold --drop $options"
             ;;
-        check) options="--summary --decode --strict $options" ;;
+        check) options="--summary --decode --strict --signals $options" ;;
         dump)
-            options="--skip --time --time-channel --decode --by-time --json $options"
+            options="--skip --time --time-channel --decode --signals --by-time --json $options"
             options="--channel --line --only --errors --from --to $options"
             ;;
         stat)
-            options="--csv --json --long --by --load --time --time-channel $options"
+            options="--csv --json --long --by --load --signals --time --time-channel $options"
             options="--channel --line --only --errors --from --to $options"
             ;;
         export)
-            options="--out --force --frames --hex --time --time-channel --vcd $options"
+            options="--out --force --frames --hex --signals --time --time-channel --vcd $options"
+            options="--channel --line --only --errors --from --to $options"
+            ;;
+        signals)
+            options="--out --force --wide --changes --time --time-channel $options"
             options="--channel --line --only --errors --from --to $options"
             ;;
         complete)
@@ -76,8 +81,8 @@ _bench() {
             ;;
         cut) options="--out --force --skip --channel --line --only --errors --from --to $options" ;;
         compare) options="--within --junit --json --force --channel --line --only --errors --from --to $options" ;;
-        judge) options="--junit --json --force --skip $options" ;;
-        draw) options="--out --force --time-channel --channel --line --only --errors --from --to $options" ;;
+        judge) options="--junit --json --force --signals --skip $options" ;;
+        draw) options="--out --force --signals --time-channel --channel --line --only --errors --from --to $options" ;;
     esac
     case $word in
         -*)
