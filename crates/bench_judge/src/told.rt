@@ -72,7 +72,7 @@ fn put_why(text: &mut Vec<u8>, packet: &Packet) -> Result<(), AllocError>
     text.extend_from_slice(b", expected the next of its channel")
 }
 
-/// Appends where a packet is that misses a rule, in the file of which these bytes were skipped, behind a label, and why.
+/// Puts where a packet is that misses a rule, in the file of which these bytes were skipped, behind a label, and why.
 #[tactic(auto, unfolding(crate::specs::Told::packet_told))]
 pub(crate) fn put_packet(
     text: &mut Vec<u8>,
