@@ -4,7 +4,8 @@ use Rattle.std.specs.Prelude.{◌||◌, ◌&&◌, ◌∷◌, [], ℕ, List, Bool
 use Rattle.std.specs.List.{starts_with, after_first}
 use Rattle.text_lines.specs.Lines.{is_line_end}
 use Rattle.bench_files.specs.declared.kind.Kind.{Kind}
-use Rattle.bench_files.specs.declared.kind.Kind.TheVariants.{Recording, Report, Image, Rows, Picture, Verdicts, Waves}
+use Rattle.bench_files.specs.declared.kind.Kind.TheVariants.{Recording, Report, Image, Rows, Picture, Verdicts}
+use Rattle.bench_files.specs.declared.kind.Kind.TheVariants.{Waves, Page}
 
 -- the count of packets, or a channel with what it made (a job begins with its channel too)
 abbrev pub is_report : List ℕ → Bool
@@ -22,3 +23,4 @@ is_of_kind Rows (b ∷ rest) = starts_with nat_eq (b ∷ rest) (codes "number,ch
 is_of_kind Picture (b ∷ rest) = starts_with nat_eq (b ∷ rest) (codes "<svg ")
 is_of_kind Verdicts (b ∷ rest) = starts_with nat_eq (b ∷ rest) (codes "<?xml ")
 is_of_kind Waves (b ∷ rest) = starts_with nat_eq (b ∷ rest) (codes "$comment kind: ")
+is_of_kind Page (b ∷ rest) = starts_with nat_eq (b ∷ rest) (codes "<!DOCTYPE html>")

@@ -29,5 +29,6 @@ pub fn is_of_kind(kind: Kind, beginning: &[u8]) -> bool
         Kind::Picture => beginning.starts_with(b"<svg "),
         Kind::Verdicts => beginning.starts_with(b"<?xml "),
         Kind::Waves => beginning.starts_with(b"$comment kind: "),
+        Kind::Page => beginning.starts_with(b"<!DOCTYPE html>"),
     }
 }

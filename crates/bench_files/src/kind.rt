@@ -18,9 +18,11 @@ pub enum Kind {
     Verdicts,
     /// The lines of buses over time, as a value change dump.
     Waves,
+    /// Messages as a page for a browser.
+    Page,
 }
 
-/// `recording`, `report`, `image`, `table of messages`, `picture`, `JUnit report`, `value change dump`.
+/// `recording`, `report`, `image`, `table of messages`, `picture`, `JUnit report`, `value change dump`, `page`.
 impl Display for Kind {
     ghost use Rattle.bench_files.specs.Codes.{kind_text};
     ghost use Rattle.std.specs.Prelude.{Some};
@@ -36,6 +38,7 @@ impl Display for Kind {
             Kind::Picture => "picture",
             Kind::Verdicts => "JUnit report",
             Kind::Waves => "value change dump",
+            Kind::Page => "page",
         })
     }
 }
