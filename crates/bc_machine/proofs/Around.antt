@@ -1,8 +1,8 @@
 -- Parts of rows that have all of one number.
-use Rattle.std.proofs.Common.{◌≡◌, ◌≢◌, ◌+◌, ◌-◌, ◌<◌, get_or, ◌==◌, ℕ, zero, suc, Bool, true, false, cond, List, [], ◌∷◌, length, take, drop, ltb, leb, eqb, refl, sym, ap, ◌∙◌, arith}
+use Rattle.std.proofs.Common.{◌≡◌, ◌≢◌, ◌+◌, ◌-◌, ◌<◌, ◌≤◌, get_or, ◌==◌, ℕ, zero, suc, Bool, true, false, cond, List, [], ◌∷◌, length, take, drop, eqb, refl, sym, ap, ◌∙◌, arith}
 use Rattle.std.specs.List.{AllWithin, filter}
-use Rattle.std.proofs.lemmas.Bool.{ltb-true, ltb-false, leb-true, leb-false}
-use Rattle.std.proofs.lemmas.List.{take_all, length-drop, length-take, get_or-take, get_or-drop}
+use Rattle.std.specs.List.Sorted.{IsNonDecreasingBy}
+use Rattle.std.proofs.lemmas.List.{take_all, length-drop, length-take, get_or-take, get_or-drop, get_or_default}
 use Rattle.std.specs.Prelude.{All}
 use Rattle.std.proofs.lemmas.Bool.Decides.{nat_tests}
 use Rattle.bc_machine.specs.declared.placed.HostAction.{HostAction}
@@ -40,19 +40,19 @@ module _ {X : Type 0} (number_of : X → ℕ) where
       ap (λ ys. cond (number_of x == n) (x ∷ ys) ys) (stop xs t n (λ k d low high. h (suc k) d (omega (arith, low)) (omega (arith, high))))
 
   -- the part behind those below and before those above
-  pub around : (xs : List X) (n f t : ℕ) → AllWithin (λ x. ltb (number_of x) n ≡ true) xs 0 f
-      → AllWithin (λ x. leb (number_of x) n ≡ false) (take (length xs - f) (drop f xs)) t (length (take (length xs - f) (drop f xs)))
+  pub around : (xs : List X) (n f t : ℕ) → AllWithin (λ x. number_of x < n) xs 0 f
+      → AllWithin (λ x. n + 1 ≤ number_of x) (take (length xs - f) (drop f xs)) t (length (take (length xs - f) (drop f xs)))
       → at n (take t (take (length xs - f) (drop f xs))) ≡ at n xs
   around xs n f t before behind =
       let rest = take (length xs - f) (drop f xs) in
       let whole : rest ≡ drop f xs = take_all (length xs - f) (drop f xs) (omega (arith, length-drop f xs)) in
-      stop rest t n (λ k d low high. leb-false _ _ (behind k d low high))
+      stop rest t n (λ k d low high. omega (arith, behind k d low high))
       ∙ ap (at n) whole
-      ∙ skip xs f n (λ k d low high. ltb-true _ _ (before k d low high))
+      ∙ skip xs f n before
 
   -- it has no other
-  pub alone : (xs : List X) (n f t : ℕ) → AllWithin (λ x. ltb (number_of x) n ≡ false) xs f (length xs)
-      → AllWithin (λ x. leb (number_of x) n ≡ true) (take (length xs - f) (drop f xs)) 0 t
+  pub alone : (xs : List X) (n f t : ℕ) → AllWithin (λ x. n ≤ number_of x) xs f (length xs)
+      → AllWithin (λ x. number_of x < n + 1) (take (length xs - f) (drop f xs)) 0 t
       → All (λ x. number_of x ≡ n) (take t (take (length xs - f) (drop f xs)))
   alone xs n f t low high k d less =
       let rest = take (length xs - f) (drop f xs) in
@@ -61,11 +61,26 @@ module _ {X : Type 0} (number_of : X → ℕ) where
       let long : length rest ≡ length xs - f = ap length whole ∙ length-drop f xs in
       let first : get_or (take t rest) k d ≡ get_or rest k d = get_or-take t rest k d (omega (arith, less, short)) in
       let at : get_or rest k d ≡ get_or xs (f + k) d = ap (λ ys. get_or ys k d) whole ∙ get_or-drop f xs k d in
-      let least = ltb-false _ _ (low (f + k) d (omega arith) (omega (arith, less, short, long))) in
-      let most = leb-true _ _ (high k d (omega arith) (omega (arith, less, short))) in
+      let least = low (f + k) d (omega arith) (omega (arith, less, short, long)) in
+      let most = high k d (omega arith) (omega (arith, less, short)) in
       let same : number_of (get_or (take t rest) k d) ≡ number_of (get_or rest k d) = ap number_of first in
       let here : number_of (get_or rest k d) ≡ number_of (get_or xs (f + k) d) = ap number_of at in
       omega (arith, same, here, least, most)
+
+  -- those in front of one that is below are below, and those from one on that is not are not
+  pub all_below : (xs : List X) (n p : ℕ) (e : X) → IsNonDecreasingBy number_of xs → p ≤ length xs
+      → number_of (get_or xs (p - 1) e) < n → AllWithin (λ x. number_of x < n) xs 0 p
+  all_below xs n p e rising within less k d low high =
+      let here : number_of (get_or xs k d) ≡ number_of (get_or xs k e) = ap number_of (get_or_default xs k d e (omega (arith, high, within))) in
+      let most = rising k (p - 1) e (omega (arith, high)) (omega (arith, high, within)) in
+      omega (arith, here, most, less)
+
+  pub all_others : (xs : List X) (n p : ℕ) (e : X) → IsNonDecreasingBy number_of xs
+      → n ≤ number_of (get_or xs p e) → AllWithin (λ x. n ≤ number_of x) xs p (length xs)
+  all_others xs n p e rising more k d low high =
+      let here : number_of (get_or xs k d) ≡ number_of (get_or xs k e) = ap number_of (get_or_default xs k d e high) in
+      let least = rising p k e low high in
+      omega (arith, here, least, more)
 
 -- ---- what rows stand for
 

@@ -1,6 +1,7 @@
 -- Placed actions, and for how many there is room.
 use Rattle.std.specs.Prelude.{◌≡◌, ℕ, ◌+◌, ◌<◌, ◌≤◌, Bool, true, false, List, [], ◌∷◌, ◌++◌, length, All, vec_len}
 use Rattle.std.specs.Prelude.{vec_capacity}
+use Rattle.std.specs.List.{AllWithin}
 use Rattle.std.specs.List.Sorted.{IsNonDecreasingBy}
 use Rattle.controller_host.specs.Sources.{SourcesState, is_source_control}
 use Rattle.bc_machine.specs.declared.placed.Placed.{Placed}
@@ -47,6 +48,12 @@ with_action s one = record { actions = s.actions ++ one ∷ []; capacity = s.cap
 -- rows whose numbers never fall
 abbrev pub AreRising : List Row → Type 0
 AreRising rows = IsNonDecreasingBy (λ (r : Row). r.number) rows
+
+-- so many rows have numbers below one, and the others have not
+pub record BeginsAt (least : ℕ) (rows : List Row) (place : ℕ) : Type 0 where
+  pub within : place ≤ length rows
+  pub below : AllWithin (λ (r : Row). r.number < least) rows 0 place
+  pub others : AllWithin (λ (r : Row). least ≤ r.number) rows place (length rows)
 
 -- the same rows by rising number, those of each number in their order
 pub record AreSorted (count : ℕ) (rows sorted : List Row) : Type 0 where

@@ -79,6 +79,7 @@ fn meet(placed: &mut Schedule, posted: &Schedule, bus: &mut Bus, number: u32)
     ensures bus { bus.new ≡ ready (placed.old.actions ++ posted.now.actions) number bus.old }
     ensures clock { now_of bus.new ≡ now_of bus.old }
 {
+    placed.draw_near(number);
     act_both(bus, placed, posted, number);
     placed.set_sources(posted, number);
 }
@@ -201,6 +202,7 @@ impl Agenda {
         ensures clock { now_of bus.new ≡ now_of bus.old }
     {
         let number = self.number + 1;
+        self.placed.draw_near(number);
         act_both(bus, &self.placed, &self.posted, number);
         self.number = number;
         self.made = and_own(&self.made, message);

@@ -206,7 +206,7 @@ impl Schedule {
         let rows = self.rows.as_slice();
         let beside = self.beside.as_slice();
         (
-            self.lookup.rows_of(rows, beside, number),
+            self.lookup.rows_of(rows, beside, number, self.near),
             beside,
             self.lookup.finds_alone(),
         )
@@ -302,7 +302,8 @@ impl Schedule {
             return;
         }
         let beside = self.beside.as_slice();
-        let found = self.lookup.rows_of(self.rows.as_slice(), beside, number);
+        let rows = self.rows.as_slice();
+        let found = self.lookup.rows_of(rows, beside, number, self.near);
         set_at(&mut self.sources, found, beside, number);
     }
 

@@ -27,6 +27,9 @@ impl Agenda {
         if let Some(found) = self.placed.insert_at(number, passed) {
             return Some(found);
         }
+        if self.posted.len() == 0 {
+            return None;
+        }
         let own = self.placed.count_at(number);
         match self.posted.insert_at(number, passed.saturating_sub(own)) {
             Some((place, insertion)) => Some((own + place, insertion)),

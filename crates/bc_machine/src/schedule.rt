@@ -29,6 +29,8 @@ pub struct Schedule {
     pub(crate) beside: Vec<HostAction>,
     /// How those of a number are found.
     pub(crate) lookup: Lookup,
+    /// Where the rows of the number that was met last begin, as far as it is known; those of others are searched.
+    pub(crate) near: usize,
     /// For how many actions there is room, at most as many as the lists hold without memory.
     most: usize,
     /// Whether one of them may be of the controller's host.
@@ -111,6 +113,7 @@ impl Schedule {
             rows: Vec::new(alloc),
             beside: Vec::new(alloc),
             lookup: Lookup::Rising,
+            near: 0,
             most: 0,
             controls: false,
             sources: Sources::none(alloc),
@@ -340,7 +343,7 @@ impl Schedule {
         let beside = self.beside.as_slice();
         act_at(
             bus,
-            self.lookup.rows_of(rows, beside, number),
+            self.lookup.rows_of(rows, beside, number, self.near),
             beside,
             number,
         );
@@ -372,6 +375,7 @@ impl Schedule {
             rows,
             beside: copies_of(alloc, self.beside.as_slice(), more)?,
             lookup,
+            near: self.near,
             most: self.most,
             controls: self.controls,
             sources: self.sources.copy(alloc)?,

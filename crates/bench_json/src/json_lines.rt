@@ -7,7 +7,7 @@ use std::io::{self, Error, ErrorKind, Write};
 /// What is written: lines of pairs of a key and its value, or tables of comma-separated values, each with a row of
 /// names first and an empty line between two of them.
 #[derive(Clone, Copy, Debug, PartialEq, Eq)]
-pub enum Form {
+pub enum JsonSource {
     Lines,
     Tables,
 }
@@ -17,7 +17,7 @@ pub enum Form {
 #[derive(Drop)]
 pub struct JsonLines<W: Write + Drop> {
     out: W,
-    form: Form,
+    source: JsonSource,
     /// The line that is not ended yet.
     line: Vec<u8>,
     /// The names of a table's values; empty in front of its first row.
@@ -27,10 +27,10 @@ pub struct JsonLines<W: Write + Drop> {
 
 impl<W: Write + Drop> JsonLines<W> {
     /// A writer over this one.
-    pub fn over(alloc: Global, form: Form, out: W) -> JsonLines<W> {
+    pub fn over(alloc: Global, source: JsonSource, out: W) -> JsonLines<W> {
         JsonLines {
             out,
-            form,
+            source,
             line: Vec::new(alloc),
             names: Vec::new(alloc),
             is_refused: false,
@@ -50,9 +50,9 @@ impl<W: Write + Drop> JsonLines<W> {
     /// Appends what a line that is ended comes to.
     fn put_line(&mut self, made: &mut Vec<u8>) -> Result<(), AllocError> {
         let alloc = *made.allocator();
-        match self.form {
-            Form::Lines => object_of_line(alloc, self.line.as_slice())?.put(made)?,
-            Form::Tables => self.put_row(alloc, made)?,
+        match self.source {
+            JsonSource::Lines => object_of_line(alloc, self.line.as_slice())?.put(made)?,
+            JsonSource::Tables => self.put_row(alloc, made)?,
         }
         self.line.clear();
         Ok(())

@@ -10,5 +10,5 @@ mod objects;
 mod rows;
 mod values;
 
-pub use json_lines::{Form, JsonLines};
+pub use json_lines::{JsonLines, JsonSource};
 pub use objects::Object;

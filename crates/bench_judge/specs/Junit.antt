@@ -114,4 +114,5 @@ suite_head verdicts =
 -- were skipped
 unfoldable pub junit : Text → Text → List Skip → List Rule → List RuleVerdict → Lost → Passed → List ℕ
 junit file text skips rules verdicts lost p =
-    suite_head verdicts ++ (properties lost ++ (cases file text skips rules verdicts p ++ codes "</testsuite>\n"))
+    suite_head verdicts
+    ++ (properties lost ++ (cases file text skips rules verdicts p ++ codes "</testsuite>\n"))

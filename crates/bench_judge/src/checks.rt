@@ -1,7 +1,6 @@
 //! Which of the selected messages miss their rule.
 ghost use Rattle.bench_judge.specs.Checks as spec;
 ghost use Rattle.bench_judge.specs.Clean.{IsKnown};
-ghost use Rattle.std.specs.List.{list_all};
 ghost use Rattle.std.specs.Prelude.{◌≡◌, ◌+◌, ◌<◌, ◌^◌, length};
 
 use crate::clean::clean_once;
@@ -15,35 +14,24 @@ const TICKS: u64 = 10;
 const WORDS: u64 = 65_536;
 
 /// Whether a word has a value in the bits of a mask.
+#[inline(always)]
 fn agrees(datum: &Datum, word: u16) -> bool
     ensures { result ≡ spec.agrees datum.now word }
 {
     word & datum.mask == datum.value & datum.mask
 }
 
-/// Whether there is a word.
-fn is_some_list(words: &[u16]) -> bool
-    ensures { result ≡ spec.is_some_list words.now }
-{
-    match words.split_first() {
-        Some(_) => true,
-        None => false,
-    }
-}
-
-/// Whether all words have this value.
-fn all_agree(datum: &Datum, words: &[u16]) -> bool
-    ensures { result ≡ list_all (spec.agrees datum.now) words.now }
-{
-    words.iter().all(|word| agrees(datum, *word))
-}
-
 /// Whether a message has a status word, and all have this value.
+#[inline(always)]
 fn has_status(datum: &Datum, view: &View<'_>) -> bool
     ensures { result ≡ spec.has_status datum.now view.now }
 {
-    let found = view.statuses();
-    is_some_list(found.as_slice()) && all_agree(datum, found.as_slice())
+    let layout = view.layout();
+    let front = layout.commands < layout.data_start;
+    let back = layout.data_end < layout.words;
+    (front || back)
+        && (!front || agrees(datum, view.word(layout.commands)))
+        && (!back || agrees(datum, view.word(layout.data_end)))
 }
 
 /// Whether a message's words from a place on have these values.
@@ -63,6 +51,7 @@ fn words_agree(view: &View<'_>, place: usize, wanted: &[Datum]) -> bool
 }
 
 /// Whether the data words of a message are these, as many of them.
+#[inline(never)]
 fn has_data(wanted: &[Datum], view: &View<'_>) -> bool
     ensures { result ≡ spec.has_data wanted.now view.now }
 {
@@ -77,6 +66,7 @@ fn is_in(bounds: &Bounds, number: u64) -> bool
 }
 
 /// Whether a message has a reply, and the gap of each lies in the bounds.
+#[inline(always)]
 fn responds_in(bounds: &Bounds, view: &View<'_>) -> bool
     ensures { result ≡ spec.responds_in bounds.now view.now }
 {
@@ -94,6 +84,7 @@ fn is_in_micros(bounds: &Bounds, ticks: u64) -> bool
 }
 
 /// Whether a stamp follows the one before it within bounds, if there is one.
+#[inline(always)]
 pub(crate) fn follows_in(bounds: &Bounds, before: Option<u64>, stamp: u64) -> bool
     ensures { result ≡ spec.follows_in bounds.now before stamp }
 {
@@ -104,6 +95,7 @@ pub(crate) fn follows_in(bounds: &Bounds, before: Option<u64>, stamp: u64) -> bo
 }
 
 /// The data word of a place, counted from 1, if a message has it.
+#[inline(always)]
 pub(crate) fn data_word(place: u8, view: &View<'_>) -> Option<u16>
     ensures { result ≡ spec.data_word place view.now }
 {
@@ -123,6 +115,7 @@ fn is_in_range(range: &WordRange, word: u16) -> bool
 }
 
 /// Whether there is a word, and it has a value in a range.
+#[inline(always)]
 fn has_word(range: &WordRange, word: Option<u16>) -> bool
     ensures { result ≡ spec.has_word range.now word }
 {
@@ -140,6 +133,7 @@ pub(crate) fn step_from(before: u64, word: u16) -> u16
 }
 
 /// Whether there is a word, and it is by so much more than the one before it, if there is one.
+#[inline(always)]
 fn steps_in(range: &WordRange, before: Option<u64>, word: Option<u16>) -> bool
     ensures { result ≡ spec.steps_in range.now before word }
 {
@@ -153,6 +147,7 @@ fn steps_in(range: &WordRange, before: Option<u64>, word: Option<u16>) -> bool
 }
 
 /// What a check compares with that of the message before, if there is anything: the stamp, or a data word.
+#[inline(always)]
 pub(crate) fn compared(check: &Check, view: &View<'_>) -> Option<u64>
     ensures { result ≡ spec.compared check.now view.now }
 {
@@ -199,6 +194,7 @@ fn is_silent(view: &View<'_>) -> bool
 }
 
 /// Whether a message is of a kind. Whether it is clean is worked out at most once.
+#[inline(never)]
 fn is_of_kind(kind: Kind, view: &View<'_>, known: &mut Option<bool>) -> bool
     requires { IsKnown known.old view.now }
     ensures value { result ≡ spec.is_of_kind kind view.now }
@@ -219,6 +215,7 @@ fn is_of_kind(kind: Kind, view: &View<'_>, known: &mut Option<bool>) -> bool
 }
 
 /// Whether a check counts a message. Whether the message is clean is worked out at most once.
+#[inline(always)]
 pub(crate) fn is_counted(check: &Check, view: &View<'_>, known: &mut Option<bool>) -> bool
     requires { IsKnown known.old view.now }
     ensures value { result ≡ spec.is_counted check.now view.now }
@@ -233,6 +230,7 @@ pub(crate) fn is_counted(check: &Check, view: &View<'_>, known: &mut Option<bool
 
 /// Whether a message meets a check, where the selected message before it in its channel, if there is one that has what
 /// is compared, had this of it. Whether the message is clean is worked out at most once.
+#[inline(always)]
 pub(crate) fn meets(
     check: &Check,
     before: Option<u64>,

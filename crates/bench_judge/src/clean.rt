@@ -106,6 +106,7 @@ fn data_fit(message: &Message, count: usize, statuses: &[u16]) -> bool
 
 /// Whether a message is as the standard has it: of one of the ten forms, with a mode code that the standard assigns,
 /// all replies in time and no word too many or too few (MIL-STD-1553B 4.3.3.6, with Notice 2).
+#[inline(never)]
 #[tactic(auto, unfolding(crate::specs::Clean::clean))]
 pub(crate) fn is_clean(view: &View<'_>) -> bool
     ensures { result ≡ spec.clean view.now }
@@ -130,6 +131,7 @@ pub(crate) fn is_clean(view: &View<'_>) -> bool
 }
 
 /// Whether a message is clean, which is worked out where it is not known yet, and known from then on.
+#[inline(always)]
 pub(crate) fn clean_once(known: &mut Option<bool>, view: &View<'_>) -> bool
     requires { spec.IsKnown known.old view.now }
     ensures value { result ≡ spec.clean view.now }

@@ -61,17 +61,28 @@ impl Kept {
     }
 
     /// Gives a channel a number, and answers the one that it had.
-    #[inline]
+    #[inline(always)]
     pub(crate) fn put(&mut self, channel: u16, value: u64) -> Result<Option<u64>, AllocError>
         ensures before { IfOk result (λ before. before ≡ kept self.old channel) }
         ensures after { OnOk result ((other : ℕ) → kept self.new other
             ≡ (if channel == other then Some value else kept self.old other)) }
     {
-        let before = self.at(channel);
         if self.is_at(channel) {
+            let before = self.value;
             self.value = Some(value);
             return Ok(before);
         }
+        self.change(channel, value)
+    }
+
+    /// The same, where that of another channel is at hand, or none is.
+    #[inline(never)]
+    fn change(&mut self, channel: u16, value: u64) -> Result<Option<u64>, AllocError>
+        ensures before { IfOk result (λ before. before ≡ kept self.old channel) }
+        ensures after { OnOk result ((other : ℕ) → kept self.new other
+            ≡ (if channel == other then Some value else kept self.old other)) }
+    {
+        let before = self.at(channel);
         self.leave()?;
         self.channel = channel;
         self.value = Some(value);

@@ -29,6 +29,7 @@ pub struct Tally {
 }
 
 /// One message more where it is counted, at most 2^64 - 1.
+#[inline(always)]
 fn one_if(count: u64, holds: bool) -> u64
     ensures { count + 1 < 2 ^ 64 → result ≡ count + (if holds then 1 else 0) }
 {
@@ -61,6 +62,7 @@ impl Tally {
     }
 
     /// Whether a selected message meets a check. What it has is compared with the next one of its channel from now on.
+    #[inline(always)]
     fn meets(
         &mut self,
         check: &Check,
@@ -87,6 +89,7 @@ impl Tally {
 
     /// What a selected message is compared with, if it is compared with anything. What it has is compared with the next
     /// one of its channel from now on.
+    #[inline(always)]
     fn renew(
         &mut self,
         check: &Check,
@@ -114,6 +117,7 @@ impl Tally {
     }
 
     /// One more message of a channel, and whether it is clean where that is known. Answers whether it misses the rule.
+    #[inline(always)]
     pub fn note(
         &mut self,
         rule: &Rule,

@@ -19,7 +19,7 @@ mod telling;
 pub use desk::{Desk, Hand, open_desk};
 pub use gates::SessionGate;
 pub use line::{LivePost, read_post};
-pub use live::{Manner, Session, start_host};
+pub use live::{LiveRun, Pacing, start_host};
 pub use pace::Pace;
 pub use posting::{PostFault, Told, next_fault};
 pub use show::{Show, Showing, show_all};

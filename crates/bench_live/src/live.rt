@@ -26,14 +26,14 @@ use std::thread::Threads;
 
 /// How a run goes on.
 #[derive(Clone, Copy, Debug)]
-pub struct Manner {
+pub struct Pacing {
     /// Whether messages may be refused by a full queue: else buses are held.
     pub drops: bool,
     /// How bus time goes with real time; as fast as it can where there is none.
     pub pace: Option<Pace>,
 }
 
-impl Manner {
+impl Pacing {
     /// How many items may be on their way to the writer: as many as the queue holds, or more than a run has where
     /// messages may be refused.
     fn most(self, settings: &Settings) -> u32 {
@@ -74,28 +74,28 @@ pub fn start_host<
 
 /// A run that a person watches or drives: its jobs and settings, how it goes on, and where it is shown.
 #[derive(Drop)]
-pub struct Session<'s, R, E> {
+pub struct LiveRun<'s, R, E> {
     pub rt: &'s R,
     pub alloc: Global,
     /// Where a line says how far the recording has come, as by `Progress`.
     pub errors: &'s E,
     pub jobs: &'s [Job],
     pub settings: &'s Settings,
-    pub manner: Manner,
+    pub pacing: Pacing,
     /// What shows its messages, where they are shown.
     pub show: Option<&'s Show>,
 }
 
-impl<'s, R: Threads + Wait + Clock + Sync, E: Eprint + IsTerminal + Sync> Session<'s, R, E> {
+impl<'s, R: Threads + Wait + Clock + Sync, E: Eprint + IsTerminal + Sync> LiveRun<'s, R, E> {
     /// Runs the jobs as `run` does. It answers and refuses as `run` does.
     pub fn record_paced<S: Sink + Drop>(&self, sink: S) -> Result<(Report, S), RunError<S>>
         requires { S.failures sink < 2 ^ 64 - 1 }
         ensures { RanOrLeft S.taken S.failures self.now.jobs.now self.now.settings.now sink result }
     {
-        let (rt, manner) = (self.rt, self.manner);
+        let (rt, pacing) = (self.rt, self.pacing);
         let progress = Progress::begin(rt, self.errors);
-        let session = SessionGate::around(&progress, rt, rt, manner.pace, None, self.show);
-        let held = HoldingGate::around(&session, manner.most(self.settings));
+        let session = SessionGate::around(&progress, rt, rt, pacing.pace, None, self.show);
+        let held = HoldingGate::around(&session, pacing.most(self.settings));
         let answer = run(rt, self.alloc, self.jobs, self.settings, &held, sink);
         progress.end();
         answer
@@ -123,10 +123,10 @@ impl<'s, R: Threads + Wait + Clock + Sync, E: Eprint + IsTerminal + Sync> Sessio
             desk.now.boxes.items inboxes.items sink e.fault e.inboxes.items) }
         ensures back { IfErr result (λ e. AreInboxesOf desk.now.boxes.items e.inboxes.items) }
     {
-        let (rt, manner) = (self.rt, self.manner);
+        let (rt, pacing) = (self.rt, self.pacing);
         let progress = Progress::begin(rt, self.errors);
-        let session = SessionGate::around(&progress, rt, rt, manner.pace, Some(desk), self.show);
-        let held = HoldingGate::around(&session, manner.most(self.settings));
+        let session = SessionGate::around(&progress, rt, rt, pacing.pace, Some(desk), self.show);
+        let held = HoldingGate::around(&session, pacing.most(self.settings));
         let (jobs, settings) = (self.jobs, self.settings);
         let answer = run_live(
             rt,

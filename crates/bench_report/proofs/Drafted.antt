@@ -11,29 +11,29 @@ use Rattle.bench_report.specs.Lines.{said}
 use Rattle.bench_report.specs.Spelling.{part_lines, report_lines, Spells}
 use Rattle.text_lines.specs.Lines.{text_lines}
 use Rattle.bench_report.specs.Drafts.{Draft, no_lines, with_line, with_line_said, with_lines, option_bind, finished, report_at, with_refused, with_placed, in_body, last_number, numbers}
-use Rattle.bench_report.specs.declared.lines.Line.{Line}
-use Rattle.bench_report.specs.declared.lines.Line.TheVariants as line
+use Rattle.bench_report.specs.declared.lines.ReportLine.{ReportLine}
+use Rattle.bench_report.specs.declared.lines.ReportLine.TheVariants as line
 use Rattle.bench_report.specs.declared.stages.Stage.{Stage}
 use Rattle.bench_report.specs.declared.stages.Stage.TheVariants.{Begin, Named, Body, End}
 
-abbrev pub stage_lines : Stage → List Line
+abbrev pub stage_lines : Stage → List ReportLine
 stage_lines Begin = []
 stage_lines (Named channel) = line.Channel channel ∷ []
 stage_lines (Body p) = part_lines p
 stage_lines (End packets) = line.Packets packets ∷ []
 
 -- the lines of a draft
-abbrev pub draft_lines : Draft → List Line
+abbrev pub draft_lines : Draft → List ReportLine
 draft_lines d = flat_map part_lines d.done ++ stage_lines d.stage
 
-abbrev lines_or_none : Option Draft → List Line
+abbrev lines_or_none : Option Draft → List ReportLine
 lines_or_none None = []
 lines_or_none (Some d) = draft_lines d
 
-behind_begin : (done : List ChannelPart) (l : Line) → flat_map part_lines done ++ l ∷ [] ≡ (flat_map part_lines done ++ []) ++ l ∷ []
+behind_begin : (done : List ChannelPart) (l : ReportLine) → flat_map part_lines done ++ l ∷ [] ≡ (flat_map part_lines done ++ []) ++ l ∷ []
 behind_begin done l = rw (append-nil (flat_map part_lines done)) refl
 
-behind_body : (done : List ChannelPart) (p : ChannelPart) (l : Line) → flat_map part_lines (done ++ p ∷ []) ++ l ∷ [] ≡ (flat_map part_lines done ++ part_lines p) ++ l ∷ []
+behind_body : (done : List ChannelPart) (p : ChannelPart) (l : ReportLine) → flat_map part_lines (done ++ p ∷ []) ++ l ∷ [] ≡ (flat_map part_lines done ++ part_lines p) ++ l ∷ []
 behind_body done p l = rw (flat_map-append part_lines done (p ∷ []), append-nil (part_lines p)) refl
 
 refused_step : (done : List ChannelPart) (p : ChannelPart) (n : ℕ) → IsSome (in_body done (with_refused p n))
@@ -70,7 +70,7 @@ placed_step done p x some = go (nat_le (last_number 0 (numbers p.placed)) x.numb
         ) refl
     go false is some = let wrong : IsSome (in_body done None) = rw is at some in cc
 
-one_step : (done : List ChannelPart) (stage : Stage) (l : Line) → IsSome (with_line (record { done = done; stage = stage }) l)
+one_step : (done : List ChannelPart) (stage : Stage) (l : ReportLine) → IsSome (with_line (record { done = done; stage = stage }) l)
     → lines_or_none (with_line (record { done = done; stage = stage }) l) ≡ (flat_map part_lines done ++ stage_lines stage) ++ l ∷ []
 one_step done Begin (line.Channel n) some = behind_begin done (line.Channel n)
 one_step done (Body p) (line.Channel n) some = behind_body done p (line.Channel n)
@@ -93,7 +93,7 @@ one_step done (Named c) (line.Placed x) some = cc
 one_step done (Body p) (line.Placed x) some = placed_step done p x some
 one_step done (End k) (line.Placed x) some = cc
 
-pub next_lines : (d d' : Draft) (l : Line) → with_line d l ≡ Some d' → draft_lines d' ≡ draft_lines d ++ l ∷ []
+pub next_lines : (d d' : Draft) (l : ReportLine) → with_line d l ≡ Some d' → draft_lines d' ≡ draft_lines d ++ l ∷ []
 next_lines d d' l is =
     let some : IsSome (with_line d l) = rw is refl in
     let says : lines_or_none (with_line d l) ≡ draft_lines d' = rw is refl in
@@ -101,7 +101,7 @@ next_lines d d' l is =
 
 -- the lines that were taken in, and what they say
 pub record AreSaid (texts : List Text) (d d' : Draft) : Type 0 where
-  pub lines : List Line
+  pub lines : List ReportLine
   pub are : map said texts ≡ map Some lines
   pub behind : draft_lines d' ≡ draft_lines d ++ lines
 
@@ -111,7 +111,7 @@ are_said [] d d' is =
     record { lines = []; are = refl; behind = sym same ∙ sym (append-nil (draft_lines d)) }
 are_said (text ∷ texts) d d' is = go (said text) refl is (are_said texts)
   where
-    go : (m : Option Line) → said text ≡ m → option_bind (with_line_said d m) (with_lines texts) ≡ Some d'
+    go : (m : Option ReportLine) → said text ≡ m → option_bind (with_line_said d m) (with_lines texts) ≡ Some d'
         → ((e e' : Draft) → with_lines texts e ≡ Some e' → AreSaid texts e e') → AreSaid (text ∷ texts) d d'
     go None says is rest = cc
     go (Some l) says is rest = on (with_line d l) refl is rest
@@ -127,7 +127,7 @@ are_said (text ∷ texts) d d' is = go (said text) refl is (are_said texts)
               behind = more.behind ∙ (rw (next_lines d e l step) (append_assoc (draft_lines d) (l ∷ []) more.lines));
             }
 
-abbrev report_lines_or : Option RunReport → List Line
+abbrev report_lines_or : Option RunReport → List ReportLine
 report_lines_or None = []
 report_lines_or (Some r) = report_lines r
 

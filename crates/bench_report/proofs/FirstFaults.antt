@@ -10,8 +10,8 @@ use Rattle.bench_report.specs.Reports.{ChannelPart, RunReport}
 use Rattle.bench_report.specs.Faults.{IsInOrder, Begin, AreNoReport}
 use Rattle.bench_report.specs.Spelling.{part_lines, report_lines}
 use Rattle.bench_report.specs.Drafts.{Draft, no_lines, with_line, option_bind, finished, with_refused, with_placed, in_body, last_number, numbers}
-use Rattle.bench_report.specs.declared.lines.Line.{Line}
-use Rattle.bench_report.specs.declared.lines.Line.TheVariants as line
+use Rattle.bench_report.specs.declared.lines.ReportLine.{ReportLine}
+use Rattle.bench_report.specs.declared.lines.ReportLine.TheVariants as line
 use Rattle.bench_report.specs.declared.stages.Stage.{Stage}
 use Rattle.bench_report.specs.declared.stages.Stage.TheVariants as stage
 use Rattle.bench_report.proofs.ListLemmas.{rises-push, never_falls-push}
@@ -29,7 +29,7 @@ parts_at done (stage.Named channel) = done ++ named channel ∷ []
 parts_at done (stage.Body p) = done ++ p ∷ []
 parts_at done (stage.End packets) = done
 
-abbrev lines_then : Option Draft → List Line
+abbrev lines_then : Option Draft → List ReportLine
 lines_then None = []
 lines_then (Some d) = draft_lines d
 
@@ -79,7 +79,7 @@ placed_order done p x all = go (nat_le (last_number 0 (numbers p.placed)) x.numb
     go false behind = rw behind tt
 
 -- one more line keeps the order
-order_step : (done : List ChannelPart) (at : Stage) (l : Line) → All IsInOrder (parts_at done at) → AreInOrderThen (with_line (record { done = done; stage = at }) l)
+order_step : (done : List ChannelPart) (at : Stage) (l : ReportLine) → All IsInOrder (parts_at done at) → AreInOrderThen (with_line (record { done = done; stage = at }) l)
 order_step done stage.Begin (line.Channel n) all = one_more done (named n) all (unmade n 0)
 order_step done (stage.Named c) (line.Channel n) all = tt
 order_step done (stage.Body p) (line.Channel n) all = one_more (done ++ p ∷ []) (named n) all (unmade n 0)
@@ -103,11 +103,11 @@ order_step done (stage.Body p) (line.Placed x) all = placed_order done p x all
 order_step done (stage.End k) (line.Placed x) all = tt
 
 -- a draft after lines: in order, with these lines behind those that it had
-record IsAfter (ls : List Line) (d e : Draft) : Type 0 where
+record IsAfter (ls : List ReportLine) (d e : Draft) : Type 0 where
   in_order : AreInOrder e
   lines : draft_lines e ≡ draft_lines d ++ ls
 
-after : (ls : List Line) (d e : Draft) → with_all ls d ≡ Some e → AreInOrder d → IsAfter ls d e
+after : (ls : List ReportLine) (d e : Draft) → with_all ls d ≡ Some e → AreInOrder d → IsAfter ls d e
 after [] d e is all =
     record {
       in_order = subst (λ (m : Option Draft). AreInOrderThen m) is all;
@@ -166,14 +166,14 @@ apart : (X : Type 0) (x : X) (m : Option X) → m ≡ None → m ≡ Some x → 
 apart X x m none some = let wrong : None ≡ Some x = sym none ∙ some in cc
 
 -- lines that none but a draft took in begin a report
-pub lines_begin : (ls : List Line) (d : Draft) → with_all ls no_lines ≡ Some d → Begin ls
+pub lines_begin : (ls : List ReportLine) (d : Draft) → with_all ls no_lines ≡ Some d → Begin ls
 lines_begin ls d taken =
     let is = after ls no_lines d taken (All-nil IsInOrder) in
     let lines : draft_lines d ≡ ls = is.lines in
     rw lines at (begins d.done d.stage is.in_order)
 
 -- a line that the draft of lines refuses has no place behind them
-pub begins_not : (ls : List Line) (d : Draft) (l : Line) → with_all ls no_lines ≡ Some d → with_line d l ≡ None → Begin (ls ++ l ∷ []) → ⊥
+pub begins_not : (ls : List ReportLine) (d : Draft) (l : ReportLine) → with_all ls no_lines ≡ Some d → with_line d l ≡ None → Begin (ls ++ l ∷ []) → ⊥
 begins_not ls d l taken refused begin =
     let lines : report_lines begin.report ≡ ls ++ (l ∷ begin.rest) = begin.are ∙ append_assoc ls (l ∷ []) begin.rest in
     let some = all_lines begin.report begin.in_order in
@@ -181,7 +181,7 @@ begins_not ls d l taken refused begin =
     apart Draft (record { done = begin.report.channels; stage = stage.End begin.report.packets }) (with_all (report_lines begin.report) no_lines) none some
 
 -- lines whose draft is not finished are no report
-pub no_report : (ls : List Line) (d : Draft) → with_all ls no_lines ≡ Some d → finished d ≡ None → AreNoReport ls
+pub no_report : (ls : List ReportLine) (d : Draft) → with_all ls no_lines ≡ Some d → finished d ≡ None → AreNoReport ls
 no_report ls d taken none = λ r in_order is.
     let whole : with_all ls no_lines ≡ Some (record { done = r.channels; stage = stage.End r.packets }) = rw is at (all_lines r in_order) in
     let same : Some d ≡ Some (record { done = r.channels; stage = stage.End r.packets }) = sym taken ∙ whole in

@@ -12,7 +12,7 @@ use Rattle.mil_host.specs.Printing.{spaced, spaced_word}
 use Rattle.bench_report.specs.Reports.{ChannelPart, RunReport}
 use Rattle.bench_report.specs.Spelling.{part_lines}
 use Rattle.bench_report.specs.Printing.{report_line_text, refused_text, placed_text, part_text, report_text, host_action_words, host_action_text}
-use Rattle.bench_report.specs.declared.lines.Line.TheVariants as line
+use Rattle.bench_report.specs.declared.lines.ReportLine.TheVariants as line
 
 -- a host's action stands behind a space
 host_behind : (action : HostAction) → flat_map spaced_word (host_action_words action) ≡ 32 ∷ host_action_text action

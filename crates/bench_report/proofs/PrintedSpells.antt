@@ -23,8 +23,8 @@ use Rattle.bench_report.specs.Lines.{said, line_in, bounded_number, is_controlle
 use Rattle.bench_report.specs.Spelling.{part_lines, report_lines, Spells}
 use Rattle.text_lines.specs.Lines.{is_line_end, text_lines}
 use Rattle.bench_report.specs.Printing.{line_words, host_action_words, report_line_text, report_text}
-use Rattle.bench_report.specs.declared.lines.Line.{Line}
-use Rattle.bench_report.specs.declared.lines.Line.TheVariants as line
+use Rattle.bench_report.specs.declared.lines.ReportLine.{ReportLine}
+use Rattle.bench_report.specs.declared.lines.ReportLine.TheVariants as line
 use Rattle.text_lines.proofs.LineLemmas.{text_lines-line, text_lines-none}
 
 -- a printed number reads back
@@ -95,7 +95,7 @@ said_placed n (Controller asked) low high place is =
     ap line_in parted ∙ rw (n_is.reads, control.back asked is) refl
 
 -- the text of a line says it
-said_line : (l : Line) → IsLine l → said (spaced (line_words l)) ≡ Some l
+said_line : (l : ReportLine) → IsLine l → said (spaced (line_words l)) ≡ Some l
 unfolding said
 said_line (line.Channel n) is =
     let n_is = channel_number n is in
@@ -139,7 +139,7 @@ host_on_line : (action : HostAction) → IsForPlace action → IsHostAction acti
 host_on_line (Terminal address action) place is = (on_line (decimal address) (address_number address place).is, (one_line action is, tt))
 host_on_line (Controller asked) place is = (on_line (codes "bc") bc_word, (control.one_line asked is, tt))
 
-line_on_line : (l : Line) → IsLine l → OnOneLine (spaced (line_words l))
+line_on_line : (l : ReportLine) → IsLine l → OnOneLine (spaced (line_words l))
 line_on_line (line.Channel n) is =
     together (codes "channel" ∷ decimal n ∷ []) (on_line (codes "channel") (named (codes "channel") refl refl), (on_line (decimal n) (channel_number n is).is, tt))
 line_on_line (line.Made n) is =
@@ -164,11 +164,11 @@ not_an_end b high = go (is_line_end b) refl
 no_end : (text : Text) → OnOneLine text → All (λ b. is_line_end b ≡ false) text
 no_end text on k d lt = not_an_end (slice_index_or text k d) (on k d lt)
 
-abbrev AreLines : List Line → Type 0
+abbrev AreLines : List ReportLine → Type 0
 AreLines [] = Unit {0}
 AreLines (l ∷ ls) = IsLine l × AreLines ls
 
-printed_lines : (ls : List Line) → AreLines ls → map said (text_lines (flat_map report_line_text ls)) ≡ map Some ls
+printed_lines : (ls : List ReportLine) → AreLines ls → map said (text_lines (flat_map report_line_text ls)) ≡ map Some ls
 printed_lines [] are = rw (text_lines-none [] refl) refl
 printed_lines (l ∷ ls) are =
     rw (
@@ -178,7 +178,7 @@ printed_lines (l ∷ ls) are =
       printed_lines ls are.1,
     ) refl
 
-are_append : (xs ys : List Line) → AreLines xs → AreLines ys → AreLines (xs ++ ys)
+are_append : (xs ys : List ReportLine) → AreLines xs → AreLines ys → AreLines (xs ++ ys)
 are_append [] ys are more = more
 are_append (x ∷ xs) ys are more = (are.0, are_append xs ys are.1 more)
 

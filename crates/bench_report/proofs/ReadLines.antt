@@ -9,7 +9,7 @@ use Rattle.text_lines.specs.Lines.{text_lines}
 use Rattle.bench_report.specs.Drafts.{Draft, IsNotMemory, IsRefusedLine, no_lines, with_line, with_line_said, with_lines, option_bind, finished}
 use Rattle.bench_report.specs.declared.fault.ReportFault.{ReportFault}
 use Rattle.bench_report.specs.declared.fault.ReportFault.TheVariants as fault
-use Rattle.bench_report.specs.declared.lines.Line.{Line}
+use Rattle.bench_report.specs.declared.lines.ReportLine.{ReportLine}
 use Rattle.bench_report.proofs.Drafted.{are_said}
 use Rattle.bench_report.proofs.Taken.{with_all, texts_as_lines, all-append}
 use Rattle.bench_report.proofs.FirstFaults.{lines_begin, begins_not, no_report}
@@ -67,7 +67,7 @@ read_one text rest first behind d e line is lines step =
 
 -- the lines that were read
 record Came (texts : List Text) (d : Draft) : Type 0 where
-  lines : List Line
+  lines : List ReportLine
   are : map said texts ≡ map Some lines
   taken : with_all lines no_lines ≡ Some d
 
@@ -76,10 +76,10 @@ came texts d taken =
     let said_all = are_said texts no_lines d taken in
     record { lines = said_all.lines; are = said_all.are; taken = sym (texts_as_lines texts said_all.lines no_lines said_all.are) ∙ taken }
 
-place : (lines : List Line) (d : Draft) (text : Text) → with_all lines no_lines ≡ Some d → IsSome (with_line_said d (said text)) → HasPlace lines text
+place : (lines : List ReportLine) (d : Draft) (text : Text) → with_all lines no_lines ≡ Some d → IsSome (with_line_said d (said text)) → HasPlace lines text
 place lines d text taken some = go (said text) refl some
   where
-    go : (m : Option Line) → said text ≡ m → IsSome (with_line_said d m) → HasPlace lines text
+    go : (m : Option ReportLine) → said text ≡ m → IsSome (with_line_said d m) → HasPlace lines text
     go None says some = cc
     go (Some l) says some = on (with_line d l) refl some
       where
@@ -89,21 +89,21 @@ place lines d text taken some = go (said text) refl some
             let all : with_all (lines ++ l ∷ []) no_lines ≡ Some e = all-append lines (l ∷ []) no_lines d taken ∙ (rw step refl) in
             record { line = l; says = says; begins = lines_begin (lines ++ l ∷ []) e all }
 
-no_place : (lines : List Line) (d : Draft) (text : Text) → with_all lines no_lines ≡ Some d → IsSome (said text) → with_line_said d (said text) ≡ None → HasNoPlace lines text
+no_place : (lines : List ReportLine) (d : Draft) (text : Text) → with_all lines no_lines ≡ Some d → IsSome (said text) → with_line_said d (said text) ≡ None → HasNoPlace lines text
 no_place lines d text taken some none = go (said text) refl some none
   where
-    go : (m : Option Line) → said text ≡ m → IsSome m → with_line_said d m ≡ None → HasNoPlace lines text
+    go : (m : Option ReportLine) → said text ≡ m → IsSome m → with_line_said d m ≡ None → HasNoPlace lines text
     go None says some none = cc
     go (Some l) says some none = record { line = l; says = says; begins_not = begins_not lines d l taken none }
 
-at_fault : (lines : List Line) (d : Draft) (text : Text) (rest : List Text) (f : ReportFault) → with_all lines no_lines ≡ Some d
+at_fault : (lines : List ReportLine) (d : Draft) (text : Text) (rest : List Text) (f : ReportFault) → with_all lines no_lines ≡ Some d
     → IsRefusedLine d text f → IsReportFaultAt lines (text ∷ rest) f
 at_fault lines d text rest fault.Word taken is = is.0
 at_fault lines d text rest fault.Number taken is = is
 at_fault lines d text rest fault.Order taken is = no_place lines d text taken is.0 is.1
 at_fault lines d text rest fault.Memory taken is = place lines d text taken is
 
-as_many : (lines : List Line) (texts : List Text) → map said texts ≡ map Some lines → length lines ≡ length texts
+as_many : (lines : List ReportLine) (texts : List Text) → map said texts ≡ map Some lines → length lines ≡ length texts
 as_many lines texts are = sym (length-map lines Some) ∙ sym (ap length are) ∙ length-map texts said
 
 -- a line that is refused is the first fault

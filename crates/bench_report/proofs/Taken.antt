@@ -13,25 +13,25 @@ use Rattle.bench_report.specs.Lines.{said}
 use Rattle.bench_report.specs.Spelling.{part_lines, report_lines, Spells}
 use Rattle.text_lines.specs.Lines.{text_lines}
 use Rattle.bench_report.specs.Drafts.{Draft, no_lines, with_line, with_lines, option_bind, closed, made_of, last_number, numbers}
-use Rattle.bench_report.specs.declared.lines.Line.{Line}
-use Rattle.bench_report.specs.declared.lines.Line.TheVariants as line
+use Rattle.bench_report.specs.declared.lines.ReportLine.{ReportLine}
+use Rattle.bench_report.specs.declared.lines.ReportLine.TheVariants as line
 use Rattle.bench_report.specs.declared.stages.Stage.TheVariants.{Body, End}
 
 -- a draft with more lines
-abbrev pub with_all : List Line → Draft → Option Draft
+abbrev pub with_all : List ReportLine → Draft → Option Draft
 with_all [] d = Some d
 with_all (l ∷ ls) d = option_bind (with_line d l) (with_all ls)
 
-abbrev head_or : Option Line → List (Option Line) → Option Line
+abbrev head_or : Option ReportLine → List (Option ReportLine) → Option ReportLine
 head_or m [] = m
 head_or m (x ∷ xs) = x
 
-abbrev tail_of : List (Option Line) → List (Option Line)
+abbrev tail_of : List (Option ReportLine) → List (Option ReportLine)
 tail_of [] = []
 tail_of (x ∷ xs) = xs
 
 -- texts that say lines are taken in as these
-pub texts_as_lines : (texts : List Text) (ls : List Line) (d : Draft) → map said texts ≡ map Some ls → with_lines texts d ≡ with_all ls d
+pub texts_as_lines : (texts : List Text) (ls : List ReportLine) (d : Draft) → map said texts ≡ map Some ls → with_lines texts d ≡ with_all ls d
 texts_as_lines [] [] d are = refl
 texts_as_lines [] (l ∷ ls) d are = cc
 texts_as_lines (text ∷ texts) [] d are = cc
@@ -44,7 +44,7 @@ texts_as_lines (text ∷ texts) (l ∷ ls) d are =
     go None same = refl
     go (Some e) same = same e
 
-pub all-append : (xs ys : List Line) (d e : Draft) → with_all xs d ≡ Some e → with_all (xs ++ ys) d ≡ with_all ys e
+pub all-append : (xs ys : List ReportLine) (d e : Draft) → with_all xs d ≡ Some e → with_all (xs ++ ys) d ≡ with_all ys e
 all-append [] ys d e is = ap (λ (m : Option Draft). option_bind m (with_all ys)) is
 all-append (x ∷ xs) ys d e is = go (with_line d x) is (λ f. all-append xs ys f e)
   where

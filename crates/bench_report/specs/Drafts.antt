@@ -9,8 +9,8 @@ use Rattle.text_lines.specs.Lines.{text_lines}
 use Rattle.bench_report.specs.Faults.{are_line_words}
 use Rattle.bench_report.specs.declared.fault.ReportFault.{ReportFault}
 use Rattle.bench_report.specs.declared.fault.ReportFault.TheVariants as fault
-use Rattle.bench_report.specs.declared.lines.Line.{Line}
-use Rattle.bench_report.specs.declared.lines.Line.TheVariants as line
+use Rattle.bench_report.specs.declared.lines.ReportLine.{ReportLine}
+use Rattle.bench_report.specs.declared.lines.ReportLine.TheVariants as line
 use Rattle.bench_report.specs.declared.stages.Stage.{Stage}
 use Rattle.bench_report.specs.declared.stages.Stage.TheVariants.{Begin, Named, Body, End}
 
@@ -88,14 +88,14 @@ placed_line done (Body p) x = in_body done (with_placed p x)
 placed_line done (End packets) x = None
 
 -- a draft with one more line, where the line may stand there
-abbrev pub with_line : Draft → Line → Option Draft
+abbrev pub with_line : Draft → ReportLine → Option Draft
 with_line d (line.Channel n) = at_stage (closed d.done d.stage) (Named n)
 with_line d (line.Made n) = made_line d.done d.stage n
 with_line d (line.Refused n) = refused_line d.done d.stage n
 with_line d (line.Placed x) = placed_line d.done d.stage x
 with_line d (line.Packets n) = at_stage (closed d.done d.stage) (End n)
 
-abbrev pub with_line_said : Draft → Option Line → Option Draft
+abbrev pub with_line_said : Draft → Option ReportLine → Option Draft
 with_line_said d None = None
 with_line_said d (Some l) = with_line d l
 

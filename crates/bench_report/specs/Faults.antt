@@ -13,7 +13,7 @@ use Rattle.bench_report.specs.Spelling.{report_lines}
 use Rattle.text_lines.specs.Lines.{text_lines}
 use Rattle.bench_report.specs.declared.fault.ReportFault.{ReportFault}
 use Rattle.bench_report.specs.declared.fault.ReportFault.TheVariants as fault
-use Rattle.bench_report.specs.declared.lines.Line.{Line}
+use Rattle.bench_report.specs.declared.lines.ReportLine.{ReportLine}
 
 abbrev pub is_one_word : List Text → Bool
 is_one_word [] = false
@@ -48,32 +48,32 @@ pub record IsInOrder (p : ChannelPart) : Type 0 where
   pub placed : NeverFalls 0 p.placed
 
 -- lines with which the lines of a report begin, whose channels are in order
-pub record Begin (lines : List Line) : Type 0 where
+pub record Begin (lines : List ReportLine) : Type 0 where
   pub report : RunReport
   pub in_order : All IsInOrder report.channels
-  pub rest : List Line
+  pub rest : List ReportLine
   pub are : report_lines report ≡ lines ++ rest
 
 -- the lines of a report without its last
-abbrev pub AreNoReport : List Line → Type 0
+abbrev pub AreNoReport : List ReportLine → Type 0
 AreNoReport lines = (r : RunReport) → All IsInOrder r.channels → report_lines r ≡ lines → ⊥
 
 -- a line that has its place behind these
-pub record HasPlace (before : List Line) (text : Text) : Type 0 where
-  pub line : Line
+pub record HasPlace (before : List ReportLine) (text : Text) : Type 0 where
+  pub line : ReportLine
   pub says : said text ≡ Some line
   pub begins : Begin (before ++ line ∷ [])
 
 -- one that has none
-pub record HasNoPlace (before : List Line) (text : Text) : Type 0 where
-  pub line : Line
+pub record HasNoPlace (before : List ReportLine) (text : Text) : Type 0 where
+  pub line : ReportLine
   pub says : said text ≡ Some line
   pub begins_not : Begin (before ++ line ∷ []) → ⊥
 
 -- what is at fault where these lines were read, and these are still to come: X1 the words of the next, X2 a number of
 -- it, X3 its place, or that no line is left where the last is missing; memory may be refused only at a line without a
 -- fault
-abbrev pub IsReportFaultAt : List Line → List Text → ReportFault → Type 0
+abbrev pub IsReportFaultAt : List ReportLine → List Text → ReportFault → Type 0
 IsReportFaultAt before [] fault.Word = ⊥
 IsReportFaultAt before [] fault.Number = ⊥
 IsReportFaultAt before [] fault.Order = AreNoReport before
@@ -85,7 +85,7 @@ IsReportFaultAt before (text ∷ rest) fault.Memory = HasPlace before text
 
 -- the first fault of a text, and the number of its line, counted from 1: all lines before it begin a report
 pub record IsFirstReportFault (text : Text) (fault : ReportFault) (line : ℕ) : Type 0 where
-  pub before : List Line
+  pub before : List ReportLine
   pub texts : List Text
   pub rest : List Text
   pub all : text_lines text ≡ texts ++ rest

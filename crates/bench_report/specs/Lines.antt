@@ -13,8 +13,8 @@ use Rattle.controller_host.specs.declared.controls.Control.{Control}
 use Rattle.controller_text.specs.Reading.{control_in}
 use Rattle.bc_machine.specs.declared.placed.HostAction.TheVariants.{Terminal, Controller}
 use Rattle.bench_report.specs.Reports.{IsPlaced}
-use Rattle.bench_report.specs.declared.lines.Line.{Line}
-use Rattle.bench_report.specs.declared.lines.Line.TheVariants as line
+use Rattle.bench_report.specs.declared.lines.ReportLine.{ReportLine}
+use Rattle.bench_report.specs.declared.lines.ReportLine.TheVariants as line
 
 -- a number from low to high
 abbrev pub within : ℕ → ℕ → Option ℕ → Option ℕ
@@ -32,7 +32,7 @@ only_number most low high (word ∷ []) = bounded_number most low high word
 only_number most low high (word ∷ more ∷ rest) = None
 
 -- an action at a message and a terminal
-abbrev pub placed_line_of : Option ℕ → Option ℕ → Result Action BadAction → Option Line
+abbrev pub placed_line_of : Option ℕ → Option ℕ → Result Action BadAction → Option ReportLine
 placed_line_of (Some number) (Some address) (Ok action) = Some
     (line.Placed (record { number = number; action = Terminal address action }))
 placed_line_of (Some number) (Some address) (Err bad) = None
@@ -40,7 +40,7 @@ placed_line_of (Some number) None action = None
 placed_line_of None address action = None
 
 -- what the host of the controller asks for at a message
-abbrev pub asked_line_of : Option ℕ → Result Control BadAction → Option Line
+abbrev pub asked_line_of : Option ℕ → Result Control BadAction → Option ReportLine
 asked_line_of (Some number) (Ok asked) = Some (line.Placed (record { number = number; action = Controller asked }))
 asked_line_of (Some number) (Err bad) = None
 asked_line_of None asked = None
@@ -50,14 +50,14 @@ abbrev pub is_controller : Text → Bool
 is_controller word = bytes_eq word (codes "bc")
 
 -- the number of a message, the address of a terminal or `bc`, and the text of an action
-abbrev pub placed_in : List Text → Option Line
+abbrev pub placed_in : List Text → Option ReportLine
 placed_in [] = None
 placed_in (number ∷ []) = None
 placed_in (number ∷ host ∷ action) =
     if is_controller host then asked_line_of (bounded_number 7 1 1000000 number) (control_in action)
     else placed_line_of (bounded_number 7 1 1000000 number) (bounded_number 7 0 highest_address host) (in_words action)
 
-abbrev pub line_in : List Text → Option Line
+abbrev pub line_in : List Text → Option ReportLine
 line_in [] = None
 line_in (word ∷ rest) =
     if bytes_eq word (codes "channel") then option_map line.Channel (only_number 7 1 65535 rest)
@@ -68,11 +68,11 @@ line_in (word ∷ rest) =
     else None
 
 -- what a line says; nothing where it may not stand in a report
-unfoldable pub said : Text → Option Line
+unfoldable pub said : Text → Option ReportLine
 said text = line_in (words text)
 
 -- the ranges of what a line says
-abbrev pub IsLine : Line → Type 0
+abbrev pub IsLine : ReportLine → Type 0
 IsLine (line.Channel n) = (1 ≤ n) × (n ≤ 65535)
 IsLine (line.Made n) = n ≤ 1000000
 IsLine (line.Refused n) = (1 ≤ n) × (n ≤ 1000000)

@@ -9,8 +9,8 @@ use Rattle.text_lines.specs.Words.{Text}
 use Rattle.mil_host.specs.Printing.{spaced, action_text}
 use Rattle.bench_report.specs.Reports.{ChannelPart, RunReport}
 use Rattle.bench_report.specs.Spelling.{part_lines, report_lines}
-use Rattle.bench_report.specs.declared.lines.Line.{Line}
-use Rattle.bench_report.specs.declared.lines.Line.TheVariants as line
+use Rattle.bench_report.specs.declared.lines.ReportLine.{ReportLine}
+use Rattle.bench_report.specs.declared.lines.ReportLine.TheVariants as line
 use Rattle.bench_report.specs.declared.fault.ReportFault.{ReportFault}
 use Rattle.bench_report.specs.declared.fault.ReportFault.TheVariants as fault
 use Rattle.bench_report.specs.declared.fault.ReportError.{ReportError}
@@ -24,7 +24,7 @@ abbrev pub host_action_text : HostAction → Text
 host_action_text action = spaced (host_action_words action)
 
 -- the words of a line; those of an action stand in its text
-abbrev pub line_words : Line → List Text
+abbrev pub line_words : ReportLine → List Text
 line_words (line.Channel n) = codes "channel" ∷ decimal n ∷ []
 line_words (line.Made n) = codes "made" ∷ decimal n ∷ []
 line_words (line.Refused n) = codes "refused" ∷ decimal n ∷ []
@@ -32,7 +32,7 @@ line_words (line.Placed p) = codes "placed" ∷ decimal p.number ∷ host_action
 line_words (line.Packets n) = codes "packets" ∷ decimal n ∷ []
 
 -- a line and its end
-abbrev pub report_line_text : Line → Text
+abbrev pub report_line_text : ReportLine → Text
 report_line_text l = spaced (line_words l) ++ codes "\n"
 
 abbrev pub refused_text : ℕ → Text

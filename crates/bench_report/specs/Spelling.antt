@@ -5,15 +5,15 @@ use Rattle.text_lines.specs.Lines.{text_lines}
 use Rattle.text_lines.specs.Words.{Text}
 use Rattle.bench_report.specs.Reports.{ChannelPart, RunReport}
 use Rattle.bench_report.specs.Lines.{said}
-use Rattle.bench_report.specs.declared.lines.Line.{Line}
-use Rattle.bench_report.specs.declared.lines.Line.TheVariants as line
+use Rattle.bench_report.specs.declared.lines.ReportLine.{ReportLine}
+use Rattle.bench_report.specs.declared.lines.ReportLine.TheVariants as line
 
 -- the lines of a channel: its number, how many messages it made, then each refused number, then each placed action
-abbrev pub part_lines : ChannelPart → List Line
+abbrev pub part_lines : ChannelPart → List ReportLine
 part_lines p = line.Channel p.channel ∷ line.Made p.made ∷ (map line.Refused p.refused ++ map line.Placed p.placed)
 
 -- the lines of a report: those of its channels, and last how many packets were written
-abbrev pub report_lines : RunReport → List Line
+abbrev pub report_lines : RunReport → List ReportLine
 report_lines r = flat_map part_lines r.channels ++ line.Packets r.packets ∷ []
 
 -- a text spells a report

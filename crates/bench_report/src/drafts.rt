@@ -8,7 +8,7 @@ ghost use Rattle.text_lines.specs.Readings.{IsOkOption};
 
 use crate::channels::ChannelReport;
 use crate::fault::ReportFault;
-use crate::lines::{Line, read_line};
+use crate::lines::{ReportLine, read_line};
 use crate::reports::Report;
 use crate::stages::Stage;
 use std::alloc::Global;
@@ -54,33 +54,33 @@ impl Draft {
     }
 
     /// One more line.
-    fn take(&mut self, line: Line) -> Result<(), ReportFault>
+    fn take(&mut self, line: ReportLine) -> Result<(), ReportFault>
         requires { IsLine line }
         ensures { TakesIntoDraft result (with_line self.old line) self.new }
     {
         match line {
-            Line::Channel(channel) => {
+            ReportLine::Channel(channel) => {
                 self.close()?;
                 self.stage = Stage::Named(channel);
                 Ok(())
             }
-            Line::Packets(packets) => {
+            ReportLine::Packets(packets) => {
                 self.close()?;
                 self.stage = Stage::End(packets);
                 Ok(())
             }
-            Line::Made(made) => match self.stage {
+            ReportLine::Made(made) => match self.stage {
                 Stage::Named(channel) => {
                     self.stage = Stage::Body(ChannelReport::begin(self.alloc, channel, made));
                     Ok(())
                 }
                 _ => Err(ReportFault::Order),
             },
-            Line::Refused(number) => match &mut self.stage {
+            ReportLine::Refused(number) => match &mut self.stage {
                 Stage::Body(channel) => channel.add_refused(number),
                 _ => Err(ReportFault::Order),
             },
-            Line::Placed(placed) => match &mut self.stage {
+            ReportLine::Placed(placed) => match &mut self.stage {
                 Stage::Body(channel) => channel.add_placed(placed),
                 _ => Err(ReportFault::Order),
             },

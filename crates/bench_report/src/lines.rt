@@ -18,7 +18,7 @@ use text_lines::next_word;
 
 /// What a line says.
 #[derive(Drop)]
-pub enum Line {
+pub enum ReportLine {
     /// The channel that the lines behind it are about, 1 to 65,535.
     Channel(u16),
     /// How many messages it made, 0 to 1,000,000.
@@ -34,7 +34,7 @@ pub enum Line {
 /// The words behind `placed`.
 #[tactic(auto, unfolding(mil_host::specs::Reading::action_in))]
 fn read_placed(rest: &[u8]) -> Result<Placed, ReportFault>
-    ensures value { IsOkOption Line.Placed result (placed_in (words rest.now)) }
+    ensures value { IsOkOption ReportLine.Placed result (placed_in (words rest.now)) }
     ensures range { IfOk result IsPlaced }
     ensures fault { IfErr result (λ f. IsBad (are_placed_words (words rest.now)) f) }
 {
@@ -64,7 +64,7 @@ fn read_placed(rest: &[u8]) -> Result<Placed, ReportFault>
 
 /// What the host of the controller asked for before the message of a number.
 fn read_control_at(number_word: &[u8], text: &[u8]) -> Result<Placed, ReportFault>
-    ensures value { IsOkOption Line.Placed result
+    ensures value { IsOkOption ReportLine.Placed result
         (asked_line_of (bounded_number 7 1 1000000 number_word.now) (control_in (words text.now))) }
     ensures range { IfOk result IsPlaced }
     ensures fault { IfErr result (λ f. IsBad (is_action (control_in (words text.now))) f) }
@@ -82,7 +82,7 @@ fn read_control_at(number_word: &[u8], text: &[u8]) -> Result<Placed, ReportFaul
 
 /// What a line says.
 #[tactic(auto, unfolding(crate::specs::Lines::said))]
-pub fn read_line(text: &[u8]) -> Result<Line, ReportFault>
+pub fn read_line(text: &[u8]) -> Result<ReportLine, ReportFault>
     ensures value { IsOkOption (λ l. l) result (said text.now) }
     ensures range { IfOk result IsLine }
     ensures fault { IfErr result (λ f. IsBad (are_line_words (words text.now)) f) }
@@ -91,15 +91,15 @@ pub fn read_line(text: &[u8]) -> Result<Line, ReportFault>
         return Err(ReportFault::Word);
     };
     if word == b"channel".as_slice() {
-        Ok(Line::Channel(only_number_in(rest, 7, 1, 65_535)? as u16))
+        Ok(ReportLine::Channel(only_number_in(rest, 7, 1, 65_535)? as u16))
     } else if word == b"made".as_slice() {
-        Ok(Line::Made(only_number_in(rest, 7, 0, 1_000_000)? as u32))
+        Ok(ReportLine::Made(only_number_in(rest, 7, 0, 1_000_000)? as u32))
     } else if word == b"refused".as_slice() {
-        Ok(Line::Refused(only_number_in(rest, 7, 1, 1_000_000)? as u32))
+        Ok(ReportLine::Refused(only_number_in(rest, 7, 1, 1_000_000)? as u32))
     } else if word == b"placed".as_slice() {
-        Ok(Line::Placed(read_placed(rest)?))
+        Ok(ReportLine::Placed(read_placed(rest)?))
     } else if word == b"packets".as_slice() {
-        Ok(Line::Packets(only_number_in(rest, 10, 0, 9_999_999_999)?))
+        Ok(ReportLine::Packets(only_number_in(rest, 10, 0, 9_999_999_999)?))
     } else {
         Err(ReportFault::Word)
     }

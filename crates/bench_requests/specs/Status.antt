@@ -15,7 +15,8 @@ use Rattle.bench_requests.specs.declared.fault.Fault.{Fault}
 use Rattle.bench_requests.specs.declared.fault.Fault.TheVariants.{Text, Script, Recording, Report, Mismatch, Job, Run}
 use Rattle.bench_requests.specs.declared.fault.Fault.TheVariants.{Sink, Device, System, Unknown, Rules, NotHeld, Memory}
 use Rattle.bench_requests.specs.declared.fault.Fault.TheVariants.{OneFile, Busy, OtherKind, OtherPart, Usage}
-use Rattle.bench_requests.specs.declared.fault.Fault.TheVariants.{NoneSelected, Suspicious, Differ, Dictionary, OneOfTwo}
+use Rattle.bench_requests.specs.declared.fault.Fault.TheVariants.{NoneSelected, Suspicious, Differ, Dictionary}
+use Rattle.bench_requests.specs.declared.fault.Fault.TheVariants.{OneOfTwo}
 
 abbrev pub status_of : Fault → ℕ
 -- the input was refused

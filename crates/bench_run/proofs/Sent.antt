@@ -74,7 +74,7 @@ row_send : IsSend row.the_row
 row_send = search (sendable, crosses) depth 40 fits 10000
 
 schedule_send : IsSend schedule.the_row
-schedule_send = view_send schedule_inside.the_row _ _ _ _ (declared_send schedule_inside.the_type ((search (row_send, sendable, crosses) depth 40 fits 20000), ((search (host_action_send, sendable, crosses) depth 40 fits 20000), ((search (row_send, sendable, crosses) depth 40 fits 20000), ((search (sendable, crosses) depth 40 fits 20000), ((search (sendable, crosses) depth 40 fits 20000), ((search (sources_send, sendable, crosses) depth 40 fits 20000), tt)))))))
+schedule_send = view_send schedule_inside.the_row _ _ _ _ (declared_send schedule_inside.the_type ((search (row_send, sendable, crosses) depth 40 fits 20000), ((search (host_action_send, sendable, crosses) depth 40 fits 20000), ((search (row_send, sendable, crosses) depth 40 fits 20000), ((search (sendable, crosses) depth 40 fits 20000), ((search (sendable, crosses) depth 40 fits 20000), ((search (sendable, crosses) depth 40 fits 20000), ((search (sources_send, sendable, crosses) depth 40 fits 20000), tt))))))))
 
 agenda_send : IsSend agenda.the_row
 agenda_send = view_send agenda_inside.the_row _ _ _ _ (declared_send agenda_inside.the_type ((search (schedule_send, sendable, crosses) depth 40 fits 20000), ((search (schedule_send, sendable, crosses) depth 40 fits 20000), ((search (sendable, crosses) depth 40 fits 20000), ((search (sendable, crosses) depth 40 fits 20000), ((search (sendable, crosses) depth 40 fits 20000), ((search (sendable, crosses) depth 40 fits 20000), tt)))))))
@@ -110,7 +110,7 @@ row_sync : IsSync row.the_row
 row_sync = search (sendable, crosses) depth 40 fits 10000
 
 schedule_sync : IsSync schedule.the_row
-schedule_sync = view_sync schedule_inside.the_row _ _ _ _ (declared_sync schedule_inside.the_type ((search (row_sync, sendable, crosses) depth 40 fits 20000), ((search (host_action_sync, sendable, crosses) depth 40 fits 20000), ((search (row_sync, sendable, crosses) depth 40 fits 20000), ((search (sendable, crosses) depth 40 fits 20000), ((search (sendable, crosses) depth 40 fits 20000), ((search (sources_sync, sendable, crosses) depth 40 fits 20000), tt)))))))
+schedule_sync = view_sync schedule_inside.the_row _ _ _ _ (declared_sync schedule_inside.the_type ((search (row_sync, sendable, crosses) depth 40 fits 20000), ((search (host_action_sync, sendable, crosses) depth 40 fits 20000), ((search (row_sync, sendable, crosses) depth 40 fits 20000), ((search (sendable, crosses) depth 40 fits 20000), ((search (sendable, crosses) depth 40 fits 20000), ((search (sendable, crosses) depth 40 fits 20000), ((search (sources_sync, sendable, crosses) depth 40 fits 20000), tt))))))))
 
 actions_sync : IsSync actions.the_row
 actions_sync = search (schedule_sync, sendable, crosses) depth 40 fits 10000

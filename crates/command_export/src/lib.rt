@@ -3,8 +3,8 @@
 //!
 //! It may know: what commands share, requests, files, watched files, headers, the reader, the packets of a stream,
 //! times, names of channels, selections, dictionaries of signals, words of a text, what runs share, `bench_export`,
-//! `bench_signals`, `bench_draw` and `bench_complete`. It has no tests: each command is tried by `.ci/commands`, and its
-//! faults by `.ci/faults`. It has no wrong bodies.
+//! `bench_signals`, `bench_draw` and `bench_complete`. It has no tests: each command is tried by `.ci/commands`, and
+//! its faults by `.ci/faults`. It has no wrong bodies.
 #![tactic(auto)]
 
 mod channels;

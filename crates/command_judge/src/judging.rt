@@ -2,7 +2,7 @@
 
 use crate::signal_judging::run_with;
 use bench_files::{Hold, Kind};
-use bench_json::{Form, JsonLines};
+use bench_json::{JsonLines, JsonSource};
 use bench_judge::{
     Judged, Lost, PassFault, PrintFault, RuleVerdict, count_lost, judge, junit_text, read_skips,
     write_colored, write_verdicts,
@@ -324,7 +324,7 @@ fn print_json<'a, R: System, E: Eprint + IsTerminal>(
     spelled: Spelled<'_>,
 ) -> Result<Vec<RuleVerdict>, Fault<'a>> {
     let alloc = rt.alloc();
-    let lines = JsonLines::over(alloc, Form::Lines, listing(rt));
+    let lines = JsonLines::over(alloc, JsonSource::Lines, listing(rt));
     let mut out = on_stream("-", BufWriter::new(alloc, lines))?;
     let (rules, origins, skips) = (spelled.rules, spelled.origins, spelled.skips);
     match write_verdicts(alloc, recording, rules, origins, skips, &mut out) {

@@ -4,7 +4,7 @@ use crate::judging::{
     Request, STANDARD, fault_of_pass, given_rules, lent, lost_of, skips_of, tell_lost,
     tells_packets, write_report,
 };
-use bench_json::{Form, JsonLines};
+use bench_json::{JsonLines, JsonSource};
 use bench_judge::{Lost, RuleVerdict};
 use bench_requests::{Fault, junit_of, rules_text, verdict_on};
 use ch11_reader::Skip;
@@ -162,7 +162,7 @@ fn print_json<'a, R: System, E: Eprint + IsTerminal>(
     spelled: AllSpelled<'_, '_>,
 ) -> Result<Vec<RuleVerdict>, Fault<'a>> {
     let alloc = rt.alloc();
-    let lines = JsonLines::over(alloc, Form::Lines, listing(rt));
+    let lines = JsonLines::over(alloc, JsonSource::Lines, listing(rt));
     let mut out = on_stream("-", BufWriter::new(alloc, lines))?;
     let (rules, origins, skips) = (spelled.rules, spelled.origins, spelled.skips);
     match write_all_verdicts(alloc, recording, rules, origins, skips, &mut out) {

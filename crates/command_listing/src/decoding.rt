@@ -1,7 +1,7 @@
 //! `bench dump --decode`, and the selection of messages of `bench dump`.
 
 use bench_decode::{Output, Shown, decode, decode_by_time};
-use bench_json::{Form, JsonLines};
+use bench_json::{JsonLines, JsonSource};
 use bench_requests::{Fault, Listing, unless_gone};
 use clap::ArgMatches;
 use command_parts::dictionaries::{selection_by, signals_in};
@@ -79,7 +79,7 @@ pub(crate) fn show_messages<
     let output = output.counting_from(stamps.origins.as_slice());
     let mut out = listing_of(rt, &output);
     let (printed, is_gone) = if request.json {
-        let mut lines = JsonLines::over(rt.alloc(), Form::Lines, out);
+        let mut lines = JsonLines::over(rt.alloc(), JsonSource::Lines, out);
         let printed = print_messages(&recording, request.by_time, &output, &mut lines);
         let told = unless_refused(lines.is_refused(), printed);
         (told, lines.inner().is_gone())

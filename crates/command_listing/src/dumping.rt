@@ -2,7 +2,7 @@
 
 use crate::decoding::{Messages, asks_for_messages, messages_in, show_messages};
 use bench_dump::{dump, dump_skipping, dump_with_times};
-use bench_json::{Form, JsonLines};
+use bench_json::{JsonLines, JsonSource};
 use bench_requests::{Fault, Listing, unless_gone};
 use clap::{ArgMatches, Command};
 use command_parts::looking::{tell_of_loss, tell_of_unknown, tell_of_unread};
@@ -143,7 +143,7 @@ fn show_packets<'a, R: Files + AllocGlobal + Print + Clock, E: Eprint + IsTermin
     let recording = source.recording(request.skip, true);
     let mut out = Listing::ending(io::writer(rt));
     let (printed, is_gone) = if request.json {
-        let mut lines = JsonLines::over(rt.alloc(), Form::Lines, out);
+        let mut lines = JsonLines::over(rt.alloc(), JsonSource::Lines, out);
         let printed = print_packets(&recording, request, &mut lines);
         let told = unless_refused(lines.is_refused(), printed);
         (told, lines.inner().is_gone())

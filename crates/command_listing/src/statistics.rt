@@ -1,7 +1,7 @@
 //! `bench stat`: the figures of a recording.
 
 use bench_clock::ReadClock;
-use bench_json::{Form, JsonLines};
+use bench_json::{JsonLines, JsonSource};
 use bench_names::ChannelNames;
 use bench_requests::Fault;
 use bench_select::Selection;
@@ -247,7 +247,7 @@ fn print_counted<'a, R: AllocGlobal + Print>(
 ) -> Result<(), Fault<'a>> {
     if request.json {
         let out = on_stream("-", BufWriter::new(rt.alloc(), listing(rt)))?;
-        let mut lines = JsonLines::over(rt.alloc(), Form::Tables, out);
+        let mut lines = JsonLines::over(rt.alloc(), JsonSource::Tables, out);
         let answer = print_all(rt.alloc(), &mut lines, counted, request, signals);
         return unless_refused(lines.is_refused(), printed(answer, &mut lines));
     }

@@ -5,7 +5,7 @@ ghost use Rattle.std.specs.Prelude.{◌-◌, ◌<◌, ◌^◌, IfOk};
 
 use bench_decode::Shown;
 use bench_files::leads_to_output;
-use bench_live::{Desk, Manner, Pace, Session, Show, Showing, open_desk, start_host};
+use bench_live::{Desk, LiveRun, Pace, Pacing, Show, Showing, open_desk, start_host};
 use bench_mail::Inbox;
 use bench_report::Report;
 use bench_requests::{Fault, RunRequest};
@@ -39,7 +39,7 @@ pub struct Going<'a> {
 #[derive(Clone, Copy, Debug)]
 pub(crate) struct Way {
     live: bool,
-    manner: Manner,
+    pacing: Pacing,
 }
 
 /// A run that may begin: its jobs and settings, which were judged, and how it goes on.
@@ -102,7 +102,7 @@ pub(crate) fn way_of<'a, R: Files>(
     let drops = request.drops;
     Ok(Way {
         live: going.live,
-        manner: Manner { drops, pace },
+        pacing: Pacing { drops, pace },
     })
 }
 
@@ -191,25 +191,25 @@ where
     R::Reader: 'static,
     requires { S.failures sink < 2 ^ 64 - 1 }
 {
-    let (jobs, settings, manner, show) = (run.jobs, run.settings, run.way.manner, run.show);
-    let session = Session {
+    let (jobs, settings, pacing, show) = (run.jobs, run.settings, run.way.pacing, run.show);
+    let live = LiveRun {
         rt,
         alloc: rt.alloc(),
         errors,
         jobs,
         settings,
-        manner,
+        pacing,
         show,
     };
     if run.way.live {
         let Ok((desk, inboxes)) = start_posting(rt, errors, jobs) else {
             return Err(RunError::Memory { sink });
         };
-        let answer = session.record_live(&desk, inboxes, sink);
+        let answer = live.record_live(&desk, inboxes, sink);
         return without_inboxes(answer);
     }
-    if manner.pace.is_some() || show.is_some() {
-        return session.record_paced(sink);
+    if pacing.pace.is_some() || show.is_some() {
+        return live.record_paced(sink);
     }
-    record_jobs_with_progress(rt, rt.alloc(), errors, jobs, settings, manner.drops, sink)
+    record_jobs_with_progress(rt, rt.alloc(), errors, jobs, settings, pacing.drops, sink)
 }

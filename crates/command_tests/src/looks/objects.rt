@@ -1,13 +1,13 @@
 //! Lines and rows as JSON lines, worked out by hand.
 use crate::looks::equal::{reads, same_in};
-use bench_json::{Form, JsonLines};
+use bench_json::{JsonLines, JsonSource};
 use std::alloc::Global;
 use std::io::Write;
 use std::process::Abort;
 
 /// What is written comes to these lines, however it is parted.
-fn comes_to(rt: &impl Abort, alloc: Global, form: Form, written: &str, wanted: &str) {
-    let mut lines = JsonLines::over(alloc, form, Vec::new(alloc));
+fn comes_to(rt: &impl Abort, alloc: Global, source: JsonSource, written: &str, wanted: &str) {
+    let mut lines = JsonLines::over(alloc, source, Vec::new(alloc));
     let (front, back) = written.as_bytes().split_at(written.len() / 2);
     let first = lines.write_all(front).is_ok();
     let second = lines.write_all(back).is_ok();
@@ -28,7 +28,7 @@ fn lines_are_objects(rt: HostRuntime) {
         \"words\":[\"2FE2\",\"2800\"]}\n\
         {\"channel\":0,\"packet\":48,\"type\":\"01\"}\n{\"fault\":\"K2\",\"length\":24,\"skipped\":80}\n\
         {\"channel\":1,\"message\":2,\"missed\":1,\"stamp\":null}\n";
-    comes_to(&rt, rt.alloc(), Form::Lines, written, wanted);
+    comes_to(&rt, rt.alloc(), JsonSource::Lines, written, wanted);
 }
 
 /// Two tables, the first with a cell that has no value.
@@ -38,5 +38,5 @@ fn rows_are_objects(rt: HostRuntime) {
     let wanted =
         "{\"channel\":1,\"direction\":\"R\",\"least_us\":8.5}\n{\"channel\":2,\"direction\":\"T\"}\n\
         {\"channel\":1,\"figure\":\"errors\"}\n";
-    comes_to(&rt, rt.alloc(), Form::Tables, written, wanted);
+    comes_to(&rt, rt.alloc(), JsonSource::Tables, written, wanted);
 }

@@ -2,7 +2,7 @@
 ghost use Rattle.bench_live.specs.Posting.{AreHandsOf, IsOpened};
 ghost use Rattle.bench_run.specs.Live.{AreInboxesOf};
 
-use bench_live::{Desk, Hand, Manner, Pace, Session, next_fault, open_desk};
+use bench_live::{Desk, Hand, LiveRun, Pace, Pacing, next_fault, open_desk};
 use bench_mail::Inbox;
 use bench_report::{ChannelReport, HostActionText, Report};
 use bench_settings::Settings;
@@ -86,20 +86,20 @@ fn report_of<'s, R: Threads + Wait + Clock + Abort + Sync, E: Eprint + IsTermina
 ) -> Report
     requires { AreInboxesOf desk.now.boxes.items inboxes.items }
 {
-    let manner = Manner {
+    let pacing = Pacing {
         drops: false,
         pace: Pace::read(b"1000"),
     };
-    let session = Session {
+    let live = LiveRun {
         rt,
         alloc,
         errors,
         jobs,
         settings,
-        manner,
+        pacing,
         show: None,
     };
-    let answer = session.record_live(desk, inboxes, MemorySink::make(alloc));
+    let answer = live.record_live(desk, inboxes, MemorySink::make(alloc));
     let (report, _, _) = answer.ok().expect(rt, "a run that ends well");
     report
 }

@@ -20,7 +20,7 @@ set_at-requires-clause-ready c =
     let n = c.args.number in
     let found = c.rows_of-found.result.now in
     let same = ap (λ (v : List HostAction). placed_at n (all_placed v found)) c.as_slice-beside.ensures.value
-    ∙ same_placed n beside found rows (c.rows_of-found.ensures.same ∙ ap (rows_at n) c.as_slice.ensures.value) in
+    ∙ same_placed n beside found rows (c.rows_of-found.ensures.same ∙ ap (rows_at n) c.as_slice-rows.ensures.value) in
     subst (HaveRoom c.self.inside.sources.ready) (sym same)
     (All-filter (λ (p : Placed). eqb p.number n) (λ (p : Placed). sets_sources p.action ≡ true → c.self.inside.sources.ready ≡ true) (all_placed beside rows) c.self.invariant.sets)
 
@@ -60,7 +60,7 @@ returns-clause-sources c d place is =
     let n = c.args.number in
     let found = c.rows_of-found.result.now in
     let same = ap (λ (v : List HostAction). placed_at n (all_placed v found)) c.as_slice-beside.ensures.value
-    ∙ same_placed n beside found rows (c.rows_of-found.ensures.same ∙ ap (rows_at n) c.as_slice.ensures.value) in
+    ∙ same_placed n beside found rows (c.rows_of-found.ensures.same ∙ ap (rows_at n) c.as_slice-rows.ensures.value) in
     c.set_at.ensures.sources d place is
     ∙ ap (λ ps. with_controls (filter_map control_of ps) (source_in c.self.inside.sources.rows d place) d place) same
     ∙ ap (λ (s : ScheduleState). with_controls (controls_at n s.actions) (source_in s.sources.rows d place) d place) c.self.view_is

@@ -1,6 +1,6 @@
 use Rattle.std.proofs.Common.{IfOk, IfErr, subst}
 use Rattle.bench_run.specs.Live.{AreInboxesOf}
-use Rattle.bench_live.proofs.live.Session.record_live.Goals as goal
+use Rattle.bench_live.proofs.live.LiveRun.record_live.Goals as goal
 
 pub returns-clause-ends : goal.returns-clause-ends
 returns-clause-ends g c =
