@@ -9,6 +9,13 @@ use Rattle.bench_view.specs.Lines.{lines_text}
 use Rattle.bench_view.specs.Pages.{most_messages, most_bytes}
 use Rattle.bench_view.specs.declared.filling.Filling.{Filling}
 
+-- with so many messages, of so many bytes, there is room for one of so many more, or none
+abbrev pub HasRoom : ℕ → ℕ → ℕ → Type 0
+HasRoom shown size line = (shown < most_messages) × (size + line ≤ most_bytes)
+
+abbrev pub HasNone : ℕ → ℕ → ℕ → Type 0
+HasNone shown size line = (most_messages ≤ shown) ⊎ (most_bytes < size + line)
+
 -- the page has no room for a message behind so many
 pub record IsShut (signals : List Signal) (messages : List Told) (shown : ℕ) : Type 0 where
   pub below : shown < length messages
@@ -21,7 +28,7 @@ pub record IsFilled (front : List ℕ) (signals : List Signal) (messages : List 
   pub size : f.size ≡ length (lines_text signals (take f.shown messages))
   pub small : f.size ≤ most_bytes
   pub few : f.shown ≤ most_messages
-  pub open : f.full ≡ false → f.shown ≡ length messages
+  pub whole : f.full ≡ false → f.shown ≡ length messages
   pub shut : f.full ≡ true → IsShut signals messages f.shown
 
 -- the chosen ones of a history, and how many messages each channel had

@@ -1,9 +1,10 @@
 //! A page on the way: the lines of its messages.
 ghost use Rattle.bench_decode.specs.ByTime.{Told};
 ghost use Rattle.bench_select.specs.Viewed.{Viewed};
-ghost use Rattle.bench_view.specs.Filling.{AreFilled, IsFilled};
+ghost use Rattle.bench_select.specs.declared.selection.Selection.{Selection as Asks};
+ghost use Rattle.bench_view.specs.Filling.{AreFilled, HasNone, HasRoom, IsFilled};
 ghost use Rattle.bench_view.specs.Pages.{end_text};
-ghost use Rattle.std.specs.Prelude.{◌≡◌, ◌+◌, ◌≤◌, ◌++◌, ◌∷◌, [], ℕ, List, IfOk, OnOk, length};
+ghost use Rattle.std.specs.Prelude.{◌≡◌, ◌+◌, ◌<◌, ◌≤◌, ◌++◌, ◌∷◌, [], ℕ, List, true, false, IfOk, OnOk, length};
 
 use crate::line::put_line;
 use crate::page::Asked;
@@ -48,10 +49,18 @@ pub(crate) fn put_end(text: &mut Vec<u8>, shown: u64, chosen: u64) -> Result<(),
     Ok(())
 }
 
+/// Whether a page with so many messages, of so many bytes, has room for one of so many more.
+fn has_room(shown: u64, size: usize, line: usize) -> bool
+    ensures room { result ≡ true → HasRoom shown size line }
+    ensures none { result ≡ false → HasNone shown size line }
+{
+    shown < MOST_MESSAGES && size <= MOST_BYTES && line <= MOST_BYTES - size
+}
+
 impl Filling {
     /// A page with what stands in front of its data.
     pub(crate) fn begin(alloc: Global, front: &[u8]) -> Result<Filling, AllocError>
-        ensures { IfOk result (λ f. (signals : List Signal) → (s : Selection)
+        ensures { IfOk result (λ f. (signals : List Signal) → (s : Asks)
             → AreFilled front.now signals s [] f) }
     {
         let mut text = Vec::new(alloc);
@@ -67,32 +76,35 @@ impl Filling {
         })
     }
 
-    /// The next chosen message: its line, if there is room for it.
+    /// The next chosen message, of so many with it: its line, if there is room for it.
     fn put(
         &mut self,
         signals: &[Signal],
         place: &Place,
         view: &View<'_>,
+        chosen: u64,
     ) -> Result<(), AllocError>
-        requires { self.old.chosen < place.now.number }
+        requires { chosen ≡ self.old.chosen + 1 }
         ensures filled { (front : List ℕ) (messages : List Told) (t : Told)
             → IsFilled front signals.now messages self.old → t.number ≡ place.now.number
             → t.channel ≡ place.now.channel → t.in_channel ≡ place.now.in_channel → t.message ≡ view.now
             → OnOk result (IsFilled front signals.now (messages ++ t ∷ []) self.new) }
+        ensures chosen { OnOk result (self.new.chosen ≡ chosen) }
         ensures numbers { self.new.numbers ≡ self.old.numbers }
     {
-        self.chosen += 1;
+        self.chosen = chosen;
         if self.full {
             return Ok(());
         }
         self.line.clear();
         put_line(&mut self.line, signals, place, view)?;
-        let size = self.line.len();
-        if self.shown >= MOST_MESSAGES || size > MOST_BYTES.saturating_sub(self.size) {
+        let line = self.line.as_slice();
+        let size = line.len();
+        if !has_room(self.shown, self.size, size) {
             self.full = true;
             return Ok(());
         }
-        self.text.extend_from_slice(self.line.as_slice())?;
+        self.text.extend_from_slice(line)?;
         self.shown += 1;
         self.size += size;
         Ok(())
@@ -115,8 +127,9 @@ impl Filling {
         ensures few { OnOk result (self.new.chosen ≤ number) }
     {
         let place = self.numbers.place(number, channel);
+        let chosen = self.chosen + 1;
         if asked.selection.selects(number, channel, view) {
-            self.put(asked.signals, &place, view)?;
+            self.put(asked.signals, &place, view, chosen)?;
         }
         Ok(())
     }

@@ -33,10 +33,13 @@ fn put_letters(text: &mut Vec<u8>, most: u32, value: u64) -> Result<(), AllocErr
     if most == 0 {
         return Ok(());
     }
-    if value >= 64 {
-        put_letters(text, most - 1, value / 64)?;
+    let last = letter_of(value % 64);
+    if value < 64 {
+        text.push(last)?;
+        return Ok(());
     }
-    text.push(letter_of(value % 64))?;
+    put_letters(text, most - 1, value / 64)?;
+    text.push(last)?;
     Ok(())
 }
 

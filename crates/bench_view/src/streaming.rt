@@ -44,7 +44,14 @@ pub fn page_of<R: Advance + Drop>(
     'packets: for _made in 0..u64::MAX {
         match packets.next() {
             Ok(Some(packet)) => {
-                fill(&mut filling, &mut notes, asked, clock, &packet, packets.messages())?
+                fill(
+                    &mut filling,
+                    &mut notes,
+                    asked,
+                    clock,
+                    &packet,
+                    packets.messages(),
+                )?
             }
             Ok(None) => {
                 let behind = template.behind.as_slice();
