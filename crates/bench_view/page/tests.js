@@ -39,10 +39,11 @@ const track = new Track(three, [2, 0, 1]);
 same('in the order of time', [...track.places], [0, 1, 2]);
 same('load of all', track.load(0, 400), 0.5);
 same('load of a part of a message', track.load(50, 150), 0.5);
-same('errors', [track.errorsIn(0, 400), track.errorsIn(400, 401)], [0, 1]);
+same('columns', [...track.columns(0, 100, 6).load], [1, 0, 1, 0, 1, 1]);
+same('errors', [...track.columns(0, 200, 3).errors], [0, 0, 1]);
 same('ending behind', [track.endingBehind(50), track.endingBehind(100), track.endingBehind(250)], [0, 1, 1]);
 track.match(Uint8Array.of(0, 1, 0));
-same('load of what a filter leaves', [track.matchedLoad(0, 200), track.matchedLoad(200, 300)], [0, 1]);
+same('load of what a filter leaves', [...track.columns(0, 100, 4).matched], [0, 0, 1, 0]);
 
 // Periods and frames.
 same('a period', periodOf([0, 100, 200, 300, 401]), 100);
@@ -57,7 +58,8 @@ same('no frames', framesOf(rhythms, 5000), null);
 const series = new Series({ name: 's', named: false, unit: '' }, 1, [[10, '1'], [20, '-5'], [30, '']]);
 same('the value that stands', [series.at(5), series.at(10), series.at(29)], [-1, 0, 1]);
 same('the least and the greatest', series.range(0, 3), [-5, 1]);
-const many = new Series({ name: 's', named: false, unit: '' }, 1, [...Array(200).keys()].map((k) => [k, String(k)]));
+const values = [...Array(200).keys()].map((k) => [k, String(k)]);
+const many = new Series({ name: 's', named: false, unit: '' }, 1, values);
 same('of many', many.range(3, 190), [3, 189]);
 same('changes', [...new Series({}, 1, [[1, 'a'], [2, 'a'], [3, 'b']]).runs], [0, 2]);
 

@@ -25,7 +25,9 @@ function readNotes(lines, data) {
     const words = line.split(' ');
     if (words[0] === 'recording') data.recording = readText(words[1]);
     if (words[0] === 'channel') data.names.set(+words[1], readText(words[2]));
-    if (words[0] === 'mark') data.marks.push({ stamp: BigInt(words[1]), ofYear: words[2] === 'year', ticks: BigInt(words[3]) });
+    if (words[0] === 'mark') {
+      data.marks.push({ stamp: BigInt(words[1]), ofYear: words[2] === 'year', ticks: BigInt(words[3]) });
+    }
     if (words[0] === 'signal') {
       data.signals.push({ name: readText(words[1]), named: words[2] === 'names', unit: readText(words[3] || '') });
     }
@@ -84,7 +86,8 @@ function readData(text) {
 // The word at a place of a message; its block status word and gap times word stand in front, at -2 and -1.
 function wordAt(data, i, place) {
   const at = data.words[i] + 6 + 3 * place, text = data.text;
-  return VALUES[text.charCodeAt(at)] * 4096 + VALUES[text.charCodeAt(at + 1)] * 64 + VALUES[text.charCodeAt(at + 2)];
+  const value = (place) => VALUES[text.charCodeAt(place)];
+  return value(at) * 4096 + value(at + 1) * 64 + value(at + 2);
 }
 
 // The values of signals of a message, as [index, text].
@@ -378,18 +381,35 @@ class Track {
     return k > 0 && this.end[k - 1] > time ? k - 1 : k;
   }
 
-  // How many ticks up to a time messages took, by these sums.
-  upTo(time, sums) {
-    const k = this.from(time);
+  // How many ticks up to a time messages took, by these sums; so many of them begin before it.
+  upTo(time, sums, k = this.from(time)) {
     if (k === 0) return 0;
     const open = this.end[k - 1] > time ? (this.end[k - 1] - time) / (this.end[k - 1] - this.begin[k - 1]) : 0;
     return sums[k] - open * (sums[k] - sums[k - 1]);
   }
 
-  // The part of a span that messages took, and of it those that a filter leaves.
-  load(from, to) { return (this.upTo(to, this.busy) - this.upTo(from, this.busy)) / (to - from); }
-  matchedLoad(from, to) { return (this.upTo(to, this.matched) - this.upTo(from, this.matched)) / (to - from); }
-  errorsIn(from, to) { return this.errors[this.from(to)] - this.errors[this.from(from)]; }
+  // Of so many columns of a step each: the load, that of what a filter leaves, and how many errors there are.
+  columns(from, step, count) {
+    const found = { load: new Float64Array(count), matched: new Float64Array(count), errors: new Uint32Array(count) };
+    const { busy, matched, errors } = this;
+    let k = this.from(from), all = this.upTo(from, busy, k), left = matched ? this.upTo(from, matched, k) : 0;
+    for (let c = 0; c < count; c++) {
+      const time = from + (c + 1) * step, next = this.from(time), sum = this.upTo(time, busy, next);
+      found.load[c] = (sum - all) / step;
+      found.errors[c] = errors[next] - errors[k];
+      if (matched) {
+        const other = this.upTo(time, matched, next);
+        found.matched[c] = (other - left) / step;
+        left = other;
+      }
+      k = next;
+      all = sum;
+    }
+    return found;
+  }
+
+  // The part of a span that messages took.
+  load(from, to) { return this.columns(from, to - from, 1).load[0]; }
 
   // Takes over which messages a filter leaves; none where all are.
   match(matches) {
@@ -456,11 +476,11 @@ class Series {
     this.begin = Float64Array.from(points, (point) => point[0]);
     this.value = Float64Array.from(this.texts, (text) => (text === '' ? NaN : Number(text)));
     this.runs = Uint32Array.from(this.texts.keys()).filter((k) => k === 0 || this.texts[k] !== this.texts[k - 1]);
-    this.low = new Float64Array(Math.ceil(count / 64)).fill(Infinity);
-    this.high = new Float64Array(Math.ceil(count / 64)).fill(-Infinity);
+    this.low = new Float64Array(Math.ceil(count / 16)).fill(Infinity);
+    this.high = new Float64Array(Math.ceil(count / 16)).fill(-Infinity);
     for (let k = 0; k < count; k++) {
-      if (this.value[k] < this.low[k >> 6]) this.low[k >> 6] = this.value[k];
-      if (this.value[k] > this.high[k >> 6]) this.high[k >> 6] = this.value[k];
+      if (this.value[k] < this.low[k >> 4]) this.low[k >> 4] = this.value[k];
+      if (this.value[k] > this.high[k >> 4]) this.high[k >> 4] = this.value[k];
     }
   }
 
@@ -478,10 +498,10 @@ class Series {
   range(from, to) {
     let low = Infinity, high = -Infinity;
     for (let k = from; k < to;) {
-      const whole = (k & 63) === 0 && k + 64 <= to;
-      low = Math.min(low, whole ? this.low[k >> 6] : Number.isNaN(this.value[k]) ? Infinity : this.value[k]);
-      high = Math.max(high, whole ? this.high[k >> 6] : Number.isNaN(this.value[k]) ? -Infinity : this.value[k]);
-      k += whole ? 64 : 1;
+      const whole = (k & 15) === 0 && k + 16 <= to;
+      low = Math.min(low, whole ? this.low[k >> 4] : Number.isNaN(this.value[k]) ? Infinity : this.value[k]);
+      high = Math.max(high, whole ? this.high[k >> 4] : Number.isNaN(this.value[k]) ? -Infinity : this.value[k]);
+      k += whole ? 16 : 1;
     }
     return [low, high];
   }
@@ -521,7 +541,10 @@ function indexData(data) {
         .map((key) => ({ address: key & 31, track: new Track(data, terminals.get(key)) })),
     };
   });
-  data.series = inOrder(points).map((key) => new Series(signalAt(data, Math.floor(key / 65536)), key % 65536, points.get(key)));
+  data.series = inOrder(points).map((key) => {
+    const index = Math.floor(key / 65536);
+    return new Series(signalAt(data, index), key % 65536, points.get(key));
+  });
   data.errors = Uint32Array.from(data.whole.places.filter((i) => data.block[i] >> 12 & 1));
   const { begin, end } = data.whole;
   data.first = begin.length ? begin[0] : 0;
@@ -543,7 +566,7 @@ let data = null, colors = {};
 
 // The rows of the picture from the top, each with its height and how it is drawn.
 function rowsOf() {
-  const rows = [{ kind: 'overview', height: OVERVIEW }, { kind: 'axis', height: AXIS }];
+  const rows = [{ kind: 'overview', height: OVERVIEW, columns: overview }, { kind: 'axis', height: AXIS }];
   for (const channel of data.channels) {
     if (seen.mode === 'lines') {
       channel.lines.forEach((track, line) => rows.push({ kind: 'lane', height: LANE, channel, track, line }));
@@ -575,6 +598,7 @@ function readColors() {
 function sizeCanvas() {
   const canvas = byId('canvas'), width = byId('lanes').clientWidth, { height } = rowsOf();
   const ratio = window.devicePixelRatio || 1;
+  if (canvasSize.width !== width) overview = null;
   Object.assign(canvasSize, { width, height, ratio });
   canvas.width = Math.round(width * ratio);
   canvas.height = Math.round(height * ratio);
@@ -613,22 +637,28 @@ const TINY = '10px system-ui, sans-serif';
 const CODE = '11px ui-monospace, Menlo, Consolas, "DejaVu Sans Mono", monospace';
 const BOLD = '600 12px system-ui, sans-serif';
 
+// The columns of the overview, which are those of each picture of a width.
+let overview = null;
+
 // The whole recording: the load of all channels, where errors are, and what is seen of it.
 function drawOverview(pen, row) {
   const width = canvasSize.width - GUTTER, span = data.last - data.first, foot = row.top + OVERVIEW - 5;
   write(pen, 'whole recording', 12, row.top + OVERVIEW / 2, colors.soft, SMALL);
-  pen.fillStyle = colors.loaded;
-  for (let x = 0; x < width; x += 2) {
-    const from = data.first + x / width * span, to = data.first + (x + 2) / width * span;
-    const high = Math.min(1, Math.sqrt(data.whole.load(from, to) / Math.max(1, data.channels.length))) * 22;
-    if (high > 0) pen.fillRect(GUTTER + x, foot - Math.max(1, high), 2, Math.max(1, high));
+  if (!row.columns || row.columns.width !== width) {
+    row.columns = data.whole.columns(data.first, span / width * 2, Math.ceil(width / 2));
+    row.columns.width = width;
+    overview = row.columns;
   }
-  pen.fillStyle = colors.error;
-  for (let x = 0; x < width; x += 2) {
-    const from = data.first + x / width * span, to = data.first + (x + 2) / width * span;
-    if (data.whole.errorsIn(from, to)) pen.fillRect(GUTTER + x, row.top + 2, 2, 5);
+  const { load, errors } = row.columns;
+  for (let c = 0; c < load.length; c++) {
+    const high = Math.max(1, Math.min(1, Math.sqrt(Math.max(0, load[c]) / Math.max(1, data.channels.length))) * 22);
+    pen.fillStyle = colors.loaded;
+    if (load[c] > 0) pen.fillRect(GUTTER + c * 2, foot - high, 2, high);
+    pen.fillStyle = colors.error;
+    if (errors[c]) pen.fillRect(GUTTER + c * 2, row.top + 2, 2, 5);
   }
-  const left = GUTTER + (seen.from - data.first) / span * width, right = GUTTER + (seen.to - data.first) / span * width;
+  const left = GUTTER + Math.max(0, (seen.from - data.first) / span) * width;
+  const right = GUTTER + Math.min(1, (seen.to - data.first) / span) * width - 1;
   pen.strokeStyle = colors.accent;
   pen.lineWidth = 1.5;
   pen.globalAlpha = 0.12;
@@ -719,8 +749,9 @@ function drawLane(pen, row) {
   pen.beginPath();
   pen.rect(GUTTER, row.top, width, LANE);
   pen.clip();
-  if (clear) drawMessages(pen, row, from, to); else drawLoad(pen, row);
-  drawErrors(pen, row, 5);
+  const columns = track.columns(seen.from, (seen.to - seen.from) / width * 2, Math.ceil(width / 2));
+  if (clear) drawMessages(pen, row, from, to); else drawLoad(pen, row, columns);
+  drawErrors(pen, row, columns.errors);
   pen.restore();
   const load = count ? `${(100 * track.load(seen.from, seen.to)).toFixed(1)} %` : '';
   const frames = channel.frames ? `frames of ${lengthText(channel.frames.period)}` : '';
@@ -730,25 +761,23 @@ function drawLane(pen, row) {
 
 // The load of a lane in steps of two pixels, as a square root so that little is seen too; what a filter leaves is
 // darker.
-function drawLoad(pen, row) {
-  const foot = row.top + LANE - 5, high = LANE - 16;
-  for (const kind of ['load', 'matchedLoad']) {
-    if (kind === 'matchedLoad' && !row.track.matched) continue;
-    pen.fillStyle = kind === 'load' ? (row.track.matched ? colors.load : colors.loaded) : colors.match;
-    for (let x = GUTTER; x < canvasSize.width; x += 2) {
-      const load = row.track[kind](toTime(x), toTime(x + 2));
-      const height = Math.min(1, Math.sqrt(Math.max(0, load))) * high;
-      if (load > 0) pen.fillRect(x, foot - Math.max(1, height), 2, Math.max(1, height));
+function drawLoad(pen, row, { load, matched }) {
+  const foot = row.top + LANE - 5, high = LANE - 16, { track } = row;
+  const put = (loads, color) => {
+    pen.fillStyle = color;
+    for (let c = 0; c < loads.length; c++) {
+      const height = Math.max(1, Math.min(1, Math.sqrt(Math.max(0, loads[c]))) * high);
+      if (loads[c] > 0) pen.fillRect(GUTTER + c * 2, foot - height, 2, height);
     }
-  }
+  };
+  put(load, track.matched ? colors.load : colors.loaded);
+  if (track.matched) put(matched, colors.match);
 }
 
 // Errors as red marks at the top of a lane, at every scale.
-function drawErrors(pen, row, height) {
+function drawErrors(pen, row, errors) {
   pen.fillStyle = colors.error;
-  for (let x = GUTTER; x < canvasSize.width; x += 2) {
-    if (row.track.errorsIn(toTime(x), toTime(x + 2))) pen.fillRect(x - 1, row.top + 2, 4, height);
-  }
+  for (let c = 0; c < errors.length; c++) if (errors[c]) pen.fillRect(GUTTER + c * 2 - 1, row.top + 2, 4, 5);
 }
 
 const isFaint = (i) => seen.matches && !seen.matches[i];
@@ -809,14 +838,15 @@ function drawWords(pen, i, left, scale, top, height) {
     const isCommand = place < layout.commands, isData = place >= layout.start && place < layout.end;
     pen.fillStyle = isCommand ? colors.command : isData ? colors.data : colors.status;
     pen.fillRect(x, top, width, height);
-    if (width >= 32) write(pen, hex(wordAt(data, i, place)), x + width / 2, top + height / 2, colors.inbar, CODE, 'center');
+    if (width < 32) continue;
+    write(pen, hex(wordAt(data, i, place)), x + width / 2, top + height / 2, colors.inbar, CODE, 'center');
   }
 }
 
 function drawHeading(pen, row) {
   drawLabel(pen, row, [channelText(row.channel)]);
-  write(pen, row.channel.name + (row.channel.frames ? `   frame ${lengthText(row.channel.frames.period)}` : ''), GUTTER,
-    row.top + row.height / 2, colors.soft, SMALL);
+  const frames = row.channel.frames ? `   frames of ${lengthText(row.channel.frames.period)}` : '';
+  write(pen, row.channel.name + frames, GUTTER, row.top + row.height / 2, colors.soft, SMALL);
 }
 
 // A terminal over time: the more it talked the darker, red where it had errors.
@@ -836,12 +866,13 @@ function drawTerminal(pen, row) {
       }
     }
   } else {
-    for (let x = GUTTER; x < canvasSize.width; x += 3) {
-      const begin = toTime(x), end = toTime(x + 3), bad = track.errorsIn(begin, end);
-      const load = track.matched ? track.matchedLoad(begin, end) : track.load(begin, end);
-      pen.globalAlpha = bad ? 1 : Math.min(1, 0.12 + Math.sqrt(Math.max(0, load)));
+    const found = track.columns(seen.from, (seen.to - seen.from) / width * 3, Math.ceil(width / 3));
+    const loads = track.matched ? found.matched : found.load;
+    for (let c = 0; c < loads.length; c++) {
+      const bad = found.errors[c] > 0;
+      pen.globalAlpha = bad ? 1 : Math.min(1, 0.12 + Math.sqrt(Math.max(0, loads[c])));
       pen.fillStyle = bad ? colors.error : colors.command;
-      if (load > 0 || bad) pen.fillRect(x, row.top, 3, size);
+      if (loads[c] > 0 || bad) pen.fillRect(GUTTER + c * 3, row.top, 3, size);
     }
   }
   pen.globalAlpha = 1;
@@ -906,7 +937,9 @@ function drawSteps(pen, row) {
       before = next;
     }
   } else {
-    for (let k = before + 1; k < series.count && series.begin[k] <= seen.to; k++) to(toX(series.begin[k]), y(series.value[k]));
+    for (let k = before + 1; k < series.count && series.begin[k] <= seen.to; k++) {
+      to(toX(series.begin[k]), y(series.value[k]));
+    }
   }
   if (series.count) to(Math.min(canvasSize.width, toX(data.last)), height);
   pen.stroke();
@@ -935,7 +968,9 @@ function drawBands(pen, row) {
     pen.fillStyle = `hsl(${hue} 55% 50% / .28)`;
     pen.fillRect(left, row.top + 14, Math.max(1, right - left), PLOT - 28);
     pen.font = SMALL;
-    if (right - left > pen.measureText(text).width + 8) write(pen, text, left + 4, row.top + PLOT / 2, colors.ink, SMALL);
+    if (right - left > pen.measureText(text).width + 8) {
+      write(pen, text, left + 4, row.top + PLOT / 2, colors.ink, SMALL);
+    }
   }
 }
 
@@ -1075,7 +1110,8 @@ function keepAddress() {
   kept = setTimeout(() => history.replaceState(null, '', '#' + addressText()), 150);
 }
 function addressText() {
-  const parts = [`t=${optionText(data, (seen.from + seen.to) / 2)}`, `w=${optionText({ origin: 0n }, seen.to - seen.from)}`];
+  const width = optionText({ origin: 0n }, seen.to - seen.from);
+  const parts = [`t=${optionText(data, (seen.from + seen.to) / 2)}`, `w=${width}`];
   if (seen.chosen >= 0) parts.push(`m=${data.number[seen.chosen]}`);
   if (seen.mode !== 'lines') parts.push(`by=${seen.mode}`);
   return parts.join('&');
@@ -1087,7 +1123,8 @@ function readAddress(text) {
   if (parts.has('m')) choose(placeOf(+parts.get('m')));
   const time = readTime(parts.get('t') || '');
   if (Number.isNaN(time)) return;
-  const width = parts.has('w') ? readTime(parts.get('w')) + Number(data.origin) : Math.min(SECOND, data.last - data.first);
+  const asked = readTime(parts.get('w') || '') + Number(data.origin);
+  const width = Number.isNaN(asked) ? Math.min(SECOND, data.last - data.first) : asked;
   show(time - width / 2, time + width / 2);
 }
 
@@ -1095,8 +1132,12 @@ function readAddress(text) {
 function optionsText() {
   const from = Math.max(0, Math.floor(seen.from)), to = Math.ceil(seen.to);
   if (!data.ofDay.includes(1)) return `--from ${optionText(data, from)} --to ${optionText(data, to)}`;
-  const numbers = data.whole.places.slice(data.whole.from(seen.from), data.whole.from(seen.to)).map((i) => data.number[i]);
-  return numbers.length ? `--from ${Math.min(...numbers)} --to ${Math.max(...numbers)}` : '';
+  let [least, most] = [Infinity, 0];
+  for (const i of data.whole.places.subarray(data.whole.from(seen.from), data.whole.from(seen.to))) {
+    least = Math.min(least, data.number[i]);
+    most = Math.max(most, data.number[i]);
+  }
+  return most ? `--from ${least} --to ${most}` : '';
 }
 
 // ---------------------------------------------------------------------------------------------- the list
@@ -1136,8 +1177,8 @@ const list = {
     else byId('table').removeAttribute('aria-activedescendant');
   },
   reveal(i) {
-    const scroll = byId('scroll'), row = this.rowOf(i), visible = Math.floor((scroll.clientHeight - 24) / ROW_HEIGHT);
-    const first = this.firstRow();
+    const scroll = byId('scroll'), row = this.rowOf(i), first = this.firstRow();
+    const visible = Math.floor((scroll.clientHeight - 24) / ROW_HEIGHT);
     if (row >= first && row < first + visible) return;
     const rows = Math.max(1, this.size() - visible), most = Math.max(1, this.height() - scroll.clientHeight + 24);
     scroll.scrollTop = Math.max(0, Math.min(1, (row - (row < first ? 0 : visible - 1)) / rows)) * most;
@@ -1258,10 +1299,12 @@ function showDetails(i) {
   const day = Number.isNaN(data.begin[i]) ? '' : dayText(data, data.begin[i], data.ofDay[i]);
   const parts = [
     element('h2', `Message ${p.number}: ${p.form}`),
-    element('p', `channel ${p.channel}${name ? ` (${name})` : ''}, number ${p.there} there, line ${p.line}`, { class: 'where' }),
+    element('p', `channel ${p.channel}${name ? ` (${name})` : ''}, number ${p.there} there, line ${p.line}`,
+      { class: 'where' }),
     element('p', p.seconds === '-' ? 'no known time' : `${p.seconds} s${day ? `   ${day}` : ''}`),
   ];
-  if (p.names) parts.push(element('p', p.names.trim().replace(/ /g, ', ').replace(/_/g, ' '), { class: data.block[i] >> 12 & 1 ? 'bad' : '' }));
+  const names = p.names.trim().replace(/ /g, ', ').replace(/_/g, ' ');
+  if (names) parts.push(element('p', names, { class: data.block[i] >> 12 & 1 ? 'bad' : '' }));
   const values = valuesOf(data, i).map(([index, text]) => {
     const signal = signalAt(data, index);
     return [signal.name, `${text || 'no value'} ${signal.unit}`];
@@ -1270,9 +1313,10 @@ function showDetails(i) {
   const rows = [];
   for (let place = 0; place < p.layout.words; place++) rows.push(wordRow(i, p.layout, place));
   if (rows.length) parts.push(element('h3', 'Words'), tableOf(rows, ['kind', 'word', 'meaning']));
-  const gaps = [p.layout.first, p.layout.second].filter((gap) => gap).map((gap) => `${(gap / 10).toFixed(1)} \u00b5s`);
+  const gaps = [p.layout.first, p.layout.second].filter((gap) => gap > 0).map((gap) => gapText(gap).trim());
   if (gaps.length) parts.push(element('h3', 'Response times'), element('p', gaps.join(', ')));
-  parts.push(element('h3', 'As bench dump --decode has it'), element('pre', decodeLine(data, i).trim().replace(/ {2,}/g, '  ')));
+  const line = decodeLine(data, i).trim().replace(/ {2,}/g, '  ');
+  parts.push(element('h3', 'As bench dump --decode has it'), element('pre', line));
   box.replaceChildren(...parts);
 }
 
@@ -1280,18 +1324,19 @@ function showDetails(i) {
 function say(text) { byId('summary').textContent = text; setTimeout(summarize, 2500); }
 
 function summarize() {
-  const left = data.chosen - data.count, many = (count, name) => `${count.toLocaleString('en')} ${name}${count === 1 ? '' : 's'}`;
+  const text = (count) => count.toLocaleString('en');
+  const many = (count, name) => `${text(count)} ${name}${count === 1 ? '' : 's'}`;
   const parts = [many(data.count, 'message'), many(data.channels.length, 'channel'), many(data.errors.length, 'error')];
   if (data.whole.count) parts.push(`${lengthText(data.last - data.first)} from ${optionText(data, data.first)}`);
   const day = data.whole.count ? dayText(data, data.first, data.ofDay[data.whole.places[0]]) : '';
   if (day) parts.push(day);
-  if (left > 0) parts.push(`the first ${data.count.toLocaleString('en')} of ${data.chosen.toLocaleString('en')} that were chosen`);
+  if (data.chosen > data.count) parts.push(`the first ${text(data.count)} of ${text(data.chosen)} that were chosen`);
   byId('summary').textContent = parts.join(' \u00b7 ');
 }
 
 function fillFilter() {
   const add = (id, value, text) => byId(id).append(element('option', text, { value }));
-  for (const { channel, name } of data.channels) add('byChannel', channel, `channel ${channel}${name ? ` ${name}` : ''}`);
+  for (const one of data.channels) add('byChannel', one.channel, `${channelText(one)} ${one.name}`);
   const addresses = new Set(), subaddresses = new Set(), forms = new Set(data.form);
   for (let i = 0; i < data.count; i++) {
     for (const word of [Math.floor(data.called[i] / 65536), data.called[i] % 65536]) {
@@ -1426,11 +1471,13 @@ const KEYS = {
 };
 const LANE_KEYS = {
   ArrowLeft: (event) => pan(event.shiftKey ? -0.9 : -0.15), ArrowRight: (event) => pan(event.shiftKey ? 0.9 : 0.15),
-  Home: () => show(data.first, data.first + seen.to - seen.from), End: () => show(data.last - seen.to + seen.from, data.last),
+  Home: () => show(data.first, data.first + seen.to - seen.from),
+  End: () => show(data.last - seen.to + seen.from, data.last),
   Enter: zoomToChosen,
 };
 const LIST_KEYS = {
-  ArrowDown: () => list.move(1), ArrowUp: () => list.move(-1), PageDown: () => list.move(15), PageUp: () => list.move(-15),
+  ArrowDown: () => list.move(1), ArrowUp: () => list.move(-1),
+  PageDown: () => list.move(15), PageUp: () => list.move(-15),
   Home: () => list.move(-Infinity), End: () => list.move(Infinity), Enter: zoomToChosen,
 };
 
@@ -1475,7 +1522,8 @@ function watchControls() {
   });
   window.addEventListener('resize', () => { sizeCanvas(); list.render(); redraw(); });
   window.addEventListener('hashchange', () => readAddress(location.hash));
-  matchMedia('(prefers-color-scheme: dark)').addEventListener('change', (event) => setTheme(event.matches ? 'dark' : 'light'));
+  const dark = matchMedia('(prefers-color-scheme: dark)');
+  dark.addEventListener('change', () => setTheme(dark.matches ? 'dark' : 'light'));
 }
 
 // ---------------------------------------------------------------------------------------------- the self-check
@@ -1483,22 +1531,23 @@ function watchControls() {
 // to 20,000, of more the first and the last hundred), how long pictures took at many zooms, and faults of the script.
 function selfCheck() {
   const lines = [];
-  for (let i = 0; i < data.count; i++) if (data.count <= 20000 || i < 100 || i >= data.count - 100) lines.push(decodeLine(data, i));
+  const isTold = (i) => data.count <= 20000 || i < 100 || i >= data.count - 100;
+  for (let i = 0; i < data.count; i++) if (isTold(i)) lines.push(decodeLine(data, i));
   const times = [];
+  draw();
   for (const mode of ['lines', 'terminals']) {
     setMode(mode);
     for (let span = data.last - data.first; span > 1000; span /= 2) {
       show(data.first, data.first + span);
       const begun = performance.now();
       draw();
-      byId('canvas').getContext('2d').getImageData(0, 0, 1, 1);
       times.push(performance.now() - begun);
     }
   }
   const found = {
     messages: data.count, chosen: data.chosen, errors: data.errors.length, channels: data.channels.length,
     rows: byId('rows').childElementCount, series: data.series.length, faults,
-    slowest: Math.round(Math.max(0, ...times)), lines,
+    slowest: Math.ceil(Math.max(0, ...times)), usual: Math.ceil(times.sort((a, b) => a - b)[times.length >> 1]), lines,
   };
   document.body.append(element('pre', JSON.stringify(found), { id: 'found' }));
 }

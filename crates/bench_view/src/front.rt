@@ -102,6 +102,7 @@ pub(crate) static FRONT: &str = "\
     e-wrap;\n\
     \x20 overflow-wrap: anywhere; font: 12px/1.5 ui-monospace, Menlo, Consolas, \"DejaVu Sans Mono\", monospace;\
     \x20}\n\
+    #details td:first-child { white-space: nowrap; }\n\
     #details .where { color: var(--soft); }\n\
     .role { display: inline-block; width: 9px; height: 9px; border-radius: 2px; margin-right: 6px; }\n\
     .hint { color: var(--soft); }\n\

@@ -32,8 +32,10 @@ pub(crate) static SCRIPT_1: &str = "\
     \x20   const words = line.split(' ');\n\
     \x20   if (words[0] === 'recording') data.recording = readText(words[1]);\n\
     \x20   if (words[0] === 'channel') data.names.set(+words[1], readText(words[2]));\n\
-    \x20   if (words[0] === 'mark') data.marks.push({ stamp: BigInt(words[1]), ofYear: words[2] === 'year', tick\
-    s: BigInt(words[3]) });\n\
+    \x20   if (words[0] === 'mark') {\n\
+    \x20     data.marks.push({ stamp: BigInt(words[1]), ofYear: words[2] === 'year', ticks: BigInt(words[3]) });\
+    \n\
+    \x20   }\n\
     \x20   if (words[0] === 'signal') {\n\
     \x20     data.signals.push({ name: readText(words[1]), named: words[2] === 'names', unit: readText(words[3] \
     || '') });\n\
@@ -95,8 +97,8 @@ pub(crate) static SCRIPT_1: &str = "\
     \n\
     function wordAt(data, i, place) {\n\
     \x20 const at = data.words[i] + 6 + 3 * place, text = data.text;\n\
-    \x20 return VALUES[text.charCodeAt(at)] * 4096 + VALUES[text.charCodeAt(at + 1)] * 64 + VALUES[text.charCode\
-    At(at + 2)];\n\
+    \x20 const value = (place) => VALUES[text.charCodeAt(place)];\n\
+    \x20 return value(at) * 4096 + value(at + 1) * 64 + value(at + 2);\n\
     }\n\
     \n\
     // The values of signals of a message, as [index, text].\n\
@@ -379,6 +381,4 @@ pub(crate) static SCRIPT_1: &str = "\
     // ---------------------------------------------------------------------------------------------- tracks\n\
     // Messages of a lane in the order of their times, with sums that tell the load and the errors of any span a\
     t once.\n\
-    class Track {\n\
-    \x20 constructor(data, places) {\n\
     ";

@@ -1,6 +1,8 @@
 //! Part 2 of what stands behind the data of a page: its script. `page/make` makes it.
 
 pub(crate) static SCRIPT_2: &str = "\
+    class Track {\n\
+    \x20 constructor(data, places) {\n\
     \x20   const timed = places.filter((i) => !Number.isNaN(data.begin[i]));\n\
     \x20   let sorted = true;\n\
     \x20   for (let k = 1; k < timed.length && sorted; k++) sorted = data.begin[timed[k - 1]] <= data.begin[time\
@@ -38,20 +40,39 @@ pub(crate) static SCRIPT_2: &str = "\
     \x20   return k > 0 && this.end[k - 1] > time ? k - 1 : k;\n\
     \x20 }\n\
     \n\
-    \x20 // How many ticks up to a time messages took, by these sums.\n\
-    \x20 upTo(time, sums) {\n\
-    \x20   const k = this.from(time);\n\
+    \x20 // How many ticks up to a time messages took, by these sums; so many of them begin before it.\n\
+    \x20 upTo(time, sums, k = this.from(time)) {\n\
     \x20   if (k === 0) return 0;\n\
     \x20   const open = this.end[k - 1] > time ? (this.end[k - 1] - time) / (this.end[k - 1] - this.begin[k - 1]\
     ) : 0;\n\
     \x20   return sums[k] - open * (sums[k] - sums[k - 1]);\n\
     \x20 }\n\
     \n\
-    \x20 // The part of a span that messages took, and of it those that a filter leaves.\n\
-    \x20 load(from, to) { return (this.upTo(to, this.busy) - this.upTo(from, this.busy)) / (to - from); }\n\
-    \x20 matchedLoad(from, to) { return (this.upTo(to, this.matched) - this.upTo(from, this.matched)) / (to - fr\
-    om); }\n\
-    \x20 errorsIn(from, to) { return this.errors[this.from(to)] - this.errors[this.from(from)]; }\n\
+    \x20 // Of so many columns of a step each: the load, that of what a filter leaves, and how many errors there\
+    \x20are.\n\
+    \x20 columns(from, step, count) {\n\
+    \x20   const found = { load: new Float64Array(count), matched: new Float64Array(count), errors: new Uint32Ar\
+    ray(count) };\n\
+    \x20   const { busy, matched, errors } = this;\n\
+    \x20   let k = this.from(from), all = this.upTo(from, busy, k), left = matched ? this.upTo(from, matched, k)\
+    \x20: 0;\n\
+    \x20   for (let c = 0; c < count; c++) {\n\
+    \x20     const time = from + (c + 1) * step, next = this.from(time), sum = this.upTo(time, busy, next);\n\
+    \x20     found.load[c] = (sum - all) / step;\n\
+    \x20     found.errors[c] = errors[next] - errors[k];\n\
+    \x20     if (matched) {\n\
+    \x20       const other = this.upTo(time, matched, next);\n\
+    \x20       found.matched[c] = (other - left) / step;\n\
+    \x20       left = other;\n\
+    \x20     }\n\
+    \x20     k = next;\n\
+    \x20     all = sum;\n\
+    \x20   }\n\
+    \x20   return found;\n\
+    \x20 }\n\
+    \n\
+    \x20 // The part of a span that messages took.\n\
+    \x20 load(from, to) { return this.columns(from, to - from, 1).load[0]; }\n\
     \n\
     \x20 // Takes over which messages a filter leaves; none where all are.\n\
     \x20 match(matches) {\n\
@@ -128,11 +149,11 @@ pub(crate) static SCRIPT_2: &str = "\
     \x20   this.value = Float64Array.from(this.texts, (text) => (text === '' ? NaN : Number(text)));\n\
     \x20   this.runs = Uint32Array.from(this.texts.keys()).filter((k) => k === 0 || this.texts[k] !== this.texts\
     [k - 1]);\n\
-    \x20   this.low = new Float64Array(Math.ceil(count / 64)).fill(Infinity);\n\
-    \x20   this.high = new Float64Array(Math.ceil(count / 64)).fill(-Infinity);\n\
+    \x20   this.low = new Float64Array(Math.ceil(count / 16)).fill(Infinity);\n\
+    \x20   this.high = new Float64Array(Math.ceil(count / 16)).fill(-Infinity);\n\
     \x20   for (let k = 0; k < count; k++) {\n\
-    \x20     if (this.value[k] < this.low[k >> 6]) this.low[k >> 6] = this.value[k];\n\
-    \x20     if (this.value[k] > this.high[k >> 6]) this.high[k >> 6] = this.value[k];\n\
+    \x20     if (this.value[k] < this.low[k >> 4]) this.low[k >> 4] = this.value[k];\n\
+    \x20     if (this.value[k] > this.high[k >> 4]) this.high[k >> 4] = this.value[k];\n\
     \x20   }\n\
     \x20 }\n\
     \n\
@@ -150,12 +171,12 @@ pub(crate) static SCRIPT_2: &str = "\
     \x20 range(from, to) {\n\
     \x20   let low = Infinity, high = -Infinity;\n\
     \x20   for (let k = from; k < to;) {\n\
-    \x20     const whole = (k & 63) === 0 && k + 64 <= to;\n\
-    \x20     low = Math.min(low, whole ? this.low[k >> 6] : Number.isNaN(this.value[k]) ? Infinity : this.value[\
+    \x20     const whole = (k & 15) === 0 && k + 16 <= to;\n\
+    \x20     low = Math.min(low, whole ? this.low[k >> 4] : Number.isNaN(this.value[k]) ? Infinity : this.value[\
     k]);\n\
-    \x20     high = Math.max(high, whole ? this.high[k >> 6] : Number.isNaN(this.value[k]) ? -Infinity : this.va\
+    \x20     high = Math.max(high, whole ? this.high[k >> 4] : Number.isNaN(this.value[k]) ? -Infinity : this.va\
     lue[k]);\n\
-    \x20     k += whole ? 64 : 1;\n\
+    \x20     k += whole ? 16 : 1;\n\
     \x20   }\n\
     \x20   return [low, high];\n\
     \x20 }\n\
@@ -198,8 +219,10 @@ pub(crate) static SCRIPT_2: &str = "\
     \x20       .map((key) => ({ address: key & 31, track: new Track(data, terminals.get(key)) })),\n\
     \x20   };\n\
     \x20 });\n\
-    \x20 data.series = inOrder(points).map((key) => new Series(signalAt(data, Math.floor(key / 65536)), key % 65\
-    536, points.get(key)));\n\
+    \x20 data.series = inOrder(points).map((key) => {\n\
+    \x20   const index = Math.floor(key / 65536);\n\
+    \x20   return new Series(signalAt(data, index), key % 65536, points.get(key));\n\
+    \x20 });\n\
     \x20 data.errors = Uint32Array.from(data.whole.places.filter((i) => data.block[i] >> 12 & 1));\n\
     \x20 const { begin, end } = data.whole;\n\
     \x20 data.first = begin.length ? begin[0] : 0;\n\
@@ -222,7 +245,8 @@ pub(crate) static SCRIPT_2: &str = "\
     \n\
     // The rows of the picture from the top, each with its height and how it is drawn.\n\
     function rowsOf() {\n\
-    \x20 const rows = [{ kind: 'overview', height: OVERVIEW }, { kind: 'axis', height: AXIS }];\n\
+    \x20 const rows = [{ kind: 'overview', height: OVERVIEW, columns: overview }, { kind: 'axis', height: AXIS }\
+    ];\n\
     \x20 for (const channel of data.channels) {\n\
     \x20   if (seen.mode === 'lines') {\n\
     \x20     channel.lines.forEach((track, line) => rows.push({ kind: 'lane', height: LANE, channel, track, line\
@@ -256,6 +280,7 @@ pub(crate) static SCRIPT_2: &str = "\
     function sizeCanvas() {\n\
     \x20 const canvas = byId('canvas'), width = byId('lanes').clientWidth, { height } = rowsOf();\n\
     \x20 const ratio = window.devicePixelRatio || 1;\n\
+    \x20 if (canvasSize.width !== width) overview = null;\n\
     \x20 Object.assign(canvasSize, { width, height, ratio });\n\
     \x20 canvas.width = Math.round(width * ratio);\n\
     \x20 canvas.height = Math.round(height * ratio);\n\
@@ -294,25 +319,30 @@ pub(crate) static SCRIPT_2: &str = "\
     const CODE = '11px ui-monospace, Menlo, Consolas, \"DejaVu Sans Mono\", monospace';\n\
     const BOLD = '600 12px system-ui, sans-serif';\n\
     \n\
+    // The columns of the overview, which are those of each picture of a width.\n\
+    let overview = null;\n\
+    \n\
     // The whole recording: the load of all channels, where errors are, and what is seen of it.\n\
     function drawOverview(pen, row) {\n\
     \x20 const width = canvasSize.width - GUTTER, span = data.last - data.first, foot = row.top + OVERVIEW - 5;\
     \n\
     \x20 write(pen, 'whole recording', 12, row.top + OVERVIEW / 2, colors.soft, SMALL);\n\
-    \x20 pen.fillStyle = colors.loaded;\n\
-    \x20 for (let x = 0; x < width; x += 2) {\n\
-    \x20   const from = data.first + x / width * span, to = data.first + (x + 2) / width * span;\n\
-    \x20   const high = Math.min(1, Math.sqrt(data.whole.load(from, to) / Math.max(1, data.channels.length))) * \
-    22;\n\
-    \x20   if (high > 0) pen.fillRect(GUTTER + x, foot - Math.max(1, high), 2, Math.max(1, high));\n\
+    \x20 if (!row.columns || row.columns.width !== width) {\n\
+    \x20   row.columns = data.whole.columns(data.first, span / width * 2, Math.ceil(width / 2));\n\
+    \x20   row.columns.width = width;\n\
+    \x20   overview = row.columns;\n\
     \x20 }\n\
-    \x20 pen.fillStyle = colors.error;\n\
-    \x20 for (let x = 0; x < width; x += 2) {\n\
-    \x20   const from = data.first + x / width * span, to = data.first + (x + 2) / width * span;\n\
-    \x20   if (data.whole.errorsIn(from, to)) pen.fillRect(GUTTER + x, row.top + 2, 2, 5);\n\
+    \x20 const { load, errors } = row.columns;\n\
+    \x20 for (let c = 0; c < load.length; c++) {\n\
+    \x20   const high = Math.max(1, Math.min(1, Math.sqrt(Math.max(0, load[c]) / Math.max(1, data.channels.lengt\
+    h))) * 22);\n\
+    \x20   pen.fillStyle = colors.loaded;\n\
+    \x20   if (load[c] > 0) pen.fillRect(GUTTER + c * 2, foot - high, 2, high);\n\
+    \x20   pen.fillStyle = colors.error;\n\
+    \x20   if (errors[c]) pen.fillRect(GUTTER + c * 2, row.top + 2, 2, 5);\n\
     \x20 }\n\
-    \x20 const left = GUTTER + (seen.from - data.first) / span * width, right = GUTTER + (seen.to - data.first) \
-    / span * width;\n\
+    \x20 const left = GUTTER + Math.max(0, (seen.from - data.first) / span) * width;\n\
+    \x20 const right = GUTTER + Math.min(1, (seen.to - data.first) / span) * width - 1;\n\
     \x20 pen.strokeStyle = colors.accent;\n\
     \x20 pen.lineWidth = 1.5;\n\
     \x20 pen.globalAlpha = 0.12;\n\
@@ -351,34 +381,4 @@ pub(crate) static SCRIPT_2: &str = "\
     \x20 }\n\
     \x20 pen.stroke();\n\
     }\n\
-    \n\
-    // What stands left of a row: a title, and lines below it; an empty one takes no room.\n\
-    function drawLabel(pen, row, texts) {\n\
-    \x20 const lines = texts.map((text, k) => [text, k ? colors.soft : colors.ink, k ? SMALL : BOLD]).filter(([t\
-    ext]) => text);\n\
-    \x20 pen.save();\n\
-    \x20 pen.beginPath();\n\
-    \x20 pen.rect(0, row.top + 1, GUTTER - 4, row.height - 2);\n\
-    \x20 pen.clip();\n\
-    \x20 pen.fillStyle = colors.panel;\n\
-    \x20 pen.fillRect(0, row.top + 1, GUTTER - 1, row.height - 2);\n\
-    \x20 const first = row.top + row.height / 2 - (lines.length - 1) * 7;\n\
-    \x20 lines.forEach(([text, color, font], k) => write(pen, text, 12, first + 14 * k, color, font));\n\
-    \x20 pen.restore();\n\
-    }\n\
-    \n\
-    const channelText = (channel) => `channel ${channel.channel}`;\n\
-    \n\
-    // Where frames begin, as dashed lines over the lanes of a channel.\n\
-    function drawFrames(pen, rows) {\n\
-    \x20 for (const channel of data.channels) {\n\
-    \x20   const own = rows.filter((row) => row.channel === channel);\n\
-    \x20   if (!own.length) continue;\n\
-    \x20   const frames = framesOf(channel.rhythms, (seen.to - seen.from) * 14 / (canvasSize.width - GUTTER));\n\
-    \x20   channel.frames = frames;\n\
-    \x20   if (!frames) continue;\n\
-    \x20   const top = own[0].top + 1, end = own[own.length - 1].top + own[own.length - 1].height;\n\
-    \x20   pen.strokeStyle = colors.frame;\n\
-    \x20   pen.setLineDash([3, 3]);\n\
-    \x20   pen.beginPath();\n\
     ";

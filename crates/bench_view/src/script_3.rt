@@ -1,6 +1,36 @@
 //! Part 3 of what stands behind the data of a page: its script. `page/make` makes it.
 
 pub(crate) static SCRIPT_3: &str = "\
+    \n\
+    // What stands left of a row: a title, and lines below it; an empty one takes no room.\n\
+    function drawLabel(pen, row, texts) {\n\
+    \x20 const lines = texts.map((text, k) => [text, k ? colors.soft : colors.ink, k ? SMALL : BOLD]).filter(([t\
+    ext]) => text);\n\
+    \x20 pen.save();\n\
+    \x20 pen.beginPath();\n\
+    \x20 pen.rect(0, row.top + 1, GUTTER - 4, row.height - 2);\n\
+    \x20 pen.clip();\n\
+    \x20 pen.fillStyle = colors.panel;\n\
+    \x20 pen.fillRect(0, row.top + 1, GUTTER - 1, row.height - 2);\n\
+    \x20 const first = row.top + row.height / 2 - (lines.length - 1) * 7;\n\
+    \x20 lines.forEach(([text, color, font], k) => write(pen, text, 12, first + 14 * k, color, font));\n\
+    \x20 pen.restore();\n\
+    }\n\
+    \n\
+    const channelText = (channel) => `channel ${channel.channel}`;\n\
+    \n\
+    // Where frames begin, as dashed lines over the lanes of a channel.\n\
+    function drawFrames(pen, rows) {\n\
+    \x20 for (const channel of data.channels) {\n\
+    \x20   const own = rows.filter((row) => row.channel === channel);\n\
+    \x20   if (!own.length) continue;\n\
+    \x20   const frames = framesOf(channel.rhythms, (seen.to - seen.from) * 14 / (canvasSize.width - GUTTER));\n\
+    \x20   channel.frames = frames;\n\
+    \x20   if (!frames) continue;\n\
+    \x20   const top = own[0].top + 1, end = own[own.length - 1].top + own[own.length - 1].height;\n\
+    \x20   pen.strokeStyle = colors.frame;\n\
+    \x20   pen.setLineDash([3, 3]);\n\
+    \x20   pen.beginPath();\n\
     \x20   for (const begin of frames.begins) {\n\
     \x20     if (begin < seen.from || begin > seen.to) continue;\n\
     \x20     const x = Math.round(toX(begin)) - 0.5;\n\
@@ -25,8 +55,9 @@ pub(crate) static SCRIPT_3: &str = "\
     \x20 pen.beginPath();\n\
     \x20 pen.rect(GUTTER, row.top, width, LANE);\n\
     \x20 pen.clip();\n\
-    \x20 if (clear) drawMessages(pen, row, from, to); else drawLoad(pen, row);\n\
-    \x20 drawErrors(pen, row, 5);\n\
+    \x20 const columns = track.columns(seen.from, (seen.to - seen.from) / width * 2, Math.ceil(width / 2));\n\
+    \x20 if (clear) drawMessages(pen, row, from, to); else drawLoad(pen, row, columns);\n\
+    \x20 drawErrors(pen, row, columns.errors);\n\
     \x20 pen.restore();\n\
     \x20 const load = count ? `${(100 * track.load(seen.from, seen.to)).toFixed(1)} %` : '';\n\
     \x20 const frames = channel.frames ? `frames of ${lengthText(channel.frames.period)}` : '';\n\
@@ -37,25 +68,24 @@ pub(crate) static SCRIPT_3: &str = "\
     // The load of a lane in steps of two pixels, as a square root so that little is seen too; what a filter lea\
     ves is\n\
     // darker.\n\
-    function drawLoad(pen, row) {\n\
-    \x20 const foot = row.top + LANE - 5, high = LANE - 16;\n\
-    \x20 for (const kind of ['load', 'matchedLoad']) {\n\
-    \x20   if (kind === 'matchedLoad' && !row.track.matched) continue;\n\
-    \x20   pen.fillStyle = kind === 'load' ? (row.track.matched ? colors.load : colors.loaded) : colors.match;\n\
-    \x20   for (let x = GUTTER; x < canvasSize.width; x += 2) {\n\
-    \x20     const load = row.track[kind](toTime(x), toTime(x + 2));\n\
-    \x20     const height = Math.min(1, Math.sqrt(Math.max(0, load))) * high;\n\
-    \x20     if (load > 0) pen.fillRect(x, foot - Math.max(1, height), 2, Math.max(1, height));\n\
+    function drawLoad(pen, row, { load, matched }) {\n\
+    \x20 const foot = row.top + LANE - 5, high = LANE - 16, { track } = row;\n\
+    \x20 const put = (loads, color) => {\n\
+    \x20   pen.fillStyle = color;\n\
+    \x20   for (let c = 0; c < loads.length; c++) {\n\
+    \x20     const height = Math.max(1, Math.min(1, Math.sqrt(Math.max(0, loads[c]))) * high);\n\
+    \x20     if (loads[c] > 0) pen.fillRect(GUTTER + c * 2, foot - height, 2, height);\n\
     \x20   }\n\
-    \x20 }\n\
+    \x20 };\n\
+    \x20 put(load, track.matched ? colors.load : colors.loaded);\n\
+    \x20 if (track.matched) put(matched, colors.match);\n\
     }\n\
     \n\
     // Errors as red marks at the top of a lane, at every scale.\n\
-    function drawErrors(pen, row, height) {\n\
+    function drawErrors(pen, row, errors) {\n\
     \x20 pen.fillStyle = colors.error;\n\
-    \x20 for (let x = GUTTER; x < canvasSize.width; x += 2) {\n\
-    \x20   if (row.track.errorsIn(toTime(x), toTime(x + 2))) pen.fillRect(x - 1, row.top + 2, 4, height);\n\
-    \x20 }\n\
+    \x20 for (let c = 0; c < errors.length; c++) if (errors[c]) pen.fillRect(GUTTER + c * 2 - 1, row.top + 2, 4,\
+    \x205);\n\
     }\n\
     \n\
     const isFaint = (i) => seen.matches && !seen.matches[i];\n\
@@ -121,16 +151,16 @@ pub(crate) static SCRIPT_3: &str = "\
     \x20   const isCommand = place < layout.commands, isData = place >= layout.start && place < layout.end;\n\
     \x20   pen.fillStyle = isCommand ? colors.command : isData ? colors.data : colors.status;\n\
     \x20   pen.fillRect(x, top, width, height);\n\
-    \x20   if (width >= 32) write(pen, hex(wordAt(data, i, place)), x + width / 2, top + height / 2, colors.inba\
-    r, CODE, 'center');\n\
+    \x20   if (width < 32) continue;\n\
+    \x20   write(pen, hex(wordAt(data, i, place)), x + width / 2, top + height / 2, colors.inbar, CODE, 'center'\
+    );\n\
     \x20 }\n\
     }\n\
     \n\
     function drawHeading(pen, row) {\n\
     \x20 drawLabel(pen, row, [channelText(row.channel)]);\n\
-    \x20 write(pen, row.channel.name + (row.channel.frames ? `   frame ${lengthText(row.channel.frames.period)}`\
-    \x20: ''), GUTTER,\n\
-    \x20   row.top + row.height / 2, colors.soft, SMALL);\n\
+    \x20 const frames = row.channel.frames ? `   frames of ${lengthText(row.channel.frames.period)}` : '';\n\
+    \x20 write(pen, row.channel.name + frames, GUTTER, row.top + row.height / 2, colors.soft, SMALL);\n\
     }\n\
     \n\
     // A terminal over time: the more it talked the darker, red where it had errors.\n\
@@ -151,12 +181,13 @@ pub(crate) static SCRIPT_3: &str = "\
     \x20     }\n\
     \x20   }\n\
     \x20 } else {\n\
-    \x20   for (let x = GUTTER; x < canvasSize.width; x += 3) {\n\
-    \x20     const begin = toTime(x), end = toTime(x + 3), bad = track.errorsIn(begin, end);\n\
-    \x20     const load = track.matched ? track.matchedLoad(begin, end) : track.load(begin, end);\n\
-    \x20     pen.globalAlpha = bad ? 1 : Math.min(1, 0.12 + Math.sqrt(Math.max(0, load)));\n\
+    \x20   const found = track.columns(seen.from, (seen.to - seen.from) / width * 3, Math.ceil(width / 3));\n\
+    \x20   const loads = track.matched ? found.matched : found.load;\n\
+    \x20   for (let c = 0; c < loads.length; c++) {\n\
+    \x20     const bad = found.errors[c] > 0;\n\
+    \x20     pen.globalAlpha = bad ? 1 : Math.min(1, 0.12 + Math.sqrt(Math.max(0, loads[c])));\n\
     \x20     pen.fillStyle = bad ? colors.error : colors.command;\n\
-    \x20     if (load > 0 || bad) pen.fillRect(x, row.top, 3, size);\n\
+    \x20     if (loads[c] > 0 || bad) pen.fillRect(GUTTER + c * 3, row.top, 3, size);\n\
     \x20   }\n\
     \x20 }\n\
     \x20 pen.globalAlpha = 1;\n\
@@ -222,8 +253,9 @@ pub(crate) static SCRIPT_3: &str = "\
     \x20     before = next;\n\
     \x20   }\n\
     \x20 } else {\n\
-    \x20   for (let k = before + 1; k < series.count && series.begin[k] <= seen.to; k++) to(toX(series.begin[k])\
-    , y(series.value[k]));\n\
+    \x20   for (let k = before + 1; k < series.count && series.begin[k] <= seen.to; k++) {\n\
+    \x20     to(toX(series.begin[k]), y(series.value[k]));\n\
+    \x20   }\n\
     \x20 }\n\
     \x20 if (series.count) to(Math.min(canvasSize.width, toX(data.last)), height);\n\
     \x20 pen.stroke();\n\
@@ -253,8 +285,9 @@ pub(crate) static SCRIPT_3: &str = "\
     \x20   pen.fillStyle = `hsl(${hue} 55% 50% / .28)`;\n\
     \x20   pen.fillRect(left, row.top + 14, Math.max(1, right - left), PLOT - 28);\n\
     \x20   pen.font = SMALL;\n\
-    \x20   if (right - left > pen.measureText(text).width + 8) write(pen, text, left + 4, row.top + PLOT / 2, co\
-    lors.ink, SMALL);\n\
+    \x20   if (right - left > pen.measureText(text).width + 8) {\n\
+    \x20     write(pen, text, left + 4, row.top + PLOT / 2, colors.ink, SMALL);\n\
+    \x20   }\n\
     \x20 }\n\
     }\n\
     \n\
@@ -348,37 +381,4 @@ pub(crate) static SCRIPT_3: &str = "\
     \x20 let low = 0, high = places.length;\n\
     \x20 while (low < high) {\n\
     \x20   const middle = low + high >> 1;\n\
-    \x20   if (isBehind(places[middle])) high = middle; else low = middle + 1;\n\
-    \x20 }\n\
-    \x20 if (step > 0) return low < places.length ? places[low] : -1;\n\
-    \x20 const before = low - 1 >= 0 && places[low - 1] === seen.chosen ? low - 2 : low - 1;\n\
-    \x20 return before >= 0 ? places[before] : -1;\n\
-    }\n\
-    function nextError(step) {\n\
-    \x20 const i = besideChosen(data.errors, step);\n\
-    \x20 if (i >= 0) choose(i); else say(step > 0 ? 'no error behind this' : 'no error in front of this');\n\
-    }\n\
-    function nextMessage(step) {\n\
-    \x20 const i = besideChosen(data.whole.places, step);\n\
-    \x20 if (i >= 0) choose(i);\n\
-    }\n\
-    function zoomToChosen() {\n\
-    \x20 if (seen.chosen < 0) return;\n\
-    \x20 const begin = data.begin[seen.chosen], span = data.end[seen.chosen] - begin;\n\
-    \x20 show(begin - span * 0.6, begin + span * 1.6);\n\
-    }\n\
-    \n\
-    // A time as --from takes it, in ticks behind the origin; NaN where a text is none.\n\
-    function readTime(text) {\n\
-    \x20 const found = /^(\\d+(?:\\.\\d*)?)\\s*(s|ms|us|\\u00b5s)$/.exec(text.trim());\n\
-    \x20 if (!found) return NaN;\n\
-    \x20 const [whole, part = ''] = found[1].split('.'), places = { s: 7, ms: 4 }[found[2]] || 1;\n\
-    \x20 const ticks = BigInt(whole + part.padEnd(places, '0').slice(0, places));\n\
-    \x20 return Number(ticks - data.origin);\n\
-    }\n\
-    \n\
-    // Goes to a time or to the message with a number; answers whether the text is either.\n\
-    function goTo(text) {\n\
-    \x20 const time = readTime(text);\n\
-    \x20 if (!Number.isNaN(time)) {\n\
     ";

@@ -1,6 +1,39 @@
 //! Part 4 of what stands behind the data of a page: its script. `page/make` makes it.
 
 pub(crate) static SCRIPT_4: &str = "\
+    \x20   if (isBehind(places[middle])) high = middle; else low = middle + 1;\n\
+    \x20 }\n\
+    \x20 if (step > 0) return low < places.length ? places[low] : -1;\n\
+    \x20 const before = low - 1 >= 0 && places[low - 1] === seen.chosen ? low - 2 : low - 1;\n\
+    \x20 return before >= 0 ? places[before] : -1;\n\
+    }\n\
+    function nextError(step) {\n\
+    \x20 const i = besideChosen(data.errors, step);\n\
+    \x20 if (i >= 0) choose(i); else say(step > 0 ? 'no error behind this' : 'no error in front of this');\n\
+    }\n\
+    function nextMessage(step) {\n\
+    \x20 const i = besideChosen(data.whole.places, step);\n\
+    \x20 if (i >= 0) choose(i);\n\
+    }\n\
+    function zoomToChosen() {\n\
+    \x20 if (seen.chosen < 0) return;\n\
+    \x20 const begin = data.begin[seen.chosen], span = data.end[seen.chosen] - begin;\n\
+    \x20 show(begin - span * 0.6, begin + span * 1.6);\n\
+    }\n\
+    \n\
+    // A time as --from takes it, in ticks behind the origin; NaN where a text is none.\n\
+    function readTime(text) {\n\
+    \x20 const found = /^(\\d+(?:\\.\\d*)?)\\s*(s|ms|us|\\u00b5s)$/.exec(text.trim());\n\
+    \x20 if (!found) return NaN;\n\
+    \x20 const [whole, part = ''] = found[1].split('.'), places = { s: 7, ms: 4 }[found[2]] || 1;\n\
+    \x20 const ticks = BigInt(whole + part.padEnd(places, '0').slice(0, places));\n\
+    \x20 return Number(ticks - data.origin);\n\
+    }\n\
+    \n\
+    // Goes to a time or to the message with a number; answers whether the text is either.\n\
+    function goTo(text) {\n\
+    \x20 const time = readTime(text);\n\
+    \x20 if (!Number.isNaN(time)) {\n\
     \x20   const span = Math.min(seen.to - seen.from, (data.last - data.first) / 10);\n\
     \x20   show(time - span / 2, time + span / 2);\n\
     \x20   return true;\n\
@@ -17,8 +50,8 @@ pub(crate) static SCRIPT_4: &str = "\
     \x20 kept = setTimeout(() => history.replaceState(null, '', '#' + addressText()), 150);\n\
     }\n\
     function addressText() {\n\
-    \x20 const parts = [`t=${optionText(data, (seen.from + seen.to) / 2)}`, `w=${optionText({ origin: 0n }, seen\
-    .to - seen.from)}`];\n\
+    \x20 const width = optionText({ origin: 0n }, seen.to - seen.from);\n\
+    \x20 const parts = [`t=${optionText(data, (seen.from + seen.to) / 2)}`, `w=${width}`];\n\
     \x20 if (seen.chosen >= 0) parts.push(`m=${data.number[seen.chosen]}`);\n\
     \x20 if (seen.mode !== 'lines') parts.push(`by=${seen.mode}`);\n\
     \x20 return parts.join('&');\n\
@@ -30,8 +63,8 @@ pub(crate) static SCRIPT_4: &str = "\
     \x20 if (parts.has('m')) choose(placeOf(+parts.get('m')));\n\
     \x20 const time = readTime(parts.get('t') || '');\n\
     \x20 if (Number.isNaN(time)) return;\n\
-    \x20 const width = parts.has('w') ? readTime(parts.get('w')) + Number(data.origin) : Math.min(SECOND, data.l\
-    ast - data.first);\n\
+    \x20 const asked = readTime(parts.get('w') || '') + Number(data.origin);\n\
+    \x20 const width = Number.isNaN(asked) ? Math.min(SECOND, data.last - data.first) : asked;\n\
     \x20 show(time - width / 2, time + width / 2);\n\
     }\n\
     \n\
@@ -39,9 +72,12 @@ pub(crate) static SCRIPT_4: &str = "\
     function optionsText() {\n\
     \x20 const from = Math.max(0, Math.floor(seen.from)), to = Math.ceil(seen.to);\n\
     \x20 if (!data.ofDay.includes(1)) return `--from ${optionText(data, from)} --to ${optionText(data, to)}`;\n\
-    \x20 const numbers = data.whole.places.slice(data.whole.from(seen.from), data.whole.from(seen.to)).map((i) =\
-    > data.number[i]);\n\
-    \x20 return numbers.length ? `--from ${Math.min(...numbers)} --to ${Math.max(...numbers)}` : '';\n\
+    \x20 let [least, most] = [Infinity, 0];\n\
+    \x20 for (const i of data.whole.places.subarray(data.whole.from(seen.from), data.whole.from(seen.to))) {\n\
+    \x20   least = Math.min(least, data.number[i]);\n\
+    \x20   most = Math.max(most, data.number[i]);\n\
+    \x20 }\n\
+    \x20 return most ? `--from ${least} --to ${most}` : '';\n\
     }\n\
     \n\
     // ---------------------------------------------------------------------------------------------- the list\n\
@@ -83,9 +119,8 @@ pub(crate) static SCRIPT_4: &str = "\
     \x20   else byId('table').removeAttribute('aria-activedescendant');\n\
     \x20 },\n\
     \x20 reveal(i) {\n\
-    \x20   const scroll = byId('scroll'), row = this.rowOf(i), visible = Math.floor((scroll.clientHeight - 24) /\
-    \x20ROW_HEIGHT);\n\
-    \x20   const first = this.firstRow();\n\
+    \x20   const scroll = byId('scroll'), row = this.rowOf(i), first = this.firstRow();\n\
+    \x20   const visible = Math.floor((scroll.clientHeight - 24) / ROW_HEIGHT);\n\
     \x20   if (row >= first && row < first + visible) return;\n\
     \x20   const rows = Math.max(1, this.size() - visible), most = Math.max(1, this.height() - scroll.clientHeig\
     ht + 24);\n\
@@ -217,11 +252,12 @@ pub(crate) static SCRIPT_4: &str = "\
     \x20 const parts = [\n\
     \x20   element('h2', `Message ${p.number}: ${p.form}`),\n\
     \x20   element('p', `channel ${p.channel}${name ? ` (${name})` : ''}, number ${p.there} there, line ${p.line\
-    }`, { class: 'where' }),\n\
+    }`,\n\
+    \x20     { class: 'where' }),\n\
     \x20   element('p', p.seconds === '-' ? 'no known time' : `${p.seconds} s${day ? `   ${day}` : ''}`),\n\
     \x20 ];\n\
-    \x20 if (p.names) parts.push(element('p', p.names.trim().replace(/ /g, ', ').replace(/_/g, ' '), { class: da\
-    ta.block[i] >> 12 & 1 ? 'bad' : '' }));\n\
+    \x20 const names = p.names.trim().replace(/ /g, ', ').replace(/_/g, ' ');\n\
+    \x20 if (names) parts.push(element('p', names, { class: data.block[i] >> 12 & 1 ? 'bad' : '' }));\n\
     \x20 const values = valuesOf(data, i).map(([index, text]) => {\n\
     \x20   const signal = signalAt(data, index);\n\
     \x20   return [signal.name, `${text || 'no value'} ${signal.unit}`];\n\
@@ -230,11 +266,11 @@ pub(crate) static SCRIPT_4: &str = "\
     \x20 const rows = [];\n\
     \x20 for (let place = 0; place < p.layout.words; place++) rows.push(wordRow(i, p.layout, place));\n\
     \x20 if (rows.length) parts.push(element('h3', 'Words'), tableOf(rows, ['kind', 'word', 'meaning']));\n\
-    \x20 const gaps = [p.layout.first, p.layout.second].filter((gap) => gap).map((gap) => `${(gap / 10).toFixed(\
-    1)} \\u00b5s`);\n\
+    \x20 const gaps = [p.layout.first, p.layout.second].filter((gap) => gap > 0).map((gap) => gapText(gap).trim(\
+    ));\n\
     \x20 if (gaps.length) parts.push(element('h3', 'Response times'), element('p', gaps.join(', ')));\n\
-    \x20 parts.push(element('h3', 'As bench dump --decode has it'), element('pre', decodeLine(data, i).trim().re\
-    place(/ {2,}/g, '  ')));\n\
+    \x20 const line = decodeLine(data, i).trim().replace(/ {2,}/g, '  ');\n\
+    \x20 parts.push(element('h3', 'As bench dump --decode has it'), element('pre', line));\n\
     \x20 box.replaceChildren(...parts);\n\
     }\n\
     \n\
@@ -242,23 +278,22 @@ pub(crate) static SCRIPT_4: &str = "\
     function say(text) { byId('summary').textContent = text; setTimeout(summarize, 2500); }\n\
     \n\
     function summarize() {\n\
-    \x20 const left = data.chosen - data.count, many = (count, name) => `${count.toLocaleString('en')} ${name}${\
-    count === 1 ? '' : 's'}`;\n\
+    \x20 const text = (count) => count.toLocaleString('en');\n\
+    \x20 const many = (count, name) => `${text(count)} ${name}${count === 1 ? '' : 's'}`;\n\
     \x20 const parts = [many(data.count, 'message'), many(data.channels.length, 'channel'), many(data.errors.len\
     gth, 'error')];\n\
     \x20 if (data.whole.count) parts.push(`${lengthText(data.last - data.first)} from ${optionText(data, data.fi\
     rst)}`);\n\
     \x20 const day = data.whole.count ? dayText(data, data.first, data.ofDay[data.whole.places[0]]) : '';\n\
     \x20 if (day) parts.push(day);\n\
-    \x20 if (left > 0) parts.push(`the first ${data.count.toLocaleString('en')} of ${data.chosen.toLocaleString(\
-    'en')} that were chosen`);\n\
+    \x20 if (data.chosen > data.count) parts.push(`the first ${text(data.count)} of ${text(data.chosen)} that we\
+    re chosen`);\n\
     \x20 byId('summary').textContent = parts.join(' \\u00b7 ');\n\
     }\n\
     \n\
     function fillFilter() {\n\
     \x20 const add = (id, value, text) => byId(id).append(element('option', text, { value }));\n\
-    \x20 for (const { channel, name } of data.channels) add('byChannel', channel, `channel ${channel}${name ? ` \
-    ${name}` : ''}`);\n\
+    \x20 for (const one of data.channels) add('byChannel', one.channel, `${channelText(one)} ${one.name}`);\n\
     \x20 const addresses = new Set(), subaddresses = new Set(), forms = new Set(data.form);\n\
     \x20 for (let i = 0; i < data.count; i++) {\n\
     \x20   for (const word of [Math.floor(data.called[i] / 65536), data.called[i] % 65536]) {\n\
@@ -346,39 +381,4 @@ pub(crate) static SCRIPT_4: &str = "\
     \x20   byId('tip').hidden = true;\n\
     \x20   const before = points.get(event.pointerId), others = [...points].filter(([id]) => id !== event.pointe\
     rId);\n\
-    \x20   points.set(event.pointerId, x);\n\
-    \x20   if (others.length) {\n\
-    \x20     const other = others[0][1], wide = Math.abs(x - other), was = Math.abs(before - other);\n\
-    \x20     if (wide > 8 && was > 8) zoom(was / wide, toTime((x + other) / 2));\n\
-    \x20     moved = true;\n\
-    \x20     return;\n\
-    \x20   }\n\
-    \x20   if (Math.abs(x - start.x) > 3) moved = true;\n\
-    \x20   if (start.overview) { jumpTo(x); return; }\n\
-    \x20   if (start.over) { seen.drawn = [start.x, x]; redraw(); return; }\n\
-    \x20   if (moved) {\n\
-    \x20     const ticks = (start.x - x) / (canvasSize.width - GUTTER) * (start.to - start.from);\n\
-    \x20     show(start.from + ticks, start.to + ticks);\n\
-    \x20   }\n\
-    \x20 });\n\
-    \x20 const release = (event) => {\n\
-    \x20   const [x, y] = placeOfMouse(event);\n\
-    \x20   points.delete(event.pointerId);\n\
-    \x20   if (seen.drawn) {\n\
-    \x20     const [from, to] = [...seen.drawn].sort((a, b) => a - b);\n\
-    \x20     seen.drawn = null;\n\
-    \x20     if (to - from > 4) show(toTime(from), toTime(to)); else redraw();\n\
-    \x20   } else if (!moved && event.type === 'pointerup' && start && !start.overview) {\n\
-    \x20     const i = messageAt(x, y);\n\
-    \x20     if (i >= 0) choose(i);\n\
-    \x20   }\n\
-    \x20 };\n\
-    \x20 canvas.addEventListener('pointerup', release);\n\
-    \x20 canvas.addEventListener('pointercancel', release);\n\
-    \x20 canvas.addEventListener('pointerleave', () => { seen.cursor = null; byId('tip').hidden = true; redraw()\
-    ; });\n\
-    \x20 canvas.addEventListener('dblclick', (event) => zoom(0.25, toTime(placeOfMouse(event)[0])));\n\
-    \x20 canvas.addEventListener('wheel', (event) => {\n\
-    \x20   const [x] = placeOfMouse(event);\n\
-    \x20   if (x < GUTTER) return;\n\
     ";

@@ -1,6 +1,41 @@
 //! Part 5 of what stands behind the data of a page: its script. `page/make` makes it.
 
 pub(crate) static SCRIPT_5: &str = "\
+    \x20   points.set(event.pointerId, x);\n\
+    \x20   if (others.length) {\n\
+    \x20     const other = others[0][1], wide = Math.abs(x - other), was = Math.abs(before - other);\n\
+    \x20     if (wide > 8 && was > 8) zoom(was / wide, toTime((x + other) / 2));\n\
+    \x20     moved = true;\n\
+    \x20     return;\n\
+    \x20   }\n\
+    \x20   if (Math.abs(x - start.x) > 3) moved = true;\n\
+    \x20   if (start.overview) { jumpTo(x); return; }\n\
+    \x20   if (start.over) { seen.drawn = [start.x, x]; redraw(); return; }\n\
+    \x20   if (moved) {\n\
+    \x20     const ticks = (start.x - x) / (canvasSize.width - GUTTER) * (start.to - start.from);\n\
+    \x20     show(start.from + ticks, start.to + ticks);\n\
+    \x20   }\n\
+    \x20 });\n\
+    \x20 const release = (event) => {\n\
+    \x20   const [x, y] = placeOfMouse(event);\n\
+    \x20   points.delete(event.pointerId);\n\
+    \x20   if (seen.drawn) {\n\
+    \x20     const [from, to] = [...seen.drawn].sort((a, b) => a - b);\n\
+    \x20     seen.drawn = null;\n\
+    \x20     if (to - from > 4) show(toTime(from), toTime(to)); else redraw();\n\
+    \x20   } else if (!moved && event.type === 'pointerup' && start && !start.overview) {\n\
+    \x20     const i = messageAt(x, y);\n\
+    \x20     if (i >= 0) choose(i);\n\
+    \x20   }\n\
+    \x20 };\n\
+    \x20 canvas.addEventListener('pointerup', release);\n\
+    \x20 canvas.addEventListener('pointercancel', release);\n\
+    \x20 canvas.addEventListener('pointerleave', () => { seen.cursor = null; byId('tip').hidden = true; redraw()\
+    ; });\n\
+    \x20 canvas.addEventListener('dblclick', (event) => zoom(0.25, toTime(placeOfMouse(event)[0])));\n\
+    \x20 canvas.addEventListener('wheel', (event) => {\n\
+    \x20   const [x] = placeOfMouse(event);\n\
+    \x20   if (x < GUTTER) return;\n\
     \x20   event.preventDefault();\n\
     \x20   const turn = event.deltaMode === 1 ? event.deltaY * 33 : event.deltaY;\n\
     \x20   if (Math.abs(event.deltaX) > Math.abs(event.deltaY)) pan(event.deltaX / (canvasSize.width - GUTTER));\
@@ -21,13 +56,13 @@ pub(crate) static SCRIPT_5: &str = "\
     const LANE_KEYS = {\n\
     \x20 ArrowLeft: (event) => pan(event.shiftKey ? -0.9 : -0.15), ArrowRight: (event) => pan(event.shiftKey ? 0\
     .9 : 0.15),\n\
-    \x20 Home: () => show(data.first, data.first + seen.to - seen.from), End: () => show(data.last - seen.to + s\
-    een.from, data.last),\n\
+    \x20 Home: () => show(data.first, data.first + seen.to - seen.from),\n\
+    \x20 End: () => show(data.last - seen.to + seen.from, data.last),\n\
     \x20 Enter: zoomToChosen,\n\
     };\n\
     const LIST_KEYS = {\n\
-    \x20 ArrowDown: () => list.move(1), ArrowUp: () => list.move(-1), PageDown: () => list.move(15), PageUp: () \
-    => list.move(-15),\n\
+    \x20 ArrowDown: () => list.move(1), ArrowUp: () => list.move(-1),\n\
+    \x20 PageDown: () => list.move(15), PageUp: () => list.move(-15),\n\
     \x20 Home: () => list.move(-Infinity), End: () => list.move(Infinity), Enter: zoomToChosen,\n\
     };\n\
     \n\
@@ -73,8 +108,8 @@ pub(crate) static SCRIPT_5: &str = "\
     \x20 });\n\
     \x20 window.addEventListener('resize', () => { sizeCanvas(); list.render(); redraw(); });\n\
     \x20 window.addEventListener('hashchange', () => readAddress(location.hash));\n\
-    \x20 matchMedia('(prefers-color-scheme: dark)').addEventListener('change', (event) => setTheme(event.matches\
-    \x20? 'dark' : 'light'));\n\
+    \x20 const dark = matchMedia('(prefers-color-scheme: dark)');\n\
+    \x20 dark.addEventListener('change', () => setTheme(dark.matches ? 'dark' : 'light'));\n\
     }\n\
     \n\
     // ---------------------------------------------------------------------------------------------- the self-c\
@@ -85,16 +120,16 @@ pub(crate) static SCRIPT_5: &str = "\
     he script.\n\
     function selfCheck() {\n\
     \x20 const lines = [];\n\
-    \x20 for (let i = 0; i < data.count; i++) if (data.count <= 20000 || i < 100 || i >= data.count - 100) lines\
-    .push(decodeLine(data, i));\n\
+    \x20 const isTold = (i) => data.count <= 20000 || i < 100 || i >= data.count - 100;\n\
+    \x20 for (let i = 0; i < data.count; i++) if (isTold(i)) lines.push(decodeLine(data, i));\n\
     \x20 const times = [];\n\
+    \x20 draw();\n\
     \x20 for (const mode of ['lines', 'terminals']) {\n\
     \x20   setMode(mode);\n\
     \x20   for (let span = data.last - data.first; span > 1000; span /= 2) {\n\
     \x20     show(data.first, data.first + span);\n\
     \x20     const begun = performance.now();\n\
     \x20     draw();\n\
-    \x20     byId('canvas').getContext('2d').getImageData(0, 0, 1, 1);\n\
     \x20     times.push(performance.now() - begun);\n\
     \x20   }\n\
     \x20 }\n\
@@ -102,7 +137,8 @@ pub(crate) static SCRIPT_5: &str = "\
     \x20   messages: data.count, chosen: data.chosen, errors: data.errors.length, channels: data.channels.length\
     ,\n\
     \x20   rows: byId('rows').childElementCount, series: data.series.length, faults,\n\
-    \x20   slowest: Math.round(Math.max(0, ...times)), lines,\n\
+    \x20   slowest: Math.ceil(Math.max(0, ...times)), usual: Math.ceil(times.sort((a, b) => a - b)[times.length \
+    >> 1]), lines,\n\
     \x20 };\n\
     \x20 document.body.append(element('pre', JSON.stringify(found), { id: 'found' }));\n\
     }\n\
