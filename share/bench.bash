@@ -11,7 +11,7 @@ _bench_files() {
 
 _bench() {
     local word=${COMP_WORDS[COMP_CWORD]} before=${COMP_WORDS[COMP_CWORD - 1]} command='' place
-    local commands="one assemble run check dump step stat export signals draw judge complete cut compare explain help"
+    local commands="one assemble run check dump step stat export signals draw view judge complete cut compare explain help"
     for ((place = 1; place < COMP_CWORD; place++)); do
         case ${COMP_WORDS[place]} in
             --context) place=$((place + 1)) ;;
@@ -82,7 +82,7 @@ _bench() {
         cut) options="--out --force --skip --channel --line --only --errors --from --to $options" ;;
         compare) options="--within --junit --json --force --channel --line --only --errors --from --to $options" ;;
         judge) options="--junit --json --force --signals --skip $options" ;;
-        draw) options="--out --force --signals --time-channel --channel --line --only --errors --from --to $options" ;;
+        draw | view) options="--out --force --signals --time-channel --channel --line --only --errors --from --to $options" ;;
     esac
     case $word in
         -*)

@@ -9,6 +9,7 @@ use command_listing::{dumping, statistics};
 use command_material::{comparing, cutting};
 use command_parts::context::{Context, context_in, context_option};
 use command_step::{assembling, explaining, one_message, stepping};
+use command_view::viewing;
 use std::alloc::{AllocError, Global};
 
 /// What a command line asks, and when the lines that explain a fault stand behind it.
@@ -43,6 +44,8 @@ pub enum Request<'a> {
     Signals(signalling::Request<'a>),
     /// The messages of a recording over time, written to a file as a picture.
     Draw(drawing::Request<'a>),
+    /// The messages of a recording, written to a file as a page for a browser.
+    View(viewing::Request<'a>),
     /// A recording, judged by rules.
     Judge(judging::Request<'a>),
     /// A recording, made into the file that other tools expect.
@@ -122,6 +125,7 @@ fn writing_request<'a>(name: &str, given: &ArgMatches<'a>) -> Request<'a> {
         "export" => Request::Export(exporting::request_in(given)),
         "signals" => Request::Signals(signalling::request_in(given)),
         "draw" => Request::Draw(drawing::request_in(given)),
+        "view" => Request::View(viewing::request_in(given)),
         "complete" => Request::Complete(completing::request_in(given)),
         "cut" => Request::Cut(cutting::request_in(given)),
         _ => Request::One(one_message::request_in(given)),
@@ -147,6 +151,7 @@ fn bench_command<'a>(alloc: Global) -> Result<Command<'a>, AllocError> {
     let bench = with(bench, exporting::command(alloc));
     let bench = with(bench, signalling::command(alloc));
     let bench = with(bench, drawing::command(alloc));
+    let bench = with(bench, viewing::command(alloc));
     let bench = with(bench, judging::command(alloc));
     let bench = with(bench, completing::command(alloc));
     let bench = with(bench, cutting::command(alloc));

@@ -13,6 +13,7 @@ use command_listing::{dumping, statistics};
 use command_material::{comparing, cutting};
 use command_parts::hosts::{Errors, Host};
 use command_step::{assembling, explaining, one_message, stepping};
+use command_view::viewing;
 use std::io;
 use std::process::ExitCode;
 
@@ -116,6 +117,7 @@ where
         Request::Export(request) => exporting::run(rt, errors, request),
         Request::Signals(request) => signalling::run(rt, errors, request),
         Request::Draw(request) => drawing::run(rt, errors, request),
+        Request::View(request) => viewing::run(rt, errors, request),
         Request::Judge(request) => judging::run(rt, errors, request),
         Request::Complete(request) => completing::run(rt, errors, request),
         Request::Cut(request) => cutting::run(rt, errors, request),

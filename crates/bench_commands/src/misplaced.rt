@@ -24,6 +24,7 @@ pub(crate) enum Content {
     Picture,
     Verdicts,
     Waves,
+    Page,
     Job,
     Rules,
     Dictionary,
@@ -41,6 +42,7 @@ impl Content {
             Content::Picture => "a picture, which bench draw wrote",
             Content::Verdicts => "a JUnit report, which bench judge wrote",
             Content::Waves => "a value change dump, which bench export wrote",
+            Content::Page => "a page, which bench view wrote; a browser shows it",
             Content::Job => "a job; bench check tries it, and bench run records it",
             Content::Rules => "a text of rules; bench judge reads it beside a recording",
             Content::Dictionary => {
@@ -67,6 +69,7 @@ fn content_of(text: &[u8]) -> Option<Content> {
         (Kind::Picture, Content::Picture),
         (Kind::Verdicts, Content::Verdicts),
         (Kind::Waves, Content::Waves),
+        (Kind::Page, Content::Page),
     ];
     for (kind, content) in kinds {
         if is_of_kind(kind, text) {
@@ -214,6 +217,7 @@ fn recording_in<'a>(request: &Request<'a>) -> Option<&'a str> {
         Request::Export(request) => Some(request.extract.recording),
         Request::Signals(request) => Some(request.extract.recording),
         Request::Draw(request) => Some(request.extract.recording),
+        Request::View(request) => Some(request.extract.recording),
         Request::Complete(request) => Some(request.recording),
         Request::Judge(request) => Some(request.recording),
         Request::Cut(request) => Some(request.extract.recording),

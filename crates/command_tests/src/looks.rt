@@ -1,6 +1,6 @@
 //! The commands for people who look: `bench_stat`, `bench_export`, `bench_draw`, `bench_explain`, `bench_judge`,
-//! `bench_complete`, `bench_cut`, `bench_compare`, `bench_decode` and `bench_signals`, and with them `bench_select`,
-//! `judge_rules`, `signal_dictionary` and `ch11_layout`.
+//! `bench_complete`, `bench_cut`, `bench_compare`, `bench_decode`, `bench_signals` and `bench_view`, and with them
+//! `bench_select`, `judge_rules`, `signal_dictionary` and `ch11_layout`.
 
 mod comparisons;
 mod completions;
@@ -22,4 +22,5 @@ mod senders;
 mod signals;
 mod statistics;
 mod verdicts;
+mod views;
 mod waves;

@@ -1,0 +1,3 @@
+pub mod Lettering
+pub mod Putting
+pub mod Room

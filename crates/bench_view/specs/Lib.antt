@@ -1,0 +1,5 @@
+pub mod Filling
+pub mod Letters
+pub mod Lines
+pub mod Pages
+pub mod Safe

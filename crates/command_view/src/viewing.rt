@@ -1,0 +1,162 @@
+//! `bench view`: the messages of a recording as one page for a browser.
+
+use bench_files::{Hold, Kind};
+use bench_names::ChannelNames;
+use bench_requests::{Fault, write_new};
+use bench_select::Selection;
+use bench_view::{Asked, Page, page_of, template};
+use clap::{ArgMatches, Command};
+use command_parts::dictionaries::selection_by;
+use command_parts::extracting::{Extract, extract_options};
+use command_parts::looking::{tell_of_unknown, tell_of_unread};
+use command_parts::options::{command_of, file, time_channel};
+use command_parts::recordings::{Recording, Source, Times};
+use command_parts::selecting::selection_options;
+use signal_dictionary::Signal;
+use std::alloc::{AllocError, Global};
+use std::io::IsTerminal;
+use std::rt::{Clock, Files};
+
+/// What the help of `bench view` ends with.
+const NOTES: &str = "\
+The page needs nothing else: no network, no program beside a browser. It shows the lanes of each channel's lines, or of
+its terminals, over time, down to the words of a message; the load where messages are too close; errors at every scale;
+the begins of frames; a list of the messages, by filters; and the message that is chosen decoded, as dump --decode has
+it. Wheel, drag and keys move through time; ? shows the keys. The address of the page keeps what is seen, as #t=3.0s.
+
+With --signals DICTIONARY (bench signals --help) the values of signals stand beneath the lanes over time, at the cursor
+and with each message; --only then takes signal NAME too.
+
+A page has the first 200,000 messages that were chosen, fewer where their lines take more than 38 MB; it says so.
+
+Example:
+  bench view flight.ch11 --out flight.html
+  bench view flight.ch11 --out flight.html --signals avionics.signals
+  bench view flight.ch11 --out part.html --channel 2 --from 3s --to 4s";
+
+/// The command line of `bench view`.
+pub fn command<'a>(alloc: Global) -> Result<Command<'a>, AllocError> {
+    let about = "Makes one page of a recording's messages, to look at in a browser";
+    let out = "The file to write the page to, as HTML";
+    let rows = extract_options("The Chapter 11 file to look at", out);
+    let signals = "The dictionary of signals whose values the page shows";
+    let (more, selection) = (
+        [file("signals", signals), time_channel()],
+        selection_options(),
+    );
+    command_of(alloc, "view", about, NOTES, &[&rows, &more, &selection])
+}
+
+/// What the page is of, and where to.
+#[derive(Debug, Drop)]
+pub struct Request<'a> {
+    /// Which messages, and the file to write to.
+    pub extract: Extract<'a>,
+    /// The channel whose time packets tell times of day; all where none is named.
+    pub time_channel: Option<u16>,
+    /// The file of a dictionary whose signals are shown, if any.
+    pub signals: Option<&'a str>,
+}
+
+/// What a command line asks of `bench view`.
+pub fn request_in<'a>(given: &ArgMatches<'a>) -> Request<'a> {
+    Request {
+        extract: Extract::given(given),
+        time_channel: given.get_one::<u16>("time-channel"),
+        signals: given.get_str("signals"),
+    }
+}
+
+/// Writes the messages of a recording, or those that were selected, as a page. The out file takes the place of what is
+/// there once it is whole; it may not be the recording itself. Where a selection has no message, nothing is written,
+/// and that is said.
+pub fn run<'a, R: Files<File: Hold> + AllocGlobal + Clock, E: Eprint + IsTerminal>(
+    rt: &R,
+    errors: &E,
+    request: &Request<'a>,
+) -> Result<(), Fault<'a>> {
+    let extract = &request.extract;
+    let signals = extract.judge(rt, Kind::Page, request.signals)?;
+    let selection = selection_by(&extract.selection, request.signals, signals.as_slice())?;
+    let source = Source::of(rt, errors, extract.recording)?;
+    let recording = source.recording(false, false);
+    let stamps = recording.stamps(true)?;
+    let selection = selection.counting_from(stamps.origins.as_slice());
+    let made = make_page(&recording, request, selection, signals.as_slice());
+    source.end();
+    tell_of_unknown(errors, extract.recording, &stamps);
+    let made = made?;
+    put_page(rt, extract, &made.page)?;
+    tell_of_unread(errors, extract.recording, made.unread);
+    tell_of_more(errors, extract.recording, &made.page);
+    Ok(())
+}
+
+/// Puts a page into the out file. One without a message is none where messages were chosen.
+fn put_page<'a, R: Files<File: Hold> + AllocGlobal>(
+    rt: &R,
+    extract: &Extract<'a>,
+    page: &Page,
+) -> Result<(), Fault<'a>> {
+    if page.chosen == 0 && !extract.selection.is_empty() {
+        return Err(Fault::NoneSelected);
+    }
+    let text = page.text.as_slice();
+    write_new(rt, extract.out, Kind::Page, extract.force, text)
+}
+
+/// Says that a page has not all messages.
+fn tell_of_more<E: Eprint>(errors: &E, name: &str, page: &Page) {
+    if page.shown < page.chosen {
+        let (shown, chosen) = (page.shown, page.chosen);
+        // Nothing else is lost where standard error takes no more.
+        let _ = eprintln!(errors;
+            "bench: {name}: the page has the first {shown} of {chosen} messages; --from and --to choose others"
+        );
+    }
+}
+
+/// A page of a recording.
+#[derive(Drop)]
+struct Made {
+    page: Page,
+    /// Whether the recording has time packets of which none can be read.
+    unread: bool,
+}
+
+/// What a file is called without its folders.
+fn file_name(path: &str) -> &str {
+    match path.rsplit_once('/') {
+        Some((_, name)) => name,
+        None => path,
+    }
+}
+
+/// Makes the page of a recording: a pass for its clock, and one for the page.
+fn make_page<'a, R: Files + AllocGlobal + Clock, E: Eprint + IsTerminal>(
+    recording: &Recording<'_, 'a, R, E>,
+    request: &Request<'a>,
+    selection: Selection<'_>,
+    signals: &[Signal],
+) -> Result<Made, Fault<'a>> {
+    let alloc = recording.alloc();
+    let read = recording.clock(Times {
+        asked: true,
+        channel: request.time_channel,
+    })?;
+    let front = recording.front()?;
+    let names = ChannelNames::of(front.as_slice());
+    let asked = Asked {
+        selection,
+        signals,
+        name: file_name(request.extract.recording),
+    };
+    let template = template(alloc)?;
+    let input = recording.begin_reading()?;
+    let made = page_of(alloc, input, &asked, &read.clock, &names, &template);
+    let page = recording.answer(made)?;
+    Ok(Made {
+        page,
+        unread: read.unread,
+    })
+}
