@@ -13,7 +13,7 @@ is_same o (Some a) None = false
 is_same o None b = false
 
 -- at how many of the first so many places
-pub same_up_to : Origins → List Recorded → List Recorded → ℕ → ℕ
+abbrev pub same_up_to : Origins → List Recorded → List Recorded → ℕ → ℕ
 same_up_to o xs ys zero = 0
 same_up_to o xs ys (suc n) =
     same_up_to o xs ys n + (if is_same o (slice_get xs n) (slice_get ys n) then 1 else 0)

@@ -6,7 +6,7 @@ use crate::explanations::{Deed, Explanation};
 use crate::guesses::{GUESSES, Guess, guess_at};
 use crate::mending::{mark_controller, mend, mend_bits, mend_controller};
 use crate::hosts::{has, legality, renew, set_bits, set_reply};
-use crate::outlook::{Outlook, WRAPAROUND, bit};
+use crate::outlook::{Outlook, Shown, WRAPAROUND, bit};
 use crate::scene::Scene;
 use crate::styles::{Mark, STYLES, style_of};
 use crate::wanted::Wanted;
@@ -15,6 +15,7 @@ use mil_bus::BusError;
 use mil_host::Action;
 use mil_message::Message;
 use mil_status::StatusBits;
+use mil_word::Command;
 use std::alloc::{AllocError, Global};
 
 /// How often faults and actions are added to what was tried.
@@ -86,7 +87,7 @@ impl<'a> Explainer<'a> {
         if best.missed >= OTHER {
             self.unexplained = self.unexplained.saturating_add(1);
         }
-        self.scene.settle(self.alloc, &wanted, &self.explanation);
+        self.scene.settle(self.alloc, &wanted, &self.explanation)?;
         self.due.clear();
         for deed in self.explanation.later.as_slice() {
             let action = deed.action.copy();
@@ -228,8 +229,11 @@ impl<'a> Explainer<'a> {
         if case.style.mark != Mark::Reply {
             mark_controller(&mut self.explanation, case);
         }
-        for run in 1..due_count(case.message()) + 1 {
-            self.prepare_reply(case, outlook, run)?;
+        let count = due_count(case.message());
+        for run in [1u32, 2] {
+            if run <= count {
+                self.prepare_reply(case, outlook, run)?;
+            }
         }
         self.prepare_shown(case, outlook)
     }
@@ -258,28 +262,33 @@ impl<'a> Explainer<'a> {
             return Ok(());
         }
         for shown in outlook.shown.as_slice() {
-            let (Some(status), Some(terminal)) =
-                (shown.status, self.scene.terminal(shown.address))
-            else {
-                continue;
-            };
-            let command = self.command_for(case, shown.address);
-            if case.is_to_all() {
-                let takes = has(status, StatusBits::BROADCAST);
-                if takes != terminal.conditions_set().broadcast {
-                    self.explanation.act(shown.address, Action::Broadcast(takes))?;
-                }
-                if !takes {
-                    continue;
-                }
-            }
-            set_bits(&mut self.explanation, terminal, command, status)?;
+            self.prepare_one(case, shown)?;
         }
         Ok(())
     }
 
+    /// The same for one of them.
+    fn prepare_one(&mut self, case: &Case<'_>, shown: &Shown) -> Result<(), AllocError> {
+        let Some(status) = shown.status else {
+            return Ok(());
+        };
+        let command = self.command_for(case, shown.address);
+        let Some(terminal) = self.scene.terminal(shown.address) else {
+            return Ok(());
+        };
+        let takes = has(status, StatusBits::BROADCAST);
+        if case.is_to_all() && takes != terminal.conditions_set().broadcast {
+            let action = Action::Broadcast(takes);
+            self.explanation.act(shown.address, action)?;
+        }
+        if case.is_to_all() && !takes {
+            return Ok(());
+        }
+        set_bits(&mut self.explanation, terminal, command, status)
+    }
+
     /// The command that a terminal with this address hears.
-    fn command_for(&self, case: &Case<'_>, address: u8) -> mil_word::Command {
+    fn command_for(&self, case: &Case<'_>, address: u8) -> Command {
         let first = case.command(1);
         if first.address() == address {
             first
@@ -293,20 +302,27 @@ impl<'a> Explainer<'a> {
     fn judge_again(&mut self, case: &Case<'_>, outlook: &Outlook<'_>) -> Result<bool, AllocError> {
         let mut changed = false;
         for shown in outlook.shown.as_slice() {
-            let (Some(status), Some(terminal)) =
-                (shown.status, self.scene.terminal_then(shown.address))
-            else {
-                continue;
-            };
-            let is_illegal = has(status, StatusBits::MESSAGE_ERROR);
-            if is_illegal != has(terminal.status(), StatusBits::MESSAGE_ERROR) {
-                let command = self.command_for(case, shown.address);
-                let action = legality(command, is_illegal);
-                self.explanation.act(shown.address, action)?;
-                changed = true;
-            }
+            changed = self.judge_one(case, shown)? || changed;
         }
         Ok(changed)
+    }
+
+    /// The same for one of them.
+    fn judge_one(&mut self, case: &Case<'_>, shown: &Shown) -> Result<bool, AllocError> {
+        let Some(status) = shown.status else {
+            return Ok(false);
+        };
+        let Some(terminal) = self.scene.terminal_then(shown.address) else {
+            return Ok(false);
+        };
+        let is_illegal = has(status, StatusBits::MESSAGE_ERROR);
+        if is_illegal == has(terminal.status(), StatusBits::MESSAGE_ERROR) {
+            return Ok(false);
+        }
+        let command = self.command_for(case, shown.address);
+        let action = legality(command, is_illegal);
+        self.explanation.act(shown.address, action)?;
+        Ok(true)
     }
 }
 

@@ -1,17 +1,13 @@
 //! What a message of the job is: its message, what hosts do in front of it, and the faults that are planned for it.
-
 ghost use Rattle.mil_line.specs.Ranges.{is_in_range};
 ghost use Rattle.std.specs.List.{list_all};
-ghost use Rattle.std.specs.Prelude.{◌≡◌, true};
+ghost use Rattle.std.specs.Prelude.{◌≡◌, true, IfOk};
 
 use arrayvec::ArrayVec;
 use mil_host::Action;
-use mil_line::{Fault, Plan};
+use mil_line::{Fault, LineError, Plan};
 use mil_message::Message;
 use std::alloc::{AllocError, Global};
-
-/// How many faults may be planned for a message.
-pub(crate) const MOST_FAULTS: usize = 4;
 
 /// An action of the host of a terminal.
 #[derive(Debug, Drop)]
@@ -71,14 +67,15 @@ impl Explanation {
     }
 
     /// The faults, as a plan gives those of a message.
-    pub(crate) fn planned(&self, alloc: Global) -> ArrayVec<Fault, 4>
-        ensures { list_all is_in_range result.items ≡ true }
+    pub(crate) fn planned(&self, alloc: Global) -> Result<ArrayVec<Fault, 4>, AllocError>
+        ensures { IfOk result (λ faults. list_all is_in_range faults.items ≡ true) }
     {
         let mut plan = Plan::make(alloc);
         for fault in self.faults.as_slice() {
-            // Each is in its range, and there are four at most; without memory the message comes out another.
-            let _ = plan.add(1, *fault);
+            if let Err(LineError::Memory) = plan.add(1, *fault) {
+                return Err(AllocError);
+            }
         }
-        plan.faults(1)
+        Ok(plan.faults(1))
     }
 }

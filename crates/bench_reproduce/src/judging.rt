@@ -54,7 +54,7 @@ pub(crate) struct Standing {
 
 /// The words of a record as bytes.
 fn bytes_of(record: &Record) -> WordBytes
-    ensures bytes { take result.size result.bytes ≡ flat_map (little_bytes 2) (words_of record.now) }
+    ensures bytes { take result.size result.bytes ≡ flat_map (little_bytes 2) (words_of «record».now) }
     ensures size { result.size ≤ 80 }
 {
     let words = record.words.as_slice();
@@ -67,9 +67,9 @@ fn bytes_of(record: &Record) -> WordBytes
 impl WordBytes {
     /// A record with these words as it is read from a body.
     fn seen(&self, record: &Record) -> Seen<'_>
-        requires bytes { take self.now.size self.now.bytes ≡ flat_map (little_bytes 2) (words_of record.now) }
+        requires bytes { take self.now.size self.now.bytes ≡ flat_map (little_bytes 2) (words_of «record».now) }
         requires size { self.now.size ≤ 80 }
-        ensures { message_of result ≡ as_message record.now }
+        ensures { message_of result ≡ as_message «record».now }
     {
         Seen {
             stamp: record.stamp,
@@ -139,8 +139,8 @@ fn compare_with(
     kept: &Kept,
     record: &Record,
 ) -> Result<(), AllocError>
-    requires { standing.old.same + 1 < 2 ^ 64 }
-    ensures { OnOk result (IsCompared standing.old kept.now (Some record.now) standing.new) }
+    requires { standing.old.same < number }
+    ensures { OnOk result (IsCompared standing.old kept.now (Some «record».now) standing.new) }
 {
     let bytes = bytes_of(record);
     let kind = StampKind::Counter;
@@ -168,8 +168,8 @@ fn compare_at(
     kept: &Kept,
     record: &Option<Record>,
 ) -> Result<(), AllocError>
-    requires { standing.old.same + 1 < 2 ^ 64 }
-    ensures { OnOk result (IsCompared standing.old kept.now record.now standing.new) }
+    requires { standing.old.same < number }
+    ensures { OnOk result (IsCompared standing.old kept.now «record».now standing.new) }
 {
     match record {
         Some(record) => compare_with(alloc, standing, number, kept, record),
@@ -191,7 +191,7 @@ fn compare_next(
     number: u64,
     kept: &Kept,
 ) -> Result<(), AllocError>
-    requires few { standing.old.same + 1 < 2 ^ 64 }
+    requires few { standing.old.same < number }
     requires of_job { IsOf (job_in job.now) job.now.actions machine.old }
     ensures of_job { IsOf (job_in job.now) job.now.actions machine.new }
     ensures next { OnOk result (ComparesNext (records (job_in job.now) job.now.actions) machine.old.point.number
@@ -210,7 +210,7 @@ fn run_on(job: &Job, machine: &mut Machine)
 {
     // A job's script is sound by its type.
     let _sound = job.program();
-    while let Some(_record) = next_record(machine) {}
+    'records: while let Some(_record) = next_record(machine) {}
 }
 
 /// Runs a job and compares its records with the messages that were recorded.

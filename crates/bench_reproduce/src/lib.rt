@@ -2,8 +2,8 @@
 //! that job gives, compared with what was recorded.
 //!
 //! It may know: words, status bits, messages, host actions, what the host of a controller asks for, as values and as
-//! text, gaps and planned faults, terminals, the bus, the monitor, jobs, bodies, layouts, the reader, the packets of a
-//! stream, and `bench_compare`. Its tests: `command_tests`. Its wrong bodies: `edits/`.
+//! text, gaps and planned faults, terminals, the bus, the monitor, trees, the controller, jobs, bodies, layouts, the
+//! reader, the packets of a stream, and `bench_compare`. Its tests: `command_tests`. Its wrong bodies: `edits/`.
 #![tactic(auto)]
 
 mod answering;
@@ -16,6 +16,7 @@ mod guesses;
 mod hearing;
 mod hosts;
 mod judging;
+mod laws;
 mod mending;
 mod outlook;
 mod reproducing;
@@ -26,4 +27,5 @@ mod writing;
 
 pub use fault::ReproduceFault;
 pub use judging::Verdict;
+pub use laws::all_are_same;
 pub use reproducing::{Reproduction, reproduce};

@@ -48,13 +48,13 @@ pub(crate) fn mend_controller(explanation: &mut Explanation, case: &Case<'_>) {
     let given = given_by_controller(case);
     let wanted = case.wanted.part(0, case.guess.sent);
     let mut manner = manner_of(case, 0);
-    let mut own = given.as_slice();
+    let words = given.as_slice();
     // Where the faults are not enough, the record comes out another.
     if case.guess.is_headless {
         let _ = explanation.plan(Fault::Drop { run: 0, index: 0 });
         manner.front = 1;
-        own = given.as_slice().split_at(given.len().min(1)).1;
     }
+    let own = &words[manner.front.min(words.len())..];
     if own != wanted {
         let _ = edit(explanation, manner, own, wanted);
     }

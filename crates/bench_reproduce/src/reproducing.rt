@@ -7,6 +7,7 @@ use crate::explaining::Explainer;
 use crate::fault::ReproduceFault;
 use crate::hearing::hear;
 use crate::judging::{Verdict, judge};
+use crate::laws::all_are_same;
 use crate::wanted::LATEST_TICK;
 use crate::writing::JobText;
 use bench_compare::Kept;
@@ -84,6 +85,8 @@ pub fn reproduce<R: Advance + Drop>(
     ensures same { IfOk result (λ r. r.verdict.same ≡ r.verdict.messages → (file : List ℕ)
         → R.remaining input ≡ Some file → Plays (string_bytes r.text) file channel) }
 {
+    // The law by which all are the same, for the proofs.
+    all_are_same();
     let heard = hear(alloc, input, channel)?;
     let first = first_stamp(heard.as_slice())?;
     let text = written(alloc, heard.as_slice(), channel, first)?;

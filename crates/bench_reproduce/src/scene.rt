@@ -43,15 +43,15 @@ fn exchange(
     bus: &mut Bus,
     wanted: &Wanted,
     explanation: &Explanation,
-) -> Option<Talk> {
+) -> Result<Option<Talk>, AllocError> {
     for deed in explanation.deeds.as_slice() {
         // A terminal that is not there does nothing.
         let _ = bus.act(deed.address, &deed.action);
     }
-    let faults = explanation.planned(alloc);
+    let faults = explanation.planned(alloc)?;
     let before = bus.hold(wanted.at.min(LATEST_TICK));
     if !has_time(bus) {
-        return None;
+        return Ok(None);
     }
     let talk = bus.exchange(
         wanted.line,
@@ -60,7 +60,7 @@ fn exchange(
         faults.as_slice(),
     );
     let _ = bus.hold(before);
-    Some(talk)
+    Ok(Some(talk))
 }
 
 impl Scene {
@@ -87,7 +87,7 @@ impl Scene {
             self.tried = self.settled.copy()?;
         }
         self.spent = true;
-        Ok(exchange(alloc, &mut self.tried, wanted, explanation))
+        exchange(alloc, &mut self.tried, wanted, explanation)
     }
 
     /// Keeps the message that was tried last.
@@ -96,13 +96,14 @@ impl Scene {
         alloc: Global,
         wanted: &Wanted,
         explanation: &Explanation,
-    ) {
+    ) -> Result<(), AllocError> {
         // What comes of it was seen when it was tried.
-        let _ = exchange(alloc, &mut self.settled, wanted, explanation);
+        let _ = exchange(alloc, &mut self.settled, wanted, explanation)?;
         self.spent = false;
         for deed in explanation.deeds.as_slice() {
             self.note_gap(deed);
         }
+        Ok(())
     }
 
     /// Notes the gap that a host sets.

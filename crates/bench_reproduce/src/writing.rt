@@ -1,7 +1,7 @@
 //! The text of the job.
 
 use crate::explanations::Explanation;
-use crate::wanted::Wanted;
+use crate::wanted::{LATEST_TICK, Wanted};
 use controller_host::{Control, Insertion};
 use controller_text::ControlText;
 use mil_host::DataWord;
@@ -57,6 +57,12 @@ fn put_fault(text: &mut String, number: u32, fault: &Fault) -> Result<(), AllocE
     text.push_str("\n")
 }
 
+/// A message as the host of the controller asks for it.
+fn insertion_of(wanted: &Wanted, explanation: &Explanation) -> Insertion {
+    let tick = wanted.at.min(LATEST_TICK);
+    Insertion::make(tick, wanted.line, explanation.message.copy())
+}
+
 impl JobText {
     /// The lines in front of the first message.
     pub(crate) fn begin(
@@ -100,9 +106,7 @@ impl JobText {
             let (address, action) = (deed.address, &deed.action);
             write!(text, "at {number} {address} {action}\n")?;
         }
-        let message = explanation.message.copy();
-        let insertion = Insertion::make(wanted.at, wanted.line, message);
-        let control = Control::Insert(insertion);
+        let control = Control::Insert(insertion_of(wanted, explanation));
         let control = ControlText(&control);
         write!(text, "at {number} bc {control}\n")?;
         for fault in explanation.faults.as_slice() {
