@@ -1,13 +1,13 @@
 -- All messages of two readings are the same where as many places are as there are.
-use Rattle.std.proofs.Common.{◌≡◌, ℕ, zero, suc, ◌+◌, ◌<◌, ◌≤◌, ◌⊎◌, inl, inr, Bool, true, false, cond, not, List, [], ◌∷◌, length, max, Option, None, Some, slice_get, is_some, refl, sym, ap, subst, ◌∙◌, arith}
+use Rattle.std.proofs.Common.{◌≡◌, ℕ, zero, suc, ◌+◌, ◌<◌, ◌≤◌, ◌⊎◌, inl, inr, Bool, true, false, cond, not, List, [], ◌∷◌, length, max, Option, None, Some, slice_get, is_some, refl, sym, ap, subst, arith}
 use Rattle.std.proofs.lemmas.Bool.{cases_eq}
 use Rattle.std.proofs.lemmas.Option.{slice_get_past}
 use Rattle.ch11_layout.specs.Stamps.{Recorded}
 use Rattle.bench_compare.specs.Differences.{origins_of, part_of}
-use Rattle.bench_compare.specs.Laws.{AreSame, AreSameReadings}
+use Rattle.bench_compare.specs.Laws.{AreSame}
 use Rattle.bench_compare.specs.declared.differences.Origins.{Origins}
 use Rattle.bench_compare.specs.declared.differences.Part.{Part}
-use Rattle.bench_reproduce.specs.Sameness.{AllAreSame, is_same, places, same_in, same_up_to}
+use Rattle.bench_reproduce.specs.Sameness.{AllAreSame, is_same, places, same_up_to}
 
 -- ---- one place
 

@@ -1,5 +1,5 @@
 -- What is said of a job that was written for a recorded channel (own choice).
-use Rattle.std.specs.Prelude.{◌≡◌, ℕ, List, Option, Some}
+use Rattle.std.specs.Prelude.{◌≡◌, ℕ, List, Some}
 use Rattle.ch11_layout.specs.Stamps.{Recorded}
 use Rattle.ch11_reader.specs.Indexed.{found_in}
 use Rattle.ch11_reader.specs.Recording.{packets_in}

@@ -1,5 +1,5 @@
 -- How many messages of two readings of a channel are the same (own choice): no part of them differs, to the tick.
-use Rattle.std.specs.Prelude.{◌≡◌, ℕ, zero, suc, ◌+◌, Bool, true, false, if◌then◌else◌, List, length, max, slice_get}
+use Rattle.std.specs.Prelude.{◌≡◌, ℕ, zero, suc, ◌+◌, Bool, false, if◌then◌else◌, List, length, max, slice_get}
 use Rattle.std.specs.Prelude.{Option, None, Some, is_some, not, ◌↔◌}
 use Rattle.ch11_layout.specs.Stamps.{Recorded}
 use Rattle.bench_compare.specs.Differences.{origins_of, part_of}

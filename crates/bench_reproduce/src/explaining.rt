@@ -5,7 +5,7 @@ use crate::cases::{Case, due_count};
 use crate::explanations::{Deed, Explanation};
 use crate::guesses::{GUESSES, Guess, guess_at};
 use crate::mending::{mark_controller, mend, mend_bits, mend_controller};
-use crate::hosts::{has, legality, renew, set_bits, set_reply};
+use crate::hosts::{has, is_uncommon, legality, renew, set_bits, set_reply};
 use crate::outlook::{Outlook, Shown, WRAPAROUND, bit};
 use crate::scene::Scene;
 use crate::styles::{Mark, STYLES, style_of};
@@ -252,7 +252,7 @@ impl<'a> Explainer<'a> {
         if case.style.renews {
             renew(&mut self.explanation, address)?;
         }
-        let stays = outlook.keeps_gap(case.next, address, reply.gap);
+        let stays = is_uncommon(reply.gap) && outlook.keeps_gap(case.next, address, reply.gap);
         set_reply(&mut self.explanation, &self.scene, &reply, stays)
     }
 

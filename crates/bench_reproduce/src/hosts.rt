@@ -180,6 +180,11 @@ fn set_mode_word(
     }
 }
 
+/// Whether a gap is none that a response time can be.
+pub(crate) fn is_uncommon(gap: u16) -> bool {
+    gap < SHORTEST || gap > LONGEST
+}
+
 /// Sets the gap of a reply, by the host or by a planned fault.
 fn set_gap(
     explanation: &mut Explanation,

@@ -1,5 +1,4 @@
-use Rattle.std.proofs.Common.{◌≡◌, ◌∙◌, List, ap}
-use Rattle.ch11_reader.specs.Recording.{Found}
+use Rattle.std.proofs.Common.{◌∙◌, ap}
 use Rattle.ch11_stream.proofs.Folding.{all_found}
 use Rattle.ch11_stream.proofs.Readings.{amid_on, amid_start}
 use Rattle.bench_reproduce.specs.Readings.{messages_in}
