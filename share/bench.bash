@@ -11,7 +11,7 @@ _bench_files() {
 
 _bench() {
     local word=${COMP_WORDS[COMP_CWORD]} before=${COMP_WORDS[COMP_CWORD - 1]} command='' place
-    local commands="one assemble run check dump step stat export signals draw view judge complete cut compare explain help"
+    local commands="one assemble run check dump step stat export signals draw view judge complete cut compare reproduce explain help"
     for ((place = 1; place < COMP_CWORD; place++)); do
         case ${COMP_WORDS[place]} in
             --context) place=$((place + 1)) ;;
@@ -80,6 +80,7 @@ _bench() {
             options="--version --skip $options"
             ;;
         cut) options="--out --force --skip --channel --line --only --errors --from --to $options" ;;
+        reproduce) options="--channel --out --force $options" ;;
         compare) options="--within --junit --json --force --channel --line --only --errors --from --to $options" ;;
         judge) options="--junit --json --force --signals --skip $options" ;;
         draw | view) options="--out --force --signals --time-channel --channel --line --only --errors --from --to $options" ;;

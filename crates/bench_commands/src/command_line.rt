@@ -8,6 +8,7 @@ use command_judge::{checking, judging};
 use command_listing::{dumping, statistics};
 use command_material::{comparing, cutting};
 use command_parts::context::{Context, context_in, context_option};
+use command_reproduce::reproducing;
 use command_step::{assembling, explaining, one_message, stepping};
 use command_view::viewing;
 use std::alloc::{AllocError, Global};
@@ -54,6 +55,8 @@ pub enum Request<'a> {
     Cut(cutting::Request<'a>),
     /// Two recordings, compared.
     Compare(comparing::Request<'a>),
+    /// A recorded channel, written as a job that plays it again.
+    Reproduce(reproducing::Request<'a>),
     /// What codes mean; all of them where none is given.
     Explain(explaining::Request<'a>),
 }
@@ -128,6 +131,7 @@ fn writing_request<'a>(name: &str, given: &ArgMatches<'a>) -> Request<'a> {
         "view" => Request::View(viewing::request_in(given)),
         "complete" => Request::Complete(completing::request_in(given)),
         "cut" => Request::Cut(cutting::request_in(given)),
+        "reproduce" => Request::Reproduce(reproducing::request_in(given)),
         _ => Request::One(one_message::request_in(given)),
     }
 }
@@ -156,6 +160,7 @@ fn bench_command<'a>(alloc: Global) -> Result<Command<'a>, AllocError> {
     let bench = with(bench, completing::command(alloc));
     let bench = with(bench, cutting::command(alloc));
     let bench = with(bench, comparing::command(alloc));
+    let bench = with(bench, reproducing::command(alloc));
     with(bench, explaining::command(alloc))
 }
 

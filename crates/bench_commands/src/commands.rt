@@ -12,6 +12,7 @@ use command_judge::{checking, judging};
 use command_listing::{dumping, statistics};
 use command_material::{comparing, cutting};
 use command_parts::hosts::{Errors, Host};
+use command_reproduce::reproducing;
 use command_step::{assembling, explaining, one_message, stepping};
 use command_view::viewing;
 use std::io;
@@ -122,6 +123,7 @@ where
         Request::Complete(request) => completing::run(rt, errors, request),
         Request::Cut(request) => cutting::run(rt, errors, request),
         Request::Compare(request) => comparing::run(rt, errors, request),
+        Request::Reproduce(request) => reproducing::run(rt, errors, request),
         Request::Explain(request) => explaining::run(rt, request),
     }
 }

@@ -221,6 +221,7 @@ fn recording_in<'a>(request: &Request<'a>) -> Option<&'a str> {
         Request::Complete(request) => Some(request.recording),
         Request::Judge(request) => Some(request.recording),
         Request::Cut(request) => Some(request.extract.recording),
+        Request::Reproduce(request) => Some(request.recording),
         Request::Step(request) => Some(request.recording),
         _ => None,
     }

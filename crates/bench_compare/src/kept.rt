@@ -10,17 +10,18 @@ use std::marker::Model;
 
 /// A message as it is met in a packet.
 #[derive(Clone, Copy, Debug)]
-pub(crate) struct Met<'a> {
+pub struct Met<'a> {
     /// Its number in the file, counted from 1.
-    pub(crate) number: u64,
+    pub number: u64,
     /// What the stamps of its packet are.
-    pub(crate) kind: StampKind,
-    pub(crate) seen: Seen<'a>,
+    pub kind: StampKind,
+    /// What its packet has of it.
+    pub seen: Seen<'a>,
 }
 
 impl<'a> Met<'a> {
     /// The message, decoded.
-    pub(crate) fn view(&self) -> View<'a>
+    pub fn view(&self) -> View<'a>
         ensures { result ≡ recorded self.now.kind (message_of self.now.seen) }
     {
         View::of(self.kind, &self.seen)
@@ -48,8 +49,8 @@ impl Model for Kept {
 }
 
 impl Kept {
-    /// A message that was met.
-    pub(crate) fn of(alloc: Global, met: &Met<'_>) -> Result<Kept, AllocError>
+    /// A message that was met; it fails for want of memory alone.
+    pub fn of(alloc: Global, met: &Met<'_>) -> Result<Kept, AllocError>
         ensures { IfOk result (λ kept. kept ≡ recorded met.now.kind (message_of met.now.seen)) }
     {
         let words = met.seen.words.to_vec(alloc)?;

@@ -72,7 +72,7 @@ fn write_value<W: Write>(
 }
 
 /// Writes in what a message differs, and what each recording has there.
-pub(crate) fn write_part<W: Write>(
+pub fn write_part<W: Write>(
     alloc: Global,
     difference: &Difference,
     out: &mut W,

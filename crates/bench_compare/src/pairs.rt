@@ -43,8 +43,9 @@ fn are_like(within: u64, gaps: u16, other: u16) -> bool
     is_like(within, gaps % 256, other % 256) && is_like(within, gaps / 256, other / 256)
 }
 
-/// The first part in which two messages differ, if any does.
-pub(crate) fn part_of(
+/// The first part in which two messages differ, if any does: times may be so many ticks of 0.1 µs apart, and stamps are
+/// told from those of the first messages of their channel.
+pub fn part_of(
     within: u64,
     origins: Origins,
     one: &View<'_>,

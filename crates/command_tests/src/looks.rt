@@ -1,6 +1,6 @@
 //! The commands for people who look: `bench_stat`, `bench_export`, `bench_draw`, `bench_explain`, `bench_judge`,
-//! `bench_complete`, `bench_cut`, `bench_compare`, `bench_decode`, `bench_signals` and `bench_view`, and with them
-//! `bench_select`, `judge_rules`, `signal_dictionary` and `ch11_layout`.
+//! `bench_complete`, `bench_cut`, `bench_compare`, `bench_reproduce`, `bench_decode`, `bench_signals` and `bench_view`,
+//! and with them `bench_select`, `judge_rules`, `signal_dictionary` and `ch11_layout`.
 
 mod comparisons;
 mod completions;
@@ -16,6 +16,7 @@ mod objects;
 mod pages;
 mod pictures;
 mod planned;
+mod reproductions;
 mod seconds;
 mod selections;
 mod senders;

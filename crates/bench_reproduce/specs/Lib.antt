@@ -1,0 +1,4 @@
+pub mod Readings
+pub mod Reproduced
+pub mod Running
+pub mod Sameness

@@ -1,0 +1,81 @@
+//! What a message of the job is: its message, what hosts do in front of it, and the faults that are planned for it.
+ghost use Rattle.mil_line.specs.Ranges.{is_in_range};
+ghost use Rattle.std.specs.List.{list_all};
+ghost use Rattle.std.specs.Prelude.{◌≡◌, true, IfOk};
+
+use arrayvec::ArrayVec;
+use mil_host::Action;
+use mil_line::{Fault, LineError, Plan};
+use mil_message::Message;
+use std::alloc::{AllocError, Global};
+
+/// An action of the host of a terminal.
+#[derive(Debug, Drop)]
+pub(crate) struct Deed {
+    pub(crate) address: u8,
+    pub(crate) action: Action,
+}
+
+/// What explains a recorded message.
+#[derive(Drop)]
+pub(crate) struct Explanation {
+    pub(crate) message: Message,
+    pub(crate) deeds: Vec<Deed>,
+    pub(crate) faults: ArrayVec<Fault, 4>,
+    /// What hosts do in front of the next message whatever that is.
+    pub(crate) later: Vec<Deed>,
+}
+
+impl Explanation {
+    /// A message to begin with.
+    pub(crate) fn none(alloc: Global) -> Explanation {
+        Explanation {
+            message: Message::default(),
+            deeds: Vec::new(alloc),
+            faults: ArrayVec::new(),
+            later: Vec::new(alloc),
+        }
+    }
+
+    /// Begins anew with a message and what hosts do in front of it in any case.
+    pub(crate) fn begin(&mut self, message: Message, due: &[Deed]) -> Result<(), AllocError> {
+        self.message = message;
+        self.deeds.clear();
+        self.later.clear();
+        self.faults.clear();
+        for deed in due {
+            self.act(deed.address, deed.action.copy())?;
+        }
+        Ok(())
+    }
+
+    /// Puts an action behind the others.
+    pub(crate) fn act(&mut self, address: u8, action: Action) -> Result<(), AllocError> {
+        self.deeds.push(Deed { address, action })?;
+        Ok(())
+    }
+
+    /// Puts an action in front of the next message.
+    pub(crate) fn act_later(&mut self, address: u8, action: Action) -> Result<(), AllocError> {
+        self.later.push(Deed { address, action })?;
+        Ok(())
+    }
+
+    /// Plans a fault; false where it is out of its range, or four are planned already.
+    pub(crate) fn plan(&mut self, fault: Fault) -> bool {
+        fault.is_in_range() && self.faults.try_push(fault).is_ok()
+    }
+
+    /// The faults, as a plan gives those of a message.
+    pub(crate) fn planned(&self, alloc: Global) -> Result<ArrayVec<Fault, 4>, AllocError>
+        ensures { IfOk result (λ faults. list_all is_in_range faults.items ≡ true) }
+    {
+        let mut plan = Plan::make(alloc);
+        for fault in self.faults.as_slice() {
+            if let Err(LineError::Memory) = plan.add(1, *fault) {
+                return Err(AllocError);
+            }
+        }
+        Ok(plan.faults(1))
+    }
+}

@@ -1,0 +1,125 @@
+//! The text of the job.
+
+use crate::explanations::Explanation;
+use crate::wanted::{LATEST_TICK, Wanted};
+use controller_host::{Control, Insertion};
+use controller_text::ControlText;
+use mil_host::DataWord;
+use mil_line::Fault;
+use mil_word::Sync;
+use std::alloc::{AllocError, Global};
+use std::fmt::Write;
+
+/// How many ticks of 0.1 µs a tenth of a second has.
+const TENTH: u64 = 1_000_000;
+
+/// A job on the way.
+#[derive(Drop)]
+pub(crate) struct JobText {
+    text: String,
+    tenth: Option<u64>,
+}
+
+/// The letter of a sync.
+fn letter(sync: Sync) -> &'static str {
+    match sync {
+        Sync::CommandSync => "c",
+        Sync::DataSync => "d",
+    }
+}
+
+/// Puts a planned fault as its line.
+fn put_fault(text: &mut String, number: u32, fault: &Fault) -> Result<(), AllocError> {
+    write!(text, "fault {number} ")?;
+    match fault {
+        Fault::Mask {
+            run,
+            index,
+            half_bits,
+        } => {
+            let halves = half_bits.half_bits();
+            write!(text, "mask {run} {index} {halves:010X}")?;
+        }
+        Fault::Drop { run, index } => write!(text, "drop {run} {index}")?,
+        Fault::Add { run, index, word } => {
+            let (sync, value) = (letter(word.sync), DataWord(word.value));
+            write!(text, "add {run} {index} {sync} {value}")?;
+        }
+        Fault::Late { run, ticks } => write!(text, "late {run} {ticks}")?,
+        Fault::Mute { run } => write!(text, "mute {run}")?,
+        Fault::Early { run, ticks } => write!(text, "early {run} {ticks}")?,
+        Fault::Pause { run, index, ticks } => write!(text, "pause {run} {index} {ticks}")?,
+        Fault::Babble { run, count, word } => {
+            let value = DataWord(*word);
+            write!(text, "babble {run} {count} {value}")?;
+        }
+    }
+    text.push_str("\n")
+}
+
+/// A message as the host of the controller asks for it.
+fn insertion_of(wanted: &Wanted, explanation: &Explanation) -> Insertion {
+    let tick = wanted.at.min(LATEST_TICK);
+    Insertion::make(tick, wanted.line, explanation.message.copy())
+}
+
+impl JobText {
+    /// The lines in front of the first message.
+    pub(crate) fn begin(
+        alloc: Global,
+        channel: u16,
+        count: usize,
+        addresses: &[u8],
+    ) -> Result<JobText, AllocError> {
+        let mut text = String::new(alloc);
+        write!(
+            &mut text,
+            "# What was recorded of channel {channel}: {count} messages\nchannel {channel}\n"
+        )?;
+        for address in addresses {
+            write!(&mut text, "terminal {address}\n")?;
+        }
+        Ok(JobText { text, tenth: None })
+    }
+
+    /// Puts the time as a comment, where another tenth of a second has begun.
+    fn put_time(&mut self, at: u64) -> Result<(), AllocError> {
+        let tenth = at / TENTH;
+        if self.tenth == Some(tenth) {
+            return Ok(());
+        }
+        self.tenth = Some(tenth);
+        let (seconds, part) = (tenth / 10, tenth % 10);
+        write!(&mut self.text, "\n# {seconds}.{part} s\n")
+    }
+
+    /// Puts the lines of a message.
+    pub(crate) fn put(
+        &mut self,
+        number: u32,
+        wanted: &Wanted,
+        explanation: &Explanation,
+    ) -> Result<(), AllocError> {
+        self.put_time(wanted.at)?;
+        let text = &mut self.text;
+        for deed in explanation.deeds.as_slice() {
+            let (address, action) = (deed.address, &deed.action);
+            write!(text, "at {number} {address} {action}\n")?;
+        }
+        let control = Control::Insert(insertion_of(wanted, explanation));
+        let control = ControlText(&control);
+        write!(text, "at {number} bc {control}\n")?;
+        for fault in explanation.faults.as_slice() {
+            put_fault(text, number, fault)?;
+        }
+        Ok(())
+    }
+
+    /// The whole text.
+    pub(crate) fn end(self) -> Result<String, AllocError> {
+        let JobText { text, tenth: _ } = self;
+        let mut text = text;
+        text.push_str("\nscript\n")?;
+        Ok(text)
+    }
+}
