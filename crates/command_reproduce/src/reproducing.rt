@@ -13,11 +13,13 @@ use command_parts::recordings::{Recording, Source, fault_of_reading};
 use command_parts::replacing::may_write;
 use command_parts::streams::{listing, on_stream, printed};
 use std::alloc::{AllocError, Global};
+use std::fs;
 use std::io::{BufWriter, IsTerminal, Write};
 use std::rt::{Clock, Files};
 use text_lines::WriteFault;
 
-/// What the file is that is written.
+/// What the file is that is written, as it is called until it is whole: lines, as those of a report are. What is there
+/// under its name is looked at by its length alone.
 const JOB: Kind = Kind::Report;
 
 /// What the help of `bench reproduce` ends with.
@@ -26,7 +28,8 @@ The job has the terminals that answered, an `insert at` line for each message wi
 channel, what hosts set so that the replies come as they were recorded, and planned faults for what went wrong. It is
 read back and run, and what it gives is compared with the recording, to the tick: `messages N same M`, and for each of
 the first ten that are not the same `differs at K PART: X and Y`, K counted in the channel, the recording first, as
-`bench compare` has it. The job is written in either case.
+`bench compare` has it. The job is written in either case; one that is there is replaced with --force alone, since
+people change jobs.
 
 --channel may be left out where one channel alone has messages. A damaged recording is mended first by
 `bench cut --skip`; of one with more than 1000000 messages in the channel a part is cut first by `bench cut --from
@@ -59,7 +62,7 @@ pub struct Request<'a> {
     pub channel: Option<u32>,
     /// The file to write the job to.
     pub out: &'a str,
-    /// Whether a file of another kind may be replaced.
+    /// Whether a file that is there may be replaced.
     pub force: bool,
 }
 
@@ -81,18 +84,33 @@ pub fn run<'a, R: System, E: Eprint + IsTerminal>(
     request: &Request<'a>,
 ) -> Result<(), Fault<'a>> {
     let named = named_channel(request)?;
-    may_write(rt, request.out, JOB, request.force, &[request.recording])?;
+    may_write(rt, request.out, JOB, true, &[request.recording])?;
+    keep_what_is_there(rt, request)?;
     let source = Source::of(rt, errors, request.recording)?;
     let recording = source.recording(false, true);
     let done = reproduce_channel(&recording, request, named);
     source.end();
     let done = done?;
-    write_new(rt, request.out, JOB, request.force, done.text.as_bytes())?;
+    write_new(rt, request.out, JOB, true, done.text.as_bytes())?;
     print_verdict(rt, &done.verdict)?;
     if done.verdict.same < done.verdict.messages {
         return Err(Fault::Differ);
     }
     Ok(())
+}
+
+/// Refuses, as a usage fault, an out file that is there with a byte, unless it may be replaced: a job is a text that
+/// people change.
+fn keep_what_is_there<'a, R: Files>(rt: &R, request: &Request<'a>) -> Result<(), Fault<'a>> {
+    if request.force {
+        return Ok(());
+    }
+    match fs::metadata(rt, request.out) {
+        Ok(about) if about.is_file() && about.len() > 0 => Err(Fault::Usage(
+            "the file of --out is there, and would be written over; --force allows it",
+        )),
+        _ => Ok(()),
+    }
 }
 
 /// The channel that is named; a usage fault of a number that no channel has.
