@@ -1,7 +1,7 @@
 //! Packets of a channel, against worked bytes and at their limits.
 ghost use Rattle.std.specs.Prelude.{◌≡◌};
 
-use crate::tests::equal::{are_bytes, reads};
+use crate::tests::equal::{reads, same};
 use crate::tests::messages::message_of;
 use ch11_builder::{Builder, BuilderError, Pushed, run_gives_the_packets};
 use ch11_header::read_header;
@@ -16,11 +16,14 @@ fn one_message(rt: HostRuntime) {
     let mut builder = made.ok().expect(&rt, "a builder");
     let message = message_of(0, 0x50, &[0x2823, 1, 2, 3, 0x2800]);
     let kept = matches!(builder.push(1, &message), Pushed::Kept);
-    assert!(rt; kept);
-    let bytes = builder.close().expect(&rt, "a packet");
-    are_bytes(&rt, bytes, &ONE_PACKET);
-    let none = builder.close().is_none();
-    assert!(rt; none);
+    same(&rt, &kept, &true);
+    ends_with_one_packet(&rt, &mut builder);
+}
+
+/// A builder closes the worked packet, and no other behind it.
+fn ends_with_one_packet(rt: &impl Abort, builder: &mut Builder) {
+    same(rt, &builder.close(), &Some(ONE_PACKET.as_slice()));
+    same(rt, &builder.close(), &None);
 }
 
 /// A message of 36 words.
@@ -30,8 +33,11 @@ fn long_message(stamp: u64) -> Record
     message_of(stamp, 0, &[7; 36])
 }
 
-/// Length, data length, sequence and flags of a packet: none where its header can't be read.
-fn shape_of(packet: &[u8]) -> Option<(usize, u32, u8, u8)> {
+/// Length, data length, sequence and flags of a packet.
+type Shape = (usize, u32, u8, u8);
+
+/// The shape of a packet: none where its header can't be read.
+fn shape_of(packet: &[u8]) -> Option<Shape> {
     let header = read_header(packet).ok()?;
     Some((
         packet.len(),
@@ -42,26 +48,16 @@ fn shape_of(packet: &[u8]) -> Option<(usize, u32, u8, u8)> {
 }
 
 /// The shape of the packet that a push closed.
-fn closed_shape(pushed: Pushed<'_>) -> Option<(usize, u32, u8, u8)> {
+fn closed_shape(pushed: Pushed<'_>) -> Option<Shape> {
     match pushed {
         Pushed::Kept => None,
         Pushed::Closed(packet) => shape_of(packet),
     }
 }
 
-/// The shape of the packet that a push closed, if any.
-fn has_closed(
-    rt: &impl Abort,
-    shape: Option<(usize, u32, u8, u8)>,
-    wanted: Option<(usize, u32, u8, u8)>,
-) {
-    assert_eq!(rt; shape, wanted);
-}
-
-/// The last packet of a builder.
-fn ends_with(rt: &impl Abort, builder: &mut Builder, wanted: (usize, u32, u8, u8)) {
-    let packet = builder.close().expect(rt, "a packet");
-    has_closed(rt, shape_of(packet), Some(wanted));
+/// The shape of the last packet of a builder, if there is one.
+fn last_shape(builder: &mut Builder) -> Option<Shape> {
+    shape_of(builder.close()?)
 }
 
 #[test]
@@ -70,34 +66,32 @@ fn packets_end_at_their_limit(rt: HostRuntime) {
     let made = Builder::make(rt.alloc(), 1, 6, 256);
     let mut builder = made.ok().expect(&rt, "a builder");
     let first = closed_shape(builder.push(1, &long_message(0)));
-    has_closed(&rt, first, None);
     let second = closed_shape(builder.push(2, &long_message(10_000)));
-    has_closed(&rt, second, None);
     let third = closed_shape(builder.push(3, &long_message(20_000)));
-    has_closed(&rt, third, Some((200, 176, 0, 0)));
     let fourth = closed_shape(builder.push(4, &long_message(30_000)));
-    has_closed(&rt, fourth, None);
     let fifth = closed_shape(builder.push(5, &long_message(40_000)));
-    has_closed(&rt, fifth, Some((200, 176, 1, 0)));
-    ends_with(&rt, &mut builder, (116, 90, 2, 0));
+    let found = [
+        first,
+        second,
+        third,
+        fourth,
+        fifth,
+        last_shape(&mut builder),
+    ];
+    let (packet, next) = (Some((200, 176, 0, 0)), Some((200, 176, 1, 0)));
+    let last = Some((116, 90, 2, 0));
+    same(&rt, &found, &[None, None, packet, None, next, last]);
 }
 
 /// A message at 0 and one so much later: what the second closes, and the last packet.
-fn are_packed(
-    rt: &impl Abort,
-    alloc: Global,
-    later: u32,
-    wanted: Option<(usize, u32, u8, u8)>,
-    last: (usize, u32, u8, u8),
-) {
+fn are_packed(rt: &impl Abort, alloc: Global, later: u32, wanted: Option<Shape>, last: Shape) {
     run_gives_the_packets();
     let made = Builder::make(alloc, 1, 6, 256);
     let mut builder = made.ok().expect(rt, "a builder");
     let first = closed_shape(builder.push(1, &long_message(0)));
-    has_closed(rt, first, None);
     let second = closed_shape(builder.push(2, &long_message(u64::from(later))));
-    has_closed(rt, second, wanted);
-    ends_with(rt, &mut builder, last);
+    let found = [first, second, last_shape(&mut builder)];
+    same(rt, &found, &[None, wanted, Some(last)]);
 }
 
 #[test]
@@ -110,7 +104,7 @@ fn packets_span_less_than_a_tenth_of_a_second(rt: HostRuntime) {
 /// A limit outside its range is refused.
 fn is_no_limit(rt: &impl Abort, alloc: Global, limit: u32) {
     let fault = Builder::make(alloc, 1, 6, limit).err();
-    assert_eq!(rt; fault, Some(BuilderError::Limit));
+    same(rt, &fault, &Some(BuilderError::Limit));
 }
 
 #[test]
@@ -118,7 +112,7 @@ fn limits_outside_their_range(rt: HostRuntime) {
     is_no_limit(&rt, rt.alloc(), 255);
     is_no_limit(&rt, rt.alloc(), 524_289);
     let longest = Builder::make(rt.alloc(), 1, 6, 524_288).is_ok();
-    assert!(rt; longest);
+    same(&rt, &longest, &true);
     prints(&rt, rt.alloc(), BuilderError::Limit, "G1");
     prints(&rt, rt.alloc(), BuilderError::Memory, "G2");
 }

@@ -7,6 +7,7 @@ use bench_clock::{
     Clock, PacketTime, UtcTime, YearTime, body_of, is_time_body, read_clock, read_time,
 };
 use bench_dump::dump_with_times;
+use std::alloc::Global;
 use std::process::Abort;
 use test_values::FOREIGN;
 
@@ -39,19 +40,17 @@ const BODIES: [(u64, [u8; 12]); 5] = [
 fn is_body(rt: &impl Abort, second: u64, body: &[u8; 12])
     requires { second < 253402300800 }
 {
-    same(rt, &body_of(second), body);
-    let ticks = second * 10_000_000;
-    same(rt, &read_time(body), &Some(PacketTime::Utc(ticks)));
-    same(rt, &is_time_body(body), &true);
-    same(rt, &is_time_body(&body[..11]), &false);
+    let time = PacketTime::Utc(second * 10_000_000);
+    let lengths = (is_time_body(body), is_time_body(&body[..11]));
+    let found = (body_of(second), read_time(body), lengths);
+    same(rt, &found, &(*body, Some(time), (true, false)));
 }
 
 #[test]
 fn bodies_are_read_as_they_are_written(rt: HostRuntime) {
     for (second, body) in BODIES {
-        if second < 253_402_300_800 {
-            is_body(&rt, second, &body);
-        }
+        assert!(rt; second < 253_402_300_800);
+        is_body(&rt, second, &body);
     }
 }
 
@@ -147,19 +146,25 @@ pub(crate) fn tells(rt: &impl Abort, clock: &Clock, stamp: u64, wanted: &str) {
 /// A stamp has the time of the last time packet at or before it, and what has passed since.
 #[test]
 fn stamps_have_times_of_day(rt: HostRuntime) {
-    let file = timed();
-    let read = read_clock(rt.alloc(), file.as_slice(), None);
-    let clock = read.ok().expect(&rt, "a clock").clock;
-    same(&rt, &clock.is_empty(), &false);
-    for (stamp, wanted) in [
-        (0, ""),
-        (9_999_999, ""),
-        (10_000_000, "2024-12-31T23:59:59.0000000"),
-        (15_000_001, "2024-12-31T23:59:59.5000001"),
-        (20_000_000, "2025-01-01T00:00:00.0000000"),
-        (u64::MAX, ""),
-    ] {
-        tells(&rt, &clock, stamp, wanted);
+    let read = read_clock(rt.alloc(), timed().as_slice(), None);
+    are_told(&rt, &read.ok().expect(&rt, "a clock").clock, &STAMPS);
+}
+
+/// Stamps of the two polls and others, and their times of day.
+const STAMPS: [(u64, &str); 6] = [
+    (0, ""),
+    (9_999_999, ""),
+    (10_000_000, "2024-12-31T23:59:59.0000000"),
+    (15_000_001, "2024-12-31T23:59:59.5000001"),
+    (20_000_000, "2025-01-01T00:00:00.0000000"),
+    (u64::MAX, ""),
+];
+
+/// A clock that is set tells these times at these stamps.
+pub(crate) fn are_told(rt: &impl Abort, clock: &Clock, times: &[(u64, &str)]) {
+    same(rt, &clock.is_empty(), &false);
+    for (stamp, text) in times {
+        tells(rt, clock, *stamp, text);
     }
 }
 
@@ -174,19 +179,19 @@ message 2 channel 2 stamp 20000000 time 2025-01-01T00:00:00.0000000 block 0000 g
 /// The time of day stands behind the stamp.
 #[test]
 fn dumps_have_times_of_day(rt: HostRuntime) {
-    let file = timed();
-    let mut out = Vec::new(rt.alloc());
-    let answer = dump_with_times(rt.alloc(), file.as_slice(), file.as_slice(), None, &mut out);
-    same(&rt, &answer, &Ok(false));
-    are_bytes(&rt, &out, PRINTED.as_bytes());
+    has_dump(&rt, rt.alloc(), &timed(), PRINTED.as_bytes());
+}
+
+/// A file, of which time packets can be read or which has none, is printed as this text with times of day.
+fn has_dump(rt: &impl Abort, alloc: Global, file: &[u8], wanted: &[u8]) {
+    let mut out = Vec::new(alloc);
+    let answer = dump_with_times(alloc, file, file, None, &mut out);
+    same(rt, &(answer, out.as_slice()), &(Ok(false), wanted));
 }
 
 /// Without a time packet nothing changes.
 #[test]
 fn other_dumps_stay(rt: HostRuntime) {
-    let mut out = Vec::new(rt.alloc());
-    let file = FOREIGN.as_slice();
-    let answer = dump_with_times(rt.alloc(), file, file, None, &mut out);
-    same(&rt, &answer, &Ok(false));
-    are_bytes(&rt, &out, &dumped(&rt, rt.alloc(), file, false));
+    let plain = dumped(&rt, rt.alloc(), &FOREIGN, false);
+    has_dump(&rt, rt.alloc(), &FOREIGN, &plain);
 }

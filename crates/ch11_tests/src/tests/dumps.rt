@@ -1,6 +1,6 @@
 //! Dumps against the worked one.
 
-use crate::tests::equal::{are_bytes, reads, same};
+use crate::tests::equal::{are_bytes, put, reads, same};
 use bench_clock::Clock;
 use bench_dump::{dump, dump_skipping, read_all};
 use ch11_stream::StreamFault;
@@ -55,15 +55,20 @@ fn prints_nothing_of_a_refused_file(rt: HostRuntime) {
     let mut file = FOREIGN;
     file[32] = 0;
     let fault = refused(&rt, rt.alloc(), &file).expect(&rt, "a fault");
-    let text = fault.to_string(rt.alloc()).expect(&rt, "memory");
-    reads(&rt, text.as_str(), "K2 offset 32");
+    is_fault(&rt, rt.alloc(), &fault, "K2 offset 32");
+}
+
+/// A fault is printed as this text.
+fn is_fault(rt: &impl Abort, alloc: Global, fault: &StreamFault, wanted: &str) {
+    let text = fault.to_string(alloc).expect(rt, "memory");
+    reads(rt, text.as_str(), wanted);
 }
 
 /// The fault of a file of which nothing is printed.
 fn refused(rt: &impl Abort, alloc: Global, file: &[u8]) -> Option<StreamFault> {
     let mut out = Vec::new(alloc);
     let answer = dump(alloc, file, file, &mut out);
-    assert!(rt; out.is_empty());
+    same(rt, &out.is_empty(), &true);
     answer.err()
 }
 
@@ -82,17 +87,22 @@ fn is_read_whole(rt: &impl Abort, alloc: Global, file: &[u8]) {
 /// More bytes than three reads give.
 #[test]
 fn reads_a_long_file_whole(rt: HostRuntime) {
-    let mut file = Vec::new(rt.alloc());
+    is_read_whole(&rt, rt.alloc(), &long_file(&rt, rt.alloc()));
+}
+
+/// Two hundred thousand bytes.
+fn long_file(rt: &impl Abort, alloc: Global) -> Vec<u8> {
+    let mut file = Vec::new(alloc);
     for number in 0..200_000u32 {
-        file.push((number % 251) as u8).expect(&rt, "memory");
+        put(rt, &mut file, &[(number % 251) as u8]);
     }
-    is_read_whole(&rt, rt.alloc(), &file);
+    file
 }
 
 #[test]
 fn gives_up_after_a_million_reads(rt: HostRuntime) {
     let mut input = Endless { reads: 0 };
     let fault = read_all(rt.alloc(), &mut input).err();
-    same(&rt, &fault, &Some(StreamFault::Device));
-    same(&rt, &input.reads, &1_000_000);
+    let found = (fault, input.reads);
+    same(&rt, &found, &(Some(StreamFault::Device), 1_000_000));
 }

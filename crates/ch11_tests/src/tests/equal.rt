@@ -10,10 +10,15 @@ pub(crate) fn same<T: PartialEq + Debug>(rt: &impl Abort, found: &T, wanted: &T)
 
 /// The bytes are these.
 pub(crate) fn are_bytes(rt: &impl Abort, bytes: &[u8], wanted: &[u8]) {
-    assert_eq!(rt; bytes, wanted);
+    same(rt, &bytes, &wanted);
 }
 
 /// The text is this.
 pub(crate) fn reads(rt: &impl Abort, text: &str, wanted: &str) {
-    assert_eq!(rt; text, wanted);
+    same(rt, &text, &wanted);
+}
+
+/// Puts bytes behind a file.
+pub(crate) fn put(rt: &impl Abort, file: &mut Vec<u8>, bytes: &[u8]) {
+    file.extend_from_slice(bytes).expect(rt, "memory");
 }

@@ -1,6 +1,7 @@
 //! Headers against the worked one of a packet of 52 bytes.
 ghost use Rattle.std.specs.Prelude.{◌≡◌, ◌<◌};
 
+use crate::tests::equal::same;
 use ch11_header::{Header, HeaderError, read_header, write_header};
 
 const WORKED: [u8; 24] = [
@@ -36,16 +37,26 @@ fn changed(first: usize, byte: u8, second: usize, other: u8) -> Result<Header, H
 
 #[test]
 fn writes_and_reads_the_worked_header(rt: HostRuntime) {
-    assert_eq!(rt; write_header(&worked()).as_slice(), WORKED.as_slice());
-    assert_eq!(rt; read_header(&WORKED), Ok(worked()));
-    assert_eq!(rt; worked().body_start(), 24);
+    let found = (read_header(&WORKED), worked().body_start());
+    same(&rt, &found, &(Ok(worked()), 24));
+    same(&rt, &write_header(&worked()), &WORKED);
 }
 
 #[test]
 fn names_the_first_fault(rt: HostRuntime) {
-    assert_eq!(rt; read_header(&WORKED[..20]), Err(HeaderError::Short));
-    assert_eq!(rt; changed(0, 0x24, 1, 0xEB), Err(HeaderError::Sync));
-    assert_eq!(rt; changed(22, 0x7D, 0, 0x25), Err(HeaderError::Checksum));
-    assert_eq!(rt; changed(4, 0x35, 22, 0x7D), Err(HeaderError::PacketLength));
-    assert_eq!(rt; changed(8, 0x1D, 22, 0x7D), Err(HeaderError::DataLength));
+    let found = [
+        read_header(&WORKED[..20]),
+        changed(0, 0x24, 1, 0xEB),
+        changed(22, 0x7D, 0, 0x25),
+        changed(4, 0x35, 22, 0x7D),
+        changed(8, 0x1D, 22, 0x7D),
+    ];
+    let wanted = [
+        Err(HeaderError::Short),
+        Err(HeaderError::Sync),
+        Err(HeaderError::Checksum),
+        Err(HeaderError::PacketLength),
+        Err(HeaderError::DataLength),
+    ];
+    same(&rt, &found, &wanted);
 }

@@ -1,10 +1,10 @@
 //! Recordings against worked files, cut and changed, and a long one of all data types.
 
-use crate::tests::equal::{are_bytes, same};
+use crate::tests::equal::{put, same};
 use ch11_f1::BodyError;
 use ch11_header::{Header, HeaderError, write_header};
 use ch11_reader::{Fault, Index, ReadError, Refusal};
-use std::alloc::{AllocError, Global};
+use std::alloc::Global;
 use std::process::Abort;
 use test_values::{FOREIGN, ONE_PACKET};
 
@@ -34,17 +34,14 @@ fn at_start(fault: Fault) -> Result<u64, ReadError> {
 fn is_packet(rt: &impl Abort, index: &Index<'_>, place: usize, wanted: (usize, u16, u8, u8, u64)) {
     let packet = index.packets().get(place).expect(rt, "a packet");
     let header = packet.header;
-    assert_eq!(rt;
-        (
-            packet.offset,
-            header.channel,
-            header.kind,
-            header.flags,
-            packet.count
-        ),
-        wanted
+    let found = (
+        packet.offset,
+        header.channel,
+        header.kind,
+        header.flags,
+        packet.count,
     );
-    assert!(rt; !packet.sequence_jump);
+    same(rt, &(found, packet.sequence_jump), &(wanted, false));
 }
 
 /// The words of a message, by its number.
@@ -59,20 +56,17 @@ pub(crate) fn channel_of(index: &Index<'_>, number: u64) -> Option<u16> {
 
 /// The one message of the foreign file, on channel 1.
 fn has_one_message(rt: &impl Abort, index: &Index<'_>) {
-    same(rt, &index.total(), &1);
-    same(rt, &channel_of(index, 0), &None);
-    same(rt, &channel_of(index, 1), &Some(1));
-    same(rt, &channel_of(index, 2), &None);
-    are_bytes(
+    let channels = [
+        channel_of(index, 0),
+        channel_of(index, 1),
+        channel_of(index, 2),
+    ];
+    let found = (index.total(), channels, words_of(index, 1));
+    same(
         rt,
-        words_of(index, 1).expect(rt, "a message"),
-        &FOREIGN[86..],
+        &found,
+        &(1, [None, Some(1), None], Some(&FOREIGN[86..])),
     );
-}
-
-/// How many messages a channel has.
-fn has_count(rt: &impl Abort, index: &Index<'_>, channel: u16, count: u64) {
-    same(rt, &count_of(index, channel), &count);
 }
 
 /// The index of a file.
@@ -93,13 +87,13 @@ fn is_the_foreign_file(rt: &impl Abort, index: &Index<'_>) {
     is_packet(rt, index, 0, (0, 0, 0x01, 0x00, 0));
     is_packet(rt, index, 1, (32, 1, 0x19, 0x80, 1));
     has_one_message(rt, index);
-    has_count(rt, index, 1, 1);
-    has_count(rt, index, 0, 0);
+    let counts = (count_of(index, 1), count_of(index, 0));
+    same(rt, &counts, &(1, 0));
 }
 
 /// The answer to a file.
 fn is_answered(rt: &impl Abort, alloc: Global, file: &[u8], wanted: Result<u64, ReadError>) {
-    assert_eq!(rt; answer(alloc, file), wanted);
+    same(rt, &answer(alloc, file), &wanted);
 }
 
 #[test]
@@ -144,7 +138,7 @@ fn names_the_fault_of_a_later_packet(rt: HostRuntime) {
 }
 
 /// A packet of channel 7 with a kind and a sequence number, and a message's body.
-fn add_packet(file: &mut Vec<u8>, kind: u8, sequence: u8) -> Result<(), AllocError> {
+fn add_packet(rt: &impl Abort, file: &mut Vec<u8>, kind: u8, sequence: u8) {
     let header = Header {
         channel: 7,
         packet_length: 52,
@@ -155,8 +149,8 @@ fn add_packet(file: &mut Vec<u8>, kind: u8, sequence: u8) -> Result<(), AllocErr
         kind,
         counter: 0,
     };
-    file.extend_from_slice(&write_header(&header))?;
-    file.extend_from_slice(&ONE_PACKET[24..])
+    put(rt, file, &write_header(&header));
+    put(rt, file, &ONE_PACKET[24..]);
 }
 
 /// Ten thousand packets, of which each has the next kind and sequence number, but the last one the number 0.
@@ -165,7 +159,7 @@ fn long_file(rt: &impl Abort, alloc: Global) -> Vec<u8> {
     for number in 0..10000u32 {
         let kind = (number % 256) as u8;
         let sequence = if number == 9999 { 0 } else { kind };
-        add_packet(&mut file, kind, sequence).expect(rt, "memory");
+        add_packet(rt, &mut file, kind, sequence);
     }
     file
 }
@@ -181,12 +175,10 @@ fn jumps_of(index: &Index<'_>) -> usize {
 
 /// The ten thousand packets and their messages.
 fn has_39_messages(rt: &impl Abort, index: &Index<'_>) {
-    same(rt, &index.packets().len(), &10000);
-    same(rt, &jumps_of(index), &1);
-    same(rt, &index.total(), &39);
-    same(rt, &channel_of(index, 39), &Some(7));
-    same(rt, &channel_of(index, 40), &None);
-    has_count(rt, index, 7, 39);
+    let counts = (index.packets().len(), jumps_of(index), index.total());
+    same(rt, &counts, &(10000, 1, 39));
+    let channels = (channel_of(index, 39), channel_of(index, 40));
+    same(rt, &(channels, count_of(index, 7)), &((Some(7), None), 39));
 }
 
 #[test]

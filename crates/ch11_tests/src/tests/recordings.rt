@@ -33,28 +33,22 @@ fn shape_of(bytes: &[u8]) -> Option<(u16, u32, u8, u8)> {
 
 /// A packet of channel 2 with 48 bytes, then one of channel 1 with 88.
 fn has_two_packets(rt: &impl Abort, file: &[u8]) {
-    same(rt, &file.len(), &136);
-    same(rt, &shape_of(file), &Some((2, 48, 0, 0)));
-    let second = file.get(48..).expect(rt, "a second packet");
-    same(rt, &shape_of(second), &Some((1, 88, 0, 0x10)));
+    let second = shape_of(file.get(48..).unwrap_or(&[]));
+    let found = (file.len(), shape_of(file), second);
+    let wanted = (136, Some((2, 48, 0, 0)), Some((1, 88, 0, 0x10)));
+    same(rt, &found, &wanted);
+}
+
+/// The channel and the stamp of a message, by its number.
+fn message_at(index: &Index<'_>, number: u64) -> Option<(u16, u64)> {
+    let (channel, seen) = index.message(number)?;
+    Some((channel, seen.stamp))
 }
 
 /// Four messages, of which the last is of channel 1 at 2720.
 fn has_four_messages(rt: &impl Abort, index: &Index<'_>) {
-    same(rt, &index.total(), &4);
-    let (channel, seen) = index.message(4).expect(rt, "a fourth message");
-    same(rt, &channel, &1);
-    same(rt, &seen.stamp, &2720);
-}
-
-/// What a recorder answers.
-fn are(rt: &impl Abort, answers: &[bool], wanted: &[bool]) {
-    assert_eq!(rt; answers, wanted);
-}
-
-/// How many packets a sink took whole.
-fn is_count(rt: &impl Abort, packets: u64, wanted: u64) {
-    assert_eq!(rt; packets, wanted);
+    let found = (index.total(), message_at(index, 4));
+    same(rt, &found, &(4, Some((1, 2720))));
 }
 
 /// The sink of two channels: a number that does not rise and a channel that is not there are refused.
@@ -69,19 +63,19 @@ fn two_channels(rt: &impl Abort, alloc: Global) -> MemorySink {
         recorder.keep(0, 1, &received(0)),
         recorder.keep(0, 2, &received(680)),
     ];
-    are(rt, &answers, &[true, true, true, true]);
+    same(rt, &answers, &[true, true, true, true]);
     let again = recorder.keep(0, 2, &received(2000));
     assert!(rt; !again);
     let nowhere = recorder.keep(2, 3, &received(2000));
     assert!(rt; !nowhere);
     let kept = recorder.keep(0, 5, &received(2720));
     assert!(rt; kept);
-    is_count(rt, recorder.packets(), 1);
+    let packets = recorder.packets();
     let ended = recorder.end(0);
     assert!(rt; ended);
     let finished = recorder.finish().is_ok();
-    assert!(rt; finished);
-    is_count(rt, recorder.packets(), 2);
+    let found = (packets, finished, recorder.packets());
+    same(rt, &found, &(1, true, 2));
     recorder.into_sink()
 }
 
@@ -99,16 +93,9 @@ fn a_prologue_stands_first(rt: HostRuntime) {
         .ok()
         .expect(&rt, "a recorder");
     recorder.prologue(&[7, 8, 9]);
-    let ended = recorder.end(0);
-    assert!(rt; ended);
-    is_end(&rt, recorder.finish(), Ok(()));
-    is_count(&rt, recorder.packets(), 0);
+    let found = (recorder.end(0), recorder.finish(), recorder.packets());
+    same(&rt, &found, &(true, Ok(()), 0));
     are_bytes(&rt, recorder.into_sink().bytes(), &[7, 8, 9]);
-}
-
-/// How a recording of one message ends.
-fn is_end(rt: &impl Abort, end: Result<(), WriteFault>, wanted: Result<(), WriteFault>) {
-    assert_eq!(rt; end, wanted);
 }
 
 /// One message and its end are kept in a sink of so many bytes: how the recording ends, and how many packets it has.
@@ -123,11 +110,14 @@ fn ends_in_fuse(
     let mut recorder = Recorder::make(alloc, 6, 4096, &[1], sink)
         .ok()
         .expect(rt, "a recorder");
-    let answers = [recorder.keep(0, 1, &received(0)), recorder.end(0)];
-    are(rt, &answers, &[true, true]);
-    is_end(rt, recorder.finish(), wanted);
-    is_count(rt, recorder.packets(), packets);
-    same(rt, &recorder.into_sink().bytes().len(), &room);
+    let answers = (recorder.keep(0, 1, &received(0)), recorder.end(0));
+    let ends = (recorder.finish(), recorder.packets());
+    let held = recorder.into_sink().bytes().len();
+    same(
+        rt,
+        &(answers, ends, held),
+        &((true, true), (wanted, packets), room),
+    );
 }
 
 #[test]
@@ -146,9 +136,8 @@ fn counts_in_fuse(rt: &impl Abort, alloc: Global, room: usize, packets: u64) {
         .ok()
         .expect(rt, "a recorder");
     recorder.prologue(&[7, 8, 9]);
-    let answers = [recorder.keep(0, 1, &received(0)), recorder.end(0)];
-    are(rt, &answers, &[true, true]);
-    is_count(rt, recorder.packets(), packets);
+    let answers = (recorder.keep(0, 1, &received(0)), recorder.end(0));
+    same(rt, &(answers, recorder.packets()), &((true, true), packets));
 }
 
 #[test]
@@ -162,7 +151,7 @@ fn a_prologue_is_no_packet_of_the_count(rt: HostRuntime) {
 #[test]
 fn a_limit_out_of_range_hands_the_sink_back(rt: HostRuntime) {
     let refused = limit_refused(rt.alloc());
-    assert_eq!(rt; refused, Some((BuilderError::Limit, 0)));
+    same(&rt, &refused, &Some((BuilderError::Limit, 0)));
 }
 
 /// Why a limit of 255 is refused, and how many bytes are in the sink that comes back.

@@ -1,12 +1,12 @@
 //! Damaged recordings, read both ways: by the reading that stops at the first fault, and by the one that skips.
 
 use crate::tests::dumps::{dumped, prints};
-use crate::tests::equal::{are_bytes, same};
+use crate::tests::equal::{are_bytes, put, same};
 use crate::tests::readers::words_of;
 use ch11_f1::BodyError;
 use ch11_header::{Header, HeaderError, write_header};
 use ch11_reader::{Fault, Index, ReadError, Refusal, Skip, SkippingIndex};
-use std::alloc::{AllocError, Global};
+use std::alloc::Global;
 use std::process::Abort;
 use test_values::{FOREIGN, ONE_PACKET, foreign_with};
 
@@ -45,15 +45,14 @@ fn is_found(
     messages: u64,
     skips: &[Skip],
 ) {
-    let found = skipping(rt, alloc, file);
-    same(rt, &found.index.packets().len(), &packets);
-    same(rt, &found.index.total(), &messages);
-    are_skips(rt, found.skipped(), skips);
+    finds(rt, &skipping(rt, alloc, file), (packets, messages, skips));
 }
 
-/// The skips are these.
-fn are_skips(rt: &impl Abort, skips: &[Skip], wanted: &[Skip]) {
-    assert_eq!(rt; skips, wanted);
+/// The same of a reading that was made.
+fn finds(rt: &impl Abort, found: &SkippingIndex<'_>, wanted: (usize, u64, &[Skip])) {
+    let index = &found.index;
+    let found = (index.packets().len(), index.total(), found.skipped());
+    same(rt, &found, &wanted);
 }
 
 /// What the skipping reading of a file gives where it skips once: how many packets and messages, and the skip.
@@ -76,16 +75,13 @@ fn is_one_skip(
 
 /// The reading that stops at the first fault stops there.
 fn stops_at(rt: &impl Abort, alloc: Global, file: &[u8], offset: usize, fault: Fault) {
-    same(
-        rt,
-        &refusal_of(alloc, file),
-        &Some(Refusal { offset, fault }),
-    );
+    let refusal = Refusal { offset, fault };
+    same(rt, &refusal_of(alloc, file), &Some(refusal));
 }
 
 /// A file that is one packet: its messages, or its fault, by both readings.
 fn is_one(rt: &impl Abort, alloc: Global, file: &[u8], wanted: Result<u64, Fault>) {
-    assert!(rt; is_read_alike(rt, alloc, file));
+    same(rt, &is_read_alike(rt, alloc, file), &true);
     match wanted {
         Ok(messages) => is_found(rt, alloc, file, 1, messages, &[]),
         Err(fault) => is_one_skip(rt, alloc, file, (0, 0), 0, file.len(), fault),
@@ -104,78 +100,89 @@ fn changed(first: usize, byte: u8, second: usize, other: u8) -> [u8; 52] {
     file
 }
 
-/// The worked packet with one of its bytes made another: its messages, or its fault.
-fn is_changed(rt: &impl Abort, alloc: Global, place: usize, byte: u8, wanted: Result<u64, Fault>) {
-    is_one(rt, alloc, &changed(place, byte, 52, 0), wanted);
-}
+/// Two bytes of the worked packet, by place and value, where 52 is no place; and its messages with them, or its fault.
+type Changed = (usize, u8, usize, u8, Result<u64, Fault>);
 
-#[test]
-fn reads_the_rows_of_bodies_both_ways(rt: HostRuntime) {
-    is_changed(&rt, rt.alloc(), 27, 0x80, Ok(1));
-    is_changed(&rt, rt.alloc(), 27, 0x4F, Ok(1));
-    is_changed(&rt, rt.alloc(), 24, 0x00, Ok(0));
-    is_changed(&rt, rt.alloc(), 24, 0x02, Err(Fault::Body(BodyError::End)));
-    is_changed(&rt, rt.alloc(), 40, 0x0B, Err(Fault::Body(BodyError::Odd)));
-    is_changed(&rt, rt.alloc(), 40, 0x0C, Err(Fault::Body(BodyError::End)));
-    is_changed(&rt, rt.alloc(), 40, 0x08, Ok(1));
-}
-
-#[test]
-fn reads_the_rows_of_headers_both_ways(rt: HostRuntime) {
-    is_one(
-        &rt,
-        rt.alloc(),
-        &changed(8, 0x02, 22, 0x62),
-        Err(Fault::Body(BodyError::Short)),
-    );
-    is_one(
-        &rt,
-        rt.alloc(),
-        &changed(4, 0x35, 22, 0x7D),
+/// Changes of its body, and of its header.
+const CHANGED: [Changed; 10] = [
+    (27, 0x80, 52, 0, Ok(1)),
+    (27, 0x4F, 52, 0, Ok(1)),
+    (24, 0x00, 52, 0, Ok(0)),
+    (24, 0x02, 52, 0, Err(Fault::Body(BodyError::End))),
+    (40, 0x0B, 52, 0, Err(Fault::Body(BodyError::Odd))),
+    (40, 0x0C, 52, 0, Err(Fault::Body(BodyError::End))),
+    (40, 0x08, 52, 0, Ok(1)),
+    (8, 0x02, 22, 0x62, Err(Fault::Body(BodyError::Short))),
+    (
+        4,
+        0x35,
+        22,
+        0x7D,
         Err(Fault::Header(HeaderError::PacketLength)),
-    );
-    is_one(
-        &rt,
-        rt.alloc(),
-        &changed(8, 0x1D, 22, 0x7D),
+    ),
+    (
+        8,
+        0x1D,
+        22,
+        0x7D,
         Err(Fault::Header(HeaderError::DataLength)),
-    );
+    ),
+];
+
+#[test]
+fn reads_the_rows_of_bodies_and_headers_both_ways(rt: HostRuntime) {
+    for (first, byte, second, other, wanted) in CHANGED {
+        let file = changed(first, byte, second, other);
+        is_one(&rt, rt.alloc(), &file, wanted);
+    }
 }
 
 /// The words of the one message that is left where its length says 8 bytes.
 #[test]
 fn reads_a_message_without_its_status(rt: HostRuntime) {
     let file = changed(40, 0x08, 52, 0);
-    let found = skipping(&rt, rt.alloc(), &file);
-    same(&rt, &words_of(&found.index, 1), &Some(&ONE_PACKET[42..50]));
+    has_words(&rt, &skipping(&rt, rt.alloc(), &file), &ONE_PACKET[42..50]);
+}
+
+/// The first message of a reading has these words.
+fn has_words(rt: &impl Abort, found: &SkippingIndex<'_>, words: &[u8]) {
+    same(rt, &words_of(&found.index, 1), &Some(words));
 }
 
 /// A file of two parts.
-fn joined(alloc: Global, first: &[u8], second: &[u8]) -> Result<Vec<u8>, AllocError> {
+fn joined(rt: &impl Abort, alloc: Global, first: &[u8], second: &[u8]) -> Vec<u8> {
     let mut file = Vec::new(alloc);
-    file.extend_from_slice(first)?;
-    file.extend_from_slice(second)?;
-    Ok(file)
+    put(rt, &mut file, first);
+    put(rt, &mut file, second);
+    file
+}
+
+/// A file of the worked packet and bytes that are skipped from an offset on, by both readings.
+fn skips_once(
+    rt: &impl Abort,
+    alloc: Global,
+    file: &[u8],
+    offset: usize,
+    length: usize,
+    fault: Fault,
+) {
+    stops_at(rt, alloc, file, offset, fault);
+    is_one_skip(rt, alloc, file, (1, 1), offset, length, fault);
 }
 
 #[test]
 fn skips_the_bytes_behind_a_packet(rt: HostRuntime) {
-    let file = joined(rt.alloc(), &ONE_PACKET, &[0, 0, 0])
-        .ok()
-        .expect(&rt, "memory");
+    let file = joined(&rt, rt.alloc(), &ONE_PACKET, &[0, 0, 0]);
     let fault = Fault::Header(HeaderError::Short);
-    stops_at(&rt, rt.alloc(), &file, 52, fault);
-    is_one_skip(&rt, rt.alloc(), &file, (1, 1), 52, 3, fault);
+    skips_once(&rt, rt.alloc(), &file, 52, 3, fault);
 }
 
 #[test]
 fn skips_a_packet_in_front_of_another(rt: HostRuntime) {
-    let file = joined(rt.alloc(), &changed(22, 0x7D, 52, 0), &ONE_PACKET)
-        .ok()
-        .expect(&rt, "memory");
+    let damaged = changed(22, 0x7D, 52, 0);
+    let file = joined(&rt, rt.alloc(), &damaged, &ONE_PACKET);
     let fault = Fault::Header(HeaderError::Checksum);
-    stops_at(&rt, rt.alloc(), &file, 0, fault);
-    is_one_skip(&rt, rt.alloc(), &file, (1, 1), 0, 52, fault);
+    skips_once(&rt, rt.alloc(), &file, 0, 52, fault);
     prints(&rt, rt.alloc(), &file, true, PRINTED);
 }
 
@@ -206,7 +213,8 @@ fn prints_a_sound_file_alike(rt: HostRuntime) {
 #[test]
 fn reads_each_prefix_of_the_foreign_file_both_ways(rt: HostRuntime) {
     for length in 0..97 {
-        assert!(rt; is_read_alike(&rt, rt.alloc(), &FOREIGN[..length]));
+        let is_alike = is_read_alike(&rt, rt.alloc(), &FOREIGN[..length]);
+        same(&rt, &(length, is_alike), &(length, true));
     }
 }
 
@@ -217,7 +225,8 @@ const PARTS: [(usize, usize); 4] = [(0, 24), (24, 44), (44, 68), (68, 96)];
 fn changes_are_read_alike(rt: &impl Abort, alloc: Global, from: usize, to: usize) {
     for place in from..to {
         for change in 1..=255u8 {
-            assert!(rt; is_read_alike(rt, alloc, &foreign_with(place, change)));
+            let is_alike = is_read_alike(rt, alloc, &foreign_with(place, change));
+            same(rt, &(place, change, is_alike), &(place, change, true));
         }
     }
 }
@@ -230,7 +239,7 @@ fn reads_each_change_of_the_foreign_file_both_ways(rt: HostRuntime) {
 }
 
 /// Thirty packets of 52 bytes on three channels in turn.
-fn three_channels(alloc: Global) -> Result<Vec<u8>, AllocError> {
+fn three_channels(rt: &impl Abort, alloc: Global) -> Vec<u8> {
     let mut file = Vec::new(alloc);
     for number in 0..30u8 {
         let header = Header {
@@ -243,10 +252,10 @@ fn three_channels(alloc: Global) -> Result<Vec<u8>, AllocError> {
             kind: 0x19,
             counter: 680 * number as u64,
         };
-        file.extend_from_slice(&write_header(&header))?;
-        file.extend_from_slice(&ONE_PACKET[24..])?;
+        put(rt, &mut file, &write_header(&header));
+        put(rt, &mut file, &ONE_PACKET[24..]);
     }
-    Ok(file)
+    file
 }
 
 /// The next number of a row of numbers that look random.
@@ -300,16 +309,28 @@ fn is_salvaged(rt: &impl Abort, alloc: Global, file: &[u8], start: usize, end: u
         && untouched_read(&found, start, end) == untouched(start, end)
 }
 
+/// The same of the next damage of a sound file, which is copied for it.
+fn is_next_salvaged(
+    rt: &impl Abort,
+    alloc: Global,
+    sound: &[u8],
+    file: &mut Vec<u8>,
+    seed: &mut u64,
+) -> bool {
+    file.clear();
+    put(rt, file, sound);
+    let (start, end) = damage(file, seed);
+    is_salvaged(rt, alloc, file, start, end)
+}
+
 /// Two thousand random damages, each of a sound copy.
 fn damages_are_salvaged(rt: &impl Abort, alloc: Global, first: u64) {
-    let sound = three_channels(alloc).ok().expect(rt, "memory");
+    let sound = three_channels(rt, alloc);
     let mut file = Vec::new(alloc);
     let mut seed = first;
-    for _ in 0..2_000 {
-        file.clear();
-        file.extend_from_slice(&sound).expect(rt, "memory");
-        let (start, end) = damage(&mut file, &mut seed);
-        assert!(rt; is_salvaged(rt, alloc, &file, start, end));
+    for number in 0..2_000 {
+        let is_salvaged = is_next_salvaged(rt, alloc, &sound, &mut file, &mut seed);
+        same(rt, &(number, is_salvaged), &(number, true));
     }
 }
 
@@ -340,7 +361,7 @@ fn gives_what_a_fifth_two_thousand_did_not_touch(rt: HostRuntime) {
 
 /// Two thousand headers one behind the other, each of which says that its packet holds all the others: what is a header
 /// to one is a message to those before it. A sound packet stands behind them.
-fn headers_alone(alloc: Global) -> Result<Vec<u8>, AllocError> {
+fn headers_alone(rt: &impl Abort, alloc: Global) -> Vec<u8> {
     let mut file = Vec::new(alloc);
     for number in 0..2000u32 {
         let header = Header {
@@ -353,16 +374,20 @@ fn headers_alone(alloc: Global) -> Result<Vec<u8>, AllocError> {
             kind: 0x19,
             counter: 10,
         };
-        file.extend_from_slice(&write_header(&header))?;
+        put(rt, &mut file, &write_header(&header));
     }
-    file.extend_from_slice(&ONE_PACKET)?;
-    Ok(file)
+    put(rt, &mut file, &ONE_PACKET);
+    file
 }
 
 #[test]
 fn skips_headers_that_lie(rt: HostRuntime) {
-    let file = headers_alone(rt.alloc()).ok().expect(&rt, "memory");
+    lie(&rt, rt.alloc(), &headers_alone(&rt, rt.alloc()));
+}
+
+/// The headers of a file are skipped by both readings.
+fn lie(rt: &impl Abort, alloc: Global, file: &[u8]) {
     let fault = Fault::Body(BodyError::Odd);
-    assert!(rt; is_read_alike(&rt, rt.alloc(), &file));
-    is_one_skip(&rt, rt.alloc(), &file, (1, 1), 0, 48000, fault);
+    same(rt, &is_read_alike(rt, alloc, file), &true);
+    is_one_skip(rt, alloc, file, (1, 1), 0, 48000, fault);
 }

@@ -1,7 +1,7 @@
 //! Bodies of time packets of both forms, and clocks of recordings that have them, worked out by hand.
 ghost use Rattle.std.specs.Prelude.{◌<◌, ◌≤◌, ◌^◌, length};
 
-use crate::tests::clocks::tells;
+use crate::tests::clocks::are_told;
 use crate::tests::equal::same;
 use bench_clock::{PacketTime, ReadClock, is_time_body, read_clock, read_time};
 use ch11_header::kinds::TIME_DATA;
@@ -76,14 +76,17 @@ const DAYS: [([u8; 10], bool, u64); 6] = [
 #[test]
 fn both_forms_are_read(rt: HostRuntime) {
     for (body, ticks) in DATES {
-        same(&rt, &read_time(&body), &Some(PacketTime::Utc(ticks)));
-        same(&rt, &is_time_body(&body), &true);
+        is_read_as(&rt, &body, Some(PacketTime::Utc(ticks)));
     }
     for (body, leap, ticks) in DAYS {
-        let time = PacketTime::OfYear { leap, ticks };
-        same(&rt, &read_time(&body), &Some(time));
-        same(&rt, &is_time_body(&body), &true);
+        is_read_as(&rt, &body, Some(PacketTime::OfYear { leap, ticks }));
     }
+}
+
+/// Bytes are the body of this time, or none.
+fn is_read_as(rt: &impl Abort, body: &[u8], time: Option<PacketTime>) {
+    let found = (body, read_time(body), is_time_body(body));
+    same(rt, &found, &(body, time, time.is_some()));
 }
 
 /// Bytes that are no body with a date.
@@ -151,12 +154,10 @@ const NO_DAYS: [[u8; 10]; 19] = [
 #[test]
 fn other_bytes_are_no_bodies(rt: HostRuntime) {
     for body in NO_DATES {
-        same(&rt, &read_time(&body), &None);
-        same(&rt, &is_time_body(&body), &false);
+        is_read_as(&rt, &body, None);
     }
     for body in NO_DAYS {
-        same(&rt, &read_time(&body), &None);
-        same(&rt, &is_time_body(&body), &false);
+        is_read_as(&rt, &body, None);
     }
 }
 
@@ -164,19 +165,20 @@ fn other_bytes_are_no_bodies(rt: HostRuntime) {
 #[test]
 fn lengths_are_those_of_the_forms(rt: HostRuntime) {
     let day = [0x30, 0, 0, 0, 0, 0, 0, 0, 0x01, 0, 0x70, 0x19];
-    same(&rt, &is_time_body(&day[..10]), &true);
-    for length in [0, 4, 9, 11, 12] {
-        same(&rt, &is_time_body(day.get(..length).unwrap_or(&[])), &false);
+    for length in [0, 4, 9, 10, 11, 12] {
+        is_body_of(&rt, &day, length, 10);
     }
     let date = [0x30, 2, 0, 0, 0, 0, 0, 0, 0x01, 0x01, 0x70, 0x19, 0, 0];
-    same(&rt, &is_time_body(&date[..12]), &true);
-    for length in [0, 4, 10, 11, 13, 14] {
-        same(
-            &rt,
-            &is_time_body(date.get(..length).unwrap_or(&[])),
-            &false,
-        );
+    for length in [0, 4, 10, 11, 12, 13, 14] {
+        is_body_of(&rt, &date, length, 12);
     }
+}
+
+/// So many bytes of these are a body where they are as many as there have to be.
+fn is_body_of(rt: &impl Abort, bytes: &[u8], length: usize, wanted: usize) {
+    let front = bytes.get(..length).expect(rt, "as many bytes");
+    let found = (length, is_time_body(front));
+    same(rt, &found, &(length, length == wanted));
 }
 
 /// A time packet on channel 7 with this counter and body.
@@ -227,29 +229,32 @@ const DATE: [u8; 12] = [
 /// Where the time packet's counter is 10,000,000: behind the last day of a year comes the first.
 #[test]
 fn years_end(rt: HostRuntime) {
-    let file = packet_of(10_000_000, &SHORT);
-    let read = clock_of(&rt, rt.alloc(), &file);
-    for (stamp, text) in [
-        (9_999_999, ""),
-        (10_000_000, "365:23:59:59.5000000"),
-        (14_999_999, "365:23:59:59.9999999"),
-        (15_000_000, "001:00:00:00.0000000"),
-        // 365 days later
-        (315_360_010_000_000, "365:23:59:59.5000000"),
-    ] {
-        tells(&rt, &read.clock, stamp, text);
-    }
-    let file = packet_of(10_000_000, &LEAP);
-    let read = clock_of(&rt, rt.alloc(), &file);
-    for (stamp, text) in [
-        (14_999_999, "365:23:59:59.9999999"),
-        (15_000_000, "366:00:00:00.0000000"),
-        (864_014_999_999, "366:23:59:59.9999999"),
-        (864_015_000_000, "001:00:00:00.0000000"),
-        (864_015_000_001, "001:00:00:00.0000001"),
-    ] {
-        tells(&rt, &read.clock, stamp, text);
-    }
+    has_times(&rt, rt.alloc(), &packet_of(10_000_000, &SHORT), &SHORT_ENDS);
+    has_times(&rt, rt.alloc(), &packet_of(10_000_000, &LEAP), &LEAP_ENDS);
+}
+
+/// Stamps and the times there, where the year has 365 days.
+const SHORT_ENDS: [(u64, &str); 5] = [
+    (9_999_999, ""),
+    (10_000_000, "365:23:59:59.5000000"),
+    (14_999_999, "365:23:59:59.9999999"),
+    (15_000_000, "001:00:00:00.0000000"),
+    // 365 days later
+    (315_360_010_000_000, "365:23:59:59.5000000"),
+];
+
+/// The same where it has 366.
+const LEAP_ENDS: [(u64, &str); 5] = [
+    (14_999_999, "365:23:59:59.9999999"),
+    (15_000_000, "366:00:00:00.0000000"),
+    (864_014_999_999, "366:23:59:59.9999999"),
+    (864_015_000_000, "001:00:00:00.0000000"),
+    (864_015_000_001, "001:00:00:00.0000001"),
+];
+
+/// The clock of a recording tells these times at these stamps.
+fn has_times(rt: &impl Abort, alloc: Global, file: &[u8], times: &[(u64, &str)]) {
+    are_told(rt, &clock_of(rt, alloc, file).clock, times);
 }
 
 /// The packets of one recording may be of both forms, and each rules from its counter on; one whose counter is not
@@ -263,17 +268,17 @@ fn forms_follow_one_rule(rt: HostRuntime) {
         packet_of(3000, &SHORT),
     ];
     let file = joined(&rt, rt.alloc(), &packets);
-    let read = clock_of(&rt, rt.alloc(), file.as_slice());
-    for (stamp, text) in [
-        (999, ""),
-        (1999, "365:23:59:59.5000999"),
-        (2000, "2024-12-31T23:59:59.5000000"),
-        (2999, "2024-12-31T23:59:59.5000999"),
-        (3000, "365:23:59:59.5000000"),
-    ] {
-        tells(&rt, &read.clock, stamp, text);
-    }
+    has_times(&rt, rt.alloc(), &file, &MIXED);
 }
+
+/// Stamps in and behind those packets, and the times there.
+const MIXED: [(u64, &str); 5] = [
+    (999, ""),
+    (1999, "365:23:59:59.5000999"),
+    (2000, "2024-12-31T23:59:59.5000000"),
+    (2999, "2024-12-31T23:59:59.5000999"),
+    (3000, "365:23:59:59.5000000"),
+];
 
 /// The first ten bytes of the body with a date, which are none.
 const CUT: [u8; 10] = [0x30, 3, 0, 0, 0x50, 0x59, 0x59, 0x23, 0x31, 0x12];
@@ -283,12 +288,15 @@ const CUT: [u8; 10] = [0x30, 3, 0, 0, 0x50, 0x59, 0x59, 0x23, 0x31, 0x12];
 fn clocks_tell_that_nothing_can_be_read(rt: HostRuntime) {
     let alloc = rt.alloc();
     let other = packet_of(1000, &CUT);
-    let read = clock_of(&rt, alloc, &other);
-    same(&rt, &read.unread, &true);
-    same(&rt, &read.clock.is_empty(), &true);
+    same(&rt, &state_of(&rt, alloc, &other), &(true, true));
     let file = joined(&rt, alloc, &[other, packet_of(1000, &SHORT)]);
-    let read = clock_of(&rt, alloc, file.as_slice());
-    same(&rt, &read.unread, &false);
-    tells(&rt, &read.clock, 1000, "365:23:59:59.5000000");
-    same(&rt, &clock_of(&rt, alloc, &[]).unread, &false);
+    same(&rt, &state_of(&rt, alloc, &file), &(false, false));
+    has_times(&rt, alloc, &file, &[(1000, "365:23:59:59.5000000")]);
+    same(&rt, &state_of(&rt, alloc, &[]), &(false, true));
+}
+
+/// Whether a recording has time packets of which none can be read, and whether its clock is empty.
+fn state_of(rt: &impl Abort, alloc: Global, file: &[u8]) -> (bool, bool) {
+    let read = clock_of(rt, alloc, file);
+    (read.unread, read.clock.is_empty())
 }
