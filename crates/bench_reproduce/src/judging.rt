@@ -11,7 +11,8 @@ ghost use Rattle.job_file.specs.Jobs.{job_in};
 ghost use Rattle.job_file.specs.Machines.{IsOf};
 ghost use Rattle.job_file.specs.Meaning.{records};
 ghost use Rattle.std.specs.List.{flat_map};
-ghost use Rattle.std.specs.Prelude.{◌≡◌, ◌+◌, ◌≤◌, ◌<◌, ◌^◌, if◌then◌else◌, Some, None, take, option_map, length};
+ghost use Rattle.std.specs.Prelude.{◌≡◌, ◌+◌, ◌≤◌, ◌<◌, if◌then◌else◌, Some, None, take, option_map};
+ghost use Rattle.std.specs.Prelude.{length};
 ghost use Rattle.std.specs.Prelude.{OnOk, IfOk};
 
 use bc_machine::Machine;
