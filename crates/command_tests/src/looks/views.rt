@@ -95,6 +95,11 @@ fn a_page_has_its_script(rt: HostRuntime) {
     let notes = behind(&rt, page.text.as_slice(), data);
     reads(&rt, notes, NOTES);
     let around = template(rt.alloc()).ok().expect(&rt, "a template");
-    same_in(&rt, "front", &around.front.starts_with(b"<!DOCTYPE html>"), &true);
+    same_in(
+        &rt,
+        "front",
+        &around.front.starts_with(b"<!DOCTYPE html>"),
+        &true,
+    );
     same_in(&rt, "behind", &around.behind.ends_with(b"</html>\n"), &true);
 }
