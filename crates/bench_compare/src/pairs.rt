@@ -45,12 +45,7 @@ fn are_like(within: u64, gaps: u16, other: u16) -> bool
 
 /// The first part in which two messages differ, if any does: times may be so many ticks of 0.1 µs apart, and stamps are
 /// told from those of the first messages of their channel.
-pub fn part_of(
-    within: u64,
-    origins: Origins,
-    one: &View<'_>,
-    other: &View<'_>,
-) -> Option<Part>
+pub fn part_of(within: u64, origins: Origins, one: &View<'_>, other: &View<'_>) -> Option<Part>
     ensures { result ≡ spec.part_of within origins one.now other.now }
 {
     if !are_near(within, origins, one.stamp(), other.stamp()) {

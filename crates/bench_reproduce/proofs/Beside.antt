@@ -101,13 +101,13 @@ goes_on xs rs n made after st now a k here next =
     let read_is : option_map read_again (slice_get rs made) ≡ slice_get (map read_again rs) n = ap (option_map read_again) record_is ∙ sym (slice_get-map read_again rs n) in
     let told : told_from st a (slice_get rs made) ≡ o = ap (told_from st a) record_is ∙ told_at xs rs n st a k.origins here in
     let alike : is_same (told_from st a (slice_get rs made)) (Some a) (option_map read_again (slice_get rs made)) ≡ is_same o (slice_get xs n) (slice_get (map read_again rs) n) =
-        ap (λ (t : Origins). is_same t (Some a) (option_map read_again (slice_get rs made))) told
-        ∙ ap (λ (y : Option Recorded). is_same o (Some a) y) read_is
-        ∙ ap (λ (x : Option Recorded). is_same o x (slice_get (map read_again rs) n)) (sym here) in
+    ap (λ (t : Origins). is_same t (Some a) (option_map read_again (slice_get rs made))) told
+    ∙ ap (λ (y : Option Recorded). is_same o (Some a) y) read_is
+    ∙ ap (λ (x : Option Recorded). is_same o x (slice_get (map read_again rs) n)) (sym here) in
     let more : n + 1 ≡ suc n = omega arith in
     let count : now.same ≡ same_up_to o xs (map read_again rs) (suc n) =
-        next.compared.same ∙ ap (λ (b : Bool). st.same + cond b 1 0) alike
-        ∙ ap (λ (k : ℕ). k + cond (is_same o (slice_get xs n) (slice_get (map read_again rs) n)) 1 0) k.same in
+    next.compared.same ∙ ap (λ (b : Bool). st.same + cond b 1 0) alike
+    ∙ ap (λ (k : ℕ). k + cond (is_same o (slice_get xs n) (slice_get (map read_again rs) n)) 1 0) k.same in
     record {
       number = omega (arith, next.next, k.number);
       same = count ∙ ap (same_up_to o xs (map read_again rs)) (sym more);
@@ -122,7 +122,7 @@ beyond o xs ys zero = let e : 0 + length xs ≡ length xs = omega arith in ap (s
 beyond o xs ys (suc n) =
     let none : slice_get xs (n + length xs) ≡ None = slice_get_past xs (n + length xs) (omega arith) in
     let other : cond (is_same o (slice_get xs (n + length xs)) (slice_get ys (n + length xs))) 1 0 ≡ 0 =
-        ap {B = ℕ} (λ (x : Option Recorded). cond (is_same o x (slice_get ys (n + length xs))) 1 0) none in
+    ap {B = ℕ} (λ (x : Option Recorded). cond (is_same o x (slice_get ys (n + length xs))) 1 0) none in
     let e : suc n + length xs ≡ suc (n + length xs) = omega arith in
     let same : same_up_to o xs ys (suc (n + length xs)) ≡ same_up_to o xs ys (length xs) = omega (arith, other, beyond o xs ys n) in
     ap (same_up_to o xs ys) e ∙ same

@@ -55,7 +55,10 @@ fn first_halves(bits: u16) -> u64 {
 /// The half bits in which two words of one sync differ.
 fn between(sync: Sync, given: u16, wanted: u16) -> u64 {
     let one = encode(Word { sync, value: given });
-    let other = encode(Word { sync, value: wanted });
+    let other = encode(Word {
+        sync,
+        value: wanted,
+    });
     one.half_bits() ^ other.half_bits()
 }
 
@@ -112,12 +115,7 @@ fn common_end(given: &[u16], wanted: &[u16], front: usize) -> usize {
 }
 
 /// Adds words behind the one at a place.
-fn add(
-    explanation: &mut Explanation,
-    manner: Manner,
-    place: usize,
-    words: &[u16],
-) -> bool {
+fn add(explanation: &mut Explanation, manner: Manner, place: usize, words: &[u16]) -> bool {
     let mut whole = true;
     for value in words {
         let word = Word {
@@ -146,12 +144,7 @@ fn in_front_of_alike(words: &[u16]) -> usize {
 
 /// Adds words behind the last one: those at the end that are all the same by one fault, but for a first one of another
 /// sync.
-fn add_behind(
-    explanation: &mut Explanation,
-    manner: Manner,
-    place: usize,
-    words: &[u16],
-) -> bool {
+fn add_behind(explanation: &mut Explanation, manner: Manner, place: usize, words: &[u16]) -> bool {
     let mut front = in_front_of_alike(words);
     if front == 0 && manner.added == Sync::CommandSync {
         front = words.len().min(1);
@@ -194,7 +187,10 @@ pub(crate) fn edit(
         // Nothing is added in front of the first word: it is altered, and comes behind.
         end -= 1;
     }
-    let (given_end, wanted_end) = (given.len().saturating_sub(end), wanted.len().saturating_sub(end));
+    let (given_end, wanted_end) = (
+        given.len().saturating_sub(end),
+        wanted.len().saturating_sub(end),
+    );
     let altered = given_end.min(wanted_end);
     let mut whole = true;
     for place in front..altered {

@@ -4,8 +4,8 @@
 use crate::cases::{Case, due_count};
 use crate::explanations::{Deed, Explanation};
 use crate::guesses::{GUESSES, Guess, guess_at};
-use crate::mending::{mark_controller, mend, mend_bits, mend_controller};
 use crate::hosts::{has, is_uncommon, legality, renew, set_bits, set_reply};
+use crate::mending::{mark_controller, mend, mend_bits, mend_controller};
 use crate::outlook::{Outlook, Shown, WRAPAROUND, bit};
 use crate::scene::Scene;
 use crate::styles::{Mark, STYLES, style_of};
@@ -107,7 +107,11 @@ impl<'a> Explainer<'a> {
     /// Tries guesses and ways until one gives the record and what is shown later; the best of them is then the
     /// explanation, and was tried last.
     fn search(&mut self, wanted: &Wanted, next: usize) -> Result<Best, AllocError> {
-        let guesses = if self.unexplained > PATIENCE { 1 } else { GUESSES };
+        let guesses = if self.unexplained > PATIENCE {
+            1
+        } else {
+            GUESSES
+        };
         let mut best = Best {
             guess: GUESSES,
             style: 0,
@@ -190,7 +194,10 @@ impl<'a> Explainer<'a> {
         self.prepare(case, &outlook)?;
         let mut judged = false;
         for _round in 0..ROUNDS {
-            let Some(talk) = self.scene.attempt(self.alloc, case.wanted, &self.explanation)? else {
+            let Some(talk) = self
+                .scene
+                .attempt(self.alloc, case.wanted, &self.explanation)?
+            else {
                 return Ok(u32::MAX);
             };
             if case.wanted.is_given_by(&talk) {

@@ -17,6 +17,7 @@ pub(crate) const WITH_WORD: u8 = 16;
 
 /// The mode codes that ask for the vector word, and that bring a word to synchronize by.
 const VECTOR: usize = 16;
+
 const SYNCHRONIZE: usize = 17;
 
 /// The bits of a status word that are zero (MIL-STD-1553B 4.3.3.5.3.6).
@@ -24,14 +25,23 @@ const RESERVED: u16 = 0xE0;
 
 /// The numbers of the forms of a message.
 const TO_TERMINAL: u8 = 0;
+
 const FROM_TERMINAL: u8 = 1;
+
 const BETWEEN: u8 = 2;
+
 const MODE: u8 = 3;
+
 const MODE_FROM: u8 = 4;
+
 const MODE_TO: u8 = 5;
+
 const TO_ALL: u8 = 6;
+
 const BETWEEN_ALL: u8 = 7;
+
 const MODE_ALL: u8 = 8;
+
 const MODE_ALL_TO: u8 = 9;
 
 /// A message that may have been sent, and how many of the recorded words are then the controller's.
@@ -316,7 +326,11 @@ struct Ends {
 /// A transfer between terminals.
 fn between(ends: Ends) -> Option<Message> {
     let count = usize::from(ends.count);
-    let form = if ends.receiver == ALL { BETWEEN_ALL } else { BETWEEN };
+    let form = if ends.receiver == ALL {
+        BETWEEN_ALL
+    } else {
+        BETWEEN
+    };
     let first = command(ends.receiver, false, ends.to, count);
     let second = command(ends.sender, true, ends.from, count);
     Message::of_parts(form, first, second, &[])

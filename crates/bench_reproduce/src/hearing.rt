@@ -4,7 +4,8 @@ ghost use Rattle.ch11_f1.specs.Views.{message_of};
 ghost use Rattle.ch11_layout.specs.Stamps.{kind_of, recorded};
 ghost use Rattle.ch11_reader.specs.Indexed.{found_in};
 ghost use Rattle.ch11_reader.specs.Recording.{packets_in};
-ghost use Rattle.std.specs.Prelude.{◌≡◌, ◌+◌, ◌<◌, ◌^◌, ◌==◌, ◌++◌, ◌∷◌, ℕ, List, [], Ok, Some, length, map, IfOk, OnOk};
+ghost use Rattle.std.specs.Prelude.{◌≡◌, ◌+◌, ◌<◌, ◌^◌, ◌==◌, ◌++◌, ◌∷◌, ℕ, List, [], Ok, Some};
+ghost use Rattle.std.specs.Prelude.{length, map, IfOk, OnOk};
 
 use crate::fault::ReproduceFault;
 use bench_compare::{Kept, Met};

@@ -14,15 +14,21 @@ use std::alloc::AllocError;
 
 /// Mode codes (MIL-STD-1553B 4.3.3.5.1.7).
 const CONTROL: u8 = 0;
+
 const INHIBIT_FLAG: u8 = 6;
+
 const OVERRIDE_INHIBIT: u8 = 7;
+
 const VECTOR: u8 = 16;
+
 const BIT_WORD: u8 = 19;
 
 /// The longest and the shortest response time that a host may set, in ticks of 0.1 µs (MIL-STD-1553B 4.3.3.8), and the
 /// shortest gap at all.
 const LONGEST: u16 = 120;
+
 const SHORTEST: u16 = 40;
+
 const LEAST: u16 = 21;
 
 /// A reply as it was recorded.

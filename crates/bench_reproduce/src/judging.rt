@@ -11,7 +11,8 @@ ghost use Rattle.job_file.specs.Jobs.{job_in};
 ghost use Rattle.job_file.specs.Machines.{IsOf};
 ghost use Rattle.job_file.specs.Meaning.{records};
 ghost use Rattle.std.specs.List.{flat_map};
-ghost use Rattle.std.specs.Prelude.{◌≡◌, ◌+◌, ◌≤◌, ◌<◌, ◌^◌, if◌then◌else◌, Some, None, take, option_map, length};
+ghost use Rattle.std.specs.Prelude.{◌≡◌, ◌+◌, ◌≤◌, ◌<◌, if◌then◌else◌, Some, None, take, option_map};
+ghost use Rattle.std.specs.Prelude.{length};
 ghost use Rattle.std.specs.Prelude.{OnOk, IfOk};
 
 use bc_machine::Machine;
@@ -155,7 +156,15 @@ fn compare_with(
         }
         Some(part) => {
             let met = Met { number, kind, seen };
-            tell(alloc, &mut standing.differences, number, part, origins, kept, Some(&met))
+            tell(
+                alloc,
+                &mut standing.differences,
+                number,
+                part,
+                origins,
+                kept,
+                Some(&met),
+            )
         }
     }
 }
@@ -177,7 +186,15 @@ fn compare_at(
             let origins = origins_of(standing, kept.view().stamp(), 0);
             standing.origins = Some(origins);
             let part = Part::MissingInSecond;
-            tell(alloc, &mut standing.differences, number, part, origins, kept, None)
+            tell(
+                alloc,
+                &mut standing.differences,
+                number,
+                part,
+                origins,
+                kept,
+                None,
+            )
         }
     }
 }
@@ -226,7 +243,14 @@ pub(crate) fn judge(alloc: Global, job: &Job, heard: &[Kept]) -> Result<Verdict,
     };
     'messages: for place in 0..heard.len() {
         let number = place as u64 + 1;
-        compare_next(alloc, job, &mut machine, &mut standing, number, &heard[place])?;
+        compare_next(
+            alloc,
+            job,
+            &mut machine,
+            &mut standing,
+            number,
+            &heard[place],
+        )?;
     }
     run_on(job, &mut machine);
     Ok(Verdict {

@@ -186,7 +186,8 @@ fn alters(explanation: &Explanation, at: u32) -> bool {
         .as_slice()
         .iter()
         .any(|fault| match fault {
-            Fault::Mask { run, .. } | Fault::Drop { run, .. } | Fault::Add { run, .. } => *run == at,
+            Fault::Mask { run, .. } | Fault::Drop { run, .. } | Fault::Add { run, .. } => *run
+                == at,
             Fault::Babble { run, .. } => *run == at,
             _ => false,
         })

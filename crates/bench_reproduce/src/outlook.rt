@@ -14,6 +14,7 @@ const REACH: usize = 200;
 /// The mode codes that ask for the status word and for the last command, and leave both as they were (MIL-STD-1553B
 /// 4.3.3.5.1.7.3, 4.3.3.5.1.7.13).
 const STATUS: u8 = 2;
+
 const LAST_COMMAND: u8 = 18;
 
 /// The subaddress that sends what it received (MIL-STD-1553B Notice 2, 30.7).

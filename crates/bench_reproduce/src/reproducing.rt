@@ -39,12 +39,7 @@ fn first_stamp(heard: &[Kept]) -> Result<u64, ReproduceFault> {
 }
 
 /// The text of a job that plays what was recorded of a channel from a first stamp on.
-fn written(
-    alloc: Global,
-    heard: &[Kept],
-    channel: u16,
-    first: u64,
-) -> Result<String, AllocError> {
+fn written(alloc: Global, heard: &[Kept], channel: u16, first: u64) -> Result<String, AllocError> {
     let addresses = answering(alloc, heard)?;
     let mut text = JobText::begin(alloc, channel, heard.len(), addresses.as_slice())?;
     let mut explainer = Explainer::begin(alloc, heard, first, addresses.as_slice())?;
@@ -58,11 +53,7 @@ fn written(
 }
 
 /// Runs a job as its text spells it, and compares its records with the messages that were recorded.
-fn run_written(
-    alloc: Global,
-    text: &[u8],
-    heard: &[Kept],
-) -> Result<Verdict, ReproduceFault>
+fn run_written(alloc: Global, text: &[u8], heard: &[Kept]) -> Result<Verdict, ReproduceFault>
     ensures { IfOk result (λ v. IsRun text.now heard.now v.messages v.same) }
 {
     let job = read_job(alloc, text)?;

@@ -1,7 +1,6 @@
 //! Which channels of a recording have messages.
 
-use ch11_stream::{Packets, StreamFault};
-use ch11_stream::Advance;
+use ch11_stream::{Advance, Packets, StreamFault};
 use std::alloc::Global;
 
 /// Which channel of a recording has messages.

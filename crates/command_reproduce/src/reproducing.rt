@@ -38,7 +38,8 @@ Example:
 
 /// The command line of `bench reproduce`.
 pub fn command<'a>(alloc: Global) -> Result<Command<'a>, AllocError> {
-    let about = "Writes a job that plays a recorded channel again, and says how much comes out the same";
+    let about =
+        "Writes a job that plays a recorded channel again, and says how much comes out the same";
     let channel = "The channel to play again; may be left out where there is one";
     let rows = [
         argument("RECORDING", "A Chapter 11 file"),
