@@ -18,17 +18,18 @@ const AGAIN: &str =
 
 /// A fault of each kind, and what hosts of terminals set.
 const FAULTS: [&str; 4] = [
-    "channel 1\nterminal 5\nfault 1 drop 0 1\nfault 2 add 0 1 d 00AA\nfault 3 mask 0 1 0000000004\nfault 4 babble 0 3 0007\n\
-     fault 5 pause 0 1 60\nfault 6 mask 0 0 FC00000000\nscript\nrepeat 6 { send A rx 5 1 [0001 0002] send A mode 5 2 }\n",
-    "channel 1\nterminal 5\nfault 1 drop 1 1\nfault 2 add 1 1 d 00AA\nfault 3 mask 1 0 0000000004\nfault 4 babble 1 3 0007\n\
-     fault 5 pause 1 2 60\nfault 6 late 1 200\nfault 7 early 1 21\nat 1 5 transmit 1 1111 2222\nscript\n\
-     repeat 8 { send A tx 5 1 2 }\n",
+    "channel 1\nterminal 5\nfault 1 drop 0 1\nfault 2 add 0 1 d 00AA\nfault 3 mask 0 1 0000000004\n\
+     fault 4 babble 0 3 0007\nfault 5 pause 0 1 60\nfault 6 mask 0 0 FC00000000\nscript\n\
+     repeat 6 { send A rx 5 1 [0001 0002] send A mode 5 2 }\n",
+    "channel 1\nterminal 5\nfault 1 drop 1 1\nfault 2 add 1 1 d 00AA\nfault 3 mask 1 0 0000000004\n\
+     fault 4 babble 1 3 0007\nfault 5 pause 1 2 60\nfault 6 late 1 200\nfault 7 early 1 21\n\
+     at 1 5 transmit 1 1111 2222\nscript\nrepeat 8 { send A tx 5 1 2 }\n",
     "channel 1\nterminal 5\nterminal 7\nat 1 5 service once\nat 2 5 vector 1234\nat 3 5 illegal receive 1 1\n\
      at 4 5 broadcast off\nat 6 5 ramp 2 1 0010 0001\nat 7 7 power off\nat 9 7 power on\nat 9 7 gap 200\nscript\n\
      send A mode 5 1 send A mode 5 16 send A rx 5 1 [0001] send A brx 1 [0002] send A mode 5 2 send A tx 5 2 1\n\
      send A rt 7 1 5 2 1 send B tx 5 2 1 send A mode 7 2\n",
-    "channel 1\nterminal 3\nterminal 7\nfault 1 mask 1 1 0000000004\nfault 2 mute 2\nfault 3 drop 0 1\nfault 4 late 2 171\n\
-     script\nrepeat 4 { send A rt 7 1 3 4 2 send A mode 3 2 }\n",
+    "channel 1\nterminal 3\nterminal 7\nfault 1 mask 1 1 0000000004\nfault 2 mute 2\nfault 3 drop 0 1\n\
+     fault 4 late 2 171\nscript\nrepeat 4 { send A rt 7 1 3 4 2 send A mode 3 2 }\n",
 ];
 
 /// What is made of channel 1 of the recording of a job.
