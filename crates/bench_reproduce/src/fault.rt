@@ -27,7 +27,10 @@ impl From<StreamFault> for ReproduceFault {
 
 impl From<JobError> for ReproduceFault {
     fn from(cause: JobError) -> ReproduceFault {
-        ReproduceFault::Refused(cause)
+        match cause {
+            JobError::Memory => ReproduceFault::Reading(StreamFault::Memory),
+            cause => ReproduceFault::Refused(cause),
+        }
     }
 }
 
