@@ -21,8 +21,9 @@ struct Row {
 }
 
 /// The fourth and the fifth of the retries, at ticks 3,351 (52 and 23 in base 64: qN) and 4,431 (1, 5 and 15: 15F):
-/// words 2823 0001 0002 0003 2800 with block status 2000 and gaps 0050, and 2823 0001 0002 with block status 1220, which
-/// has an error and so no signal. The mode command behind the transfer, at tick 1,340: words 1FE2 1800. No message.
+/// words 2823 0001 0002 0003 2800 with block status 2000 and gaps 0050, and 2823 0001 0002 with block status 1220,
+/// which has an error and so no signal. The mode command behind the transfer, at tick 1,340: words 1FE2 1800. No
+/// message.
 const ROWS: [Row; 3] = [
     Row {
         job: RETRY,
