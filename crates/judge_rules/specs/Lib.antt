@@ -5,6 +5,7 @@ pub mod Times
 pub mod Ranges
 pub mod Spans
 pub mod Selectors
+pub mod Selecting
 pub mod Kinds
 pub mod Checks
 pub mod Lines

@@ -12,6 +12,7 @@ mod kinds;
 mod line_rules;
 mod reading;
 mod rules;
+mod selecting;
 mod selectors;
 mod spans;
 mod standard;
