@@ -11,6 +11,8 @@ pub mod OpenFrames
 pub mod Told
 pub mod Next
 pub mod Coming
+pub mod Ahead
+pub mod Stays
 pub mod Queued
 pub mod Carried
 pub mod Filled

@@ -1,15 +1,17 @@
--- Actions at messages to come leave no trace.
+-- Faults and actions of messages to come leave no trace.
 use Rattle.std.proofs.Common.{◌≡◌, ℕ, zero, suc, ◌+◌, ◌-◌, ◌≤◌, Bool, eqb, ne_eqb, ltb, cond, List, [], ◌∷◌, ◌++◌, length, drop, refl, sym, ap, ap₂, ◌∙◌, subst, arith}
 use Rattle.std.specs.Prelude.{slice_get, Option, Some, None, Result, Ok, Err, OnOk, OnErr}
+use Rattle.std.specs.List.{cons_option}
 use Rattle.std.specs.Option.{option_map}
 use Rattle.std.proofs.lemmas.List.{append-nil}
-use Rattle.std.proofs.lemmas.List.Elements.{filter-append}
+use Rattle.std.proofs.lemmas.List.Elements.{filter-append, filter_map-append}
 use Rattle.mil_word.specs.declared.Line.{Line}
 use Rattle.mil_message.specs.declared.messages.Message.{Message}
 use Rattle.mil_message.specs.declared.forms.Form.{Form}
 use Rattle.mil_message.specs.declared.outcome_test.OutcomeTest.{OutcomeTest}
 use Rattle.mil_message.specs.World.{World, Point, other_line, sent, asks}
-use Rattle.mil_line.specs.Plans.{Planned, faults_of}
+use Rattle.mil_line.specs.declared.faults.Fault.{Fault}
+use Rattle.mil_line.specs.Plans.{Planned, faults_of, fault_of}
 use Rattle.mil_bus.specs.Exchange.{BusState, exchanged, talk_of, held_until}
 use Rattle.mil_bus.specs.declared.outcomes.Outcome.{Outcome}
 use Rattle.frame_code.specs.declared.Op.{Op}
@@ -27,6 +29,7 @@ use Rattle.bc_machine.specs.Agendas.{inserts_among}
 use Rattle.bc_machine.specs.Controller.{Setting, BusRun, setting_of, placed_at, world_of, all_acted, ready, with_insertion, with_own, own_talk, outcome_in, inserted_next, inserting, inserting_many, drained}
 use Rattle.bc_machine.specs.Running.{MachineState, setting, most_inserted, frames_point, turn_of}
 use Rattle.bc_machine.specs.UnderWay.{IsUnderWay, IsReached}
+use Rattle.bc_machine.specs.Planning.{with_plan, next_number, with_fault, ArePlannedAlikeSoFar}
 use Rattle.bc_machine.specs.Posting.{with_placed, AreAlikeSoFar}
 use Rattle.bc_machine.proofs.Acts.{ready_same}
 use Rattle.bc_machine.proofs.Queued.{more_made}
@@ -37,20 +40,20 @@ use Rattle.bc_machine.proofs.Reached.{bus_is, is_halt}
 abbrev Place : Type 0
 Place = Running BusRun Outcome
 
--- ---- two lists that are alike up to a message
+-- ---- two plans and two lists of actions that are alike up to a message
 
-module _ (plan : List Planned) (ps qs : List Placed) (most top : ℕ) (same : (n : ℕ) → 1 ≤ n → n ≤ top → placed_at n qs ≡ placed_at n ps) where
+module _ (plan other : List Planned) (ps qs : List Placed) (most top : ℕ) (faults : (n : ℕ) → 1 ≤ n → n ≤ top → faults_of n other ≡ faults_of n plan) (same : (n : ℕ) → 1 ≤ n → n ≤ top → placed_at n qs ≡ placed_at n ps) where
   abbrev w : World BusRun Outcome
   w = world_of plan ps most
 
   abbrev v : World BusRun Outcome
-  v = world_of plan qs most
+  v = world_of other qs most
 
   abbrev s : Setting
   s = setting_of plan ps most
 
   abbrev t : Setting
-  t = setting_of plan qs most
+  t = setting_of other qs most
 
   up_to_alike : (n : ℕ) → n ≤ top → placed_up_to n qs ≡ placed_up_to n ps
   unfolding placed_up_to
@@ -71,8 +74,8 @@ module _ (plan : List Planned) (ps qs : List Placed) (most top : ℕ) (same : (n
   insertion_alike : (gap : ℕ) (x : InsertionValue) (r : BusRun) → length r.made + 1 ≤ top → with_insertion t gap x r ≡ with_insertion s gap x r
   insertion_alike gap x r le =
       let n = length r.made + 1 in
-      ap (λ (b : BusState). record { bus = held_until r.bus.least_start (exchanged (held_until x.tick b) x.line x.message gap (faults_of n plan)); made = r.made ++ inserted ∷ [] })
-      (ready_alike n r.bus (omega arith) le)
+      ap₂ (λ (b : BusState) fs. record { bus = held_until r.bus.least_start (exchanged (held_until x.tick b) x.line x.message gap fs); made = r.made ++ inserted ∷ [] })
+      (ready_alike n r.bus (omega arith) le) (faults n (omega arith) le)
 
   next_with : (gap : ℕ) (o : Option InsertionValue) (r : BusRun) → length r.made + 1 ≤ top → inserted_next t gap o r ≡ inserted_next s gap o r
   next_with gap None r le = refl
@@ -100,6 +103,15 @@ module _ (plan : List Planned) (ps qs : List Placed) (most top : ℕ) (same : (n
       ap (inserting_many t n gap) (inserting_alike gap r (omega (arith, le)))
       ∙ many_real n gap (inserting s gap r) (omega (arith, e, first, rest)) (omega (arith, e, first, rest, le))
 
+  -- a point behind a message of the script, as this bus, form and faults have it
+  abbrev after_own : Line → Message → Point BusRun Outcome → BusState → Form → List Fault → Point BusRun Outcome
+  after_own line m p b f fs = record {
+    state = record { bus = exchanged b line f p.gap fs; made = (drained s p.gap p.state).made ++ own m ∷ [] };
+    number = p.number + 1;
+    gap = p.gap;
+    last = Some (outcome_in (talk_of b line f p.gap fs));
+  }
+
   sent_alike : (line : Line) (m : Message) (p : Point BusRun Outcome) → length (sent w line m p).state.made ≤ top → sent v line m p ≡ sent w line m p
   sent_alike line m p le =
       let d = drained s p.gap p.state in
@@ -107,12 +119,8 @@ module _ (plan : List Planned) (ps qs : List Placed) (most top : ℕ) (same : (n
       let long = more_made d.made (own m) in
       let low : n ≤ top = omega (arith, le, long) in
       ap (λ (u : BusRun). record { state = with_own t line m p.gap u; number = p.number + 1; gap = p.gap; last = Some (outcome_in (own_talk t line m p.gap u)) }) (drained_alike p.gap p.state low)
-      ∙ ap₂ (λ (b : BusState) (f : Form). record {
-        state = record { bus = exchanged b line f p.gap (faults_of n plan); made = d.made ++ own m ∷ [] };
-        number = p.number + 1;
-        gap = p.gap;
-        last = Some (outcome_in (talk_of b line f p.gap (faults_of n plan)));
-      }) (ready_alike n d.bus (omega arith) low) (form_alike d.made m low)
+      ∙ ap₂ (λ (b : BusState) (f : Form). after_own line m p b f (faults_of n other)) (ready_alike n d.bus (omega arith) low) (form_alike d.made m low)
+      ∙ ap (after_own line m p (ready ps n d.bus) (sent_form ps d.made m)) (faults n (omega arith) low)
 
   asks_alike : (k : OutcomeTest) (p : Point BusRun Outcome) → asks v k p ≡ asks w k p
   asks_alike k p = by_case p.last
@@ -224,30 +232,34 @@ module _ (plan : List Planned) (ps qs : List Placed) (most top : ℕ) (same : (n
 
 -- ---- as a controller meets them
 
-reached_alike : (m : MachineState) (placed : List Placed) (r : IsReached m) → m.point.number ≡ length m.made → AreAlikeSoFar m placed → IsReached (with_placed m placed)
-reached_alike m placed r number alike =
+-- with other faults and actions for messages to come
+abbrev under : MachineState → List Planned → List Placed → MachineState
+under m plan placed = record m { plan = plan; placed = placed }
+
+reached_alike : (m : MachineState) (plan : List Planned) (placed : List Placed) (r : IsReached m) → m.point.number ≡ length m.made → ArePlannedAlikeSoFar m plan → AreAlikeSoFar m placed → IsReached (under m plan placed)
+reached_alike m plan placed r number faults alike =
     let made : length m.made ≡ length (inserting_many (setting m) r.count r.point.gap r.point.state).made = ap (λ (v : BusRun). length v.made) (bus_is m r) in
     let low : length r.point.state.made + r.count ≤ m.point.number = omega (arith, r.sent, number) in
     record {
       point = r.point;
       count = r.count;
-      run = run_alike m.plan m.placed placed (most_inserted m.code) m.point.number alike m.code m.taken _ _ (record { at = m.at; point = r.point }) r.run (omega (arith, low));
+      run = run_alike m.plan plan m.placed placed (most_inserted m.code) m.point.number faults alike m.code m.taken _ _ (record { at = m.at; point = r.point }) r.run (omega (arith, low));
       here = r.here ∙ ap (λ (v : BusRun). record r.point { state = v })
-          (sym (many_real m.plan m.placed placed (most_inserted m.code) m.point.number alike r.count r.point.gap r.point.state (omega (arith, made, r.sent)) low));
+          (sym (many_real m.plan plan m.placed placed (most_inserted m.code) m.point.number faults alike r.count r.point.gap r.point.state (omega (arith, made, r.sent)) low));
       sent = r.sent;
       idle = r.idle;
     }
 
-pub free : (m : MachineState) (placed : List Placed) → IsUnderWay m → AreAlikeSoFar m placed → IsUnderWay (with_placed m placed)
-free m placed u alike =
+under_way_alike : (m : MachineState) (plan : List Planned) (placed : List Placed) → IsUnderWay m → ArePlannedAlikeSoFar m plan → AreAlikeSoFar m placed → IsUnderWay (under m plan placed)
+under_way_alike m plan placed u faults alike =
     let r = u.reached in
     let low : length r.point.state.made ≤ m.point.number = omega (arith, r.sent, u.number) in
-    let same = paid_alike m.plan m.placed placed (most_inserted m.code) m.point.number alike one_period m.code m.taken _ _ (record { at = m.at; point = r.point }) r.run low in
+    let same = paid_alike m.plan plan m.placed placed (most_inserted m.code) m.point.number faults alike one_period m.code m.taken _ _ (record { at = m.at; point = r.point }) r.run low in
     record {
       loadable = u.loadable;
       within = u.within;
       short = u.short;
-      reached = reached_alike m placed r u.number alike;
+      reached = reached_alike m plan placed r u.number faults alike;
       steps = u.steps;
       number = u.number;
       messages = u.messages;
@@ -255,6 +267,12 @@ free m placed u alike =
       clock = omega (arith, u.clock, same);
       begun = u.begun;
     }
+
+pub free : (m : MachineState) (placed : List Placed) → IsUnderWay m → AreAlikeSoFar m placed → IsUnderWay (with_placed m placed)
+free m placed u alike = under_way_alike m m.plan placed u (λ n low high. refl) alike
+
+pub free_of_faults : (m : MachineState) (plan : List Planned) → IsUnderWay m → ArePlannedAlikeSoFar m plan → IsUnderWay (with_plan m plan)
+free_of_faults m plan u faults = under_way_alike m plan m.placed u faults (λ n low high. refl)
 
 -- room for more actions plays no part
 pub roomy : (m : MachineState) (k : ℕ) → IsUnderWay m → IsUnderWay (record m { capacity = k })
@@ -281,6 +299,12 @@ halts_alike m placed e =
     let halt = is_halt (world_of m.plan m.placed (most_inserted m.code)) o m.code m.at (frames_point m) e in
     ap (λ v. act (world_of m.plan placed (most_inserted m.code)) v m.code m.at (frames_point m)) halt
 
+pub halts_planned : (m : MachineState) (plan : List Planned) → turn_of m ≡ halted → turn_of (with_plan m plan) ≡ halted
+halts_planned m plan e =
+    let o = slice_get m.code.operations m.at.place in
+    let halt = is_halt (world_of m.plan m.placed (most_inserted m.code)) o m.code m.at (frames_point m) e in
+    ap (λ v. act (world_of plan m.placed (most_inserted m.code)) v m.code m.at (frames_point m)) halt
+
 -- an action at the next message is none of those at the messages before
 pub alike_added : (m : MachineState) (one : Placed) → one.number ≡ m.point.number + 1 → AreAlikeSoFar m (m.placed ++ one ∷ [])
 alike_added m one next n low high =
@@ -303,3 +327,16 @@ pub placed_under_way : {U F : Type 0} (r : Result U F) (m n : MachineState) (one
     → OnOk r (n ≡ with_placed m (m.placed ++ one ∷ [])) → OnErr r (n ≡ m) → IsUnderWay n
 placed_under_way (Ok u) m n one way next placed same = subst IsUnderWay (sym placed) (free m (m.placed ++ one ∷ []) way (alike_added m one next))
 placed_under_way (Err f) m n one way next placed same = subst IsUnderWay (sym same) way
+
+-- ---- one fault more
+
+-- a fault of the next message is none of those of the messages before
+planned_added : (m : MachineState) (fault : Fault) → ArePlannedAlikeSoFar m (m.plan ++ (next_number m, fault) ∷ [])
+planned_added m fault n low high =
+    filter_map-append (fault_of n) m.plan ((next_number m, fault) ∷ [])
+    ∙ ap (λ (b : Bool). faults_of n m.plan ++ cons_option (cond b (Some fault) None) []) (ne_eqb (next_number m) n (λ same. omega (arith, same, low, high)))
+    ∙ append-nil (faults_of n m.plan)
+
+pub planned_under_way : {U F : Type 0} (r : Result U F) (m n : MachineState) (fault : Fault) → IsUnderWay m → OnOk r (n ≡ with_fault m fault) → OnErr r (n ≡ m) → IsUnderWay n
+planned_under_way (Ok u) m n fault way planned same = subst IsUnderWay (sym planned) (free_of_faults m (m.plan ++ (next_number m, fault) ∷ []) way (planned_added m fault))
+planned_under_way (Err f) m n fault way planned same = subst IsUnderWay (sym same) way

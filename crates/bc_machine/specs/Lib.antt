@@ -15,8 +15,10 @@ pub mod StartingBus
 pub mod Progress
 pub mod PlainMachine
 pub mod Posting
+pub mod Planning
 pub mod SavedMachine
 pub mod Alike
 pub mod Coming
+pub mod NextMessage
 pub mod Agendas
 pub mod Asking

@@ -7,7 +7,7 @@ ghost use Rattle.mil_bus.specs.Exchange.{now_of};
 ghost use Rattle.mil_host.specs.declared.actions.Action.TheVariants.{Transmit};
 ghost use Rattle.std.specs.List.{insert};
 ghost use Rattle.std.specs.Option.{option_copied};
-ghost use Rattle.std.specs.Prelude.{◌≡◌, ◌+◌, ◌<◌, ◌≤◌, ℕ, length, vec_len, vec_capacity, All, IfOk};
+ghost use Rattle.std.specs.Prelude.{◌≡◌, ◌+◌, ◌<◌, ◌≤◌, ℕ, length, vec_len, vec_capacity, All, IfOk, IfSome};
 
 use crate::placed::{HostAction, Placed};
 use arrayvec::ArrayVec;
@@ -222,6 +222,17 @@ impl Row {
         Placed {
             number: self.number,
             action: self.action(beside),
+        }
+    }
+
+    /// What the host asks for, where it stands whole in the list.
+    pub fn whole<'a>(&self, beside: &'a [HostAction]) -> Option<&'a HostAction>
+        requires { IsRow (length beside.now) self.now }
+        ensures { IfSome result (λ a. a.now ≡ (placed_of beside.now self.now).action) }
+    {
+        match &self.kept {
+            KeptAction::Whole(place) => Some(&beside[*place as usize]),
+            _ => None,
         }
     }
 

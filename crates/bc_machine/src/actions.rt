@@ -3,11 +3,11 @@ ghost use Rattle.bc_machine.specs.Agendas.{inserts_among};
 ghost use Rattle.bc_machine.specs.Controller.{placed_at};
 ghost use Rattle.bc_machine.specs.Rising.{IsRising, IsParted};
 ghost use Rattle.std.specs.List.Sorted.{IsPermutation};
-ghost use Rattle.std.specs.Prelude.{OnOk, OnErr};
-ghost use Rattle.std.specs.Prelude.{◌≡◌, ℕ, ◌<◌, ◌≤◌, ◌==◌, ◌++◌, ◌∷◌, [], length, take, slice_index_or, IfOk};
+ghost use Rattle.std.specs.Prelude.{IfOk, IfSome, OnOk, OnErr};
+ghost use Rattle.std.specs.Prelude.{◌≡◌, ℕ, ◌<◌, ◌≤◌, ◌==◌, ◌++◌, ◌∷◌, [], length, take, slice_index_or};
 
-use crate::Placed;
 use crate::schedule::Schedule;
+use crate::{HostAction, Placed};
 use std::alloc::{AllocError, Global};
 use std::marker::Model;
 
@@ -71,6 +71,15 @@ impl Actions {
         ensures { result ≡ slice_index_or self.now place result }
     {
         self.schedule.get(place)
+    }
+
+    /// What is asked for at a place, counted from 0, where it is at hand whole, as what takes more memory than a row
+    /// has is: looking costs less than `get`, which makes a copy. None says nothing.
+    pub fn whole(&self, place: usize) -> Option<&HostAction>
+        requires { place < length self.now }
+        ensures { (one : Placed) → IfSome result (λ a. a.now ≡ (slice_index_or self.now place one).action) }
+    {
+        self.schedule.whole(place)
     }
 
     /// The number of the action at a place, counted from 0.

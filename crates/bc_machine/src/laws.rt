@@ -1,4 +1,6 @@
 //! What holds of every run of a controller.
+ghost use Rattle.bc_machine.specs.NextMessage.{FaultsAreNotTold, NextMessageIsSent, TerminalActionsAreNotTold};
+ghost use Rattle.bc_machine.specs.Planning.{FaultsToComeAreFree, HaltsUnderEachPlan};
 ghost use Rattle.bc_machine.specs.Posting.{ActionsToComeAreFree, HaltsAlike};
 ghost use Rattle.bc_machine.specs.Running.{EachController, after_steps, turn_of, is_own, most_inserted};
 ghost use Rattle.frame_code.specs.Table.{halted, stuck};
@@ -42,4 +44,27 @@ pub fn controller_runs()
 pub fn actions_to_come_are_free()
     ensures free { ActionsToComeAreFree }
     ensures halts { HaltsAlike }
+{}
+
+/// Law: the faults that are planned for messages to come leave no trace. With others for these, a controller under way
+/// stands where it stood, and has halted where it had.
+pub fn faults_to_come_are_free()
+    ensures free { FaultsToComeAreFree }
+    ensures halts { HaltsUnderEachPlan }
+{}
+
+/// Law: the talk that comes next is the one that the next step makes: a controller under way that sends a message next
+/// stands at an operation that sends one or ends the program, and behind the step that talk is the latest of its bus.
+/// Where none comes, the step makes none: what was played on the bus and the number of messages stand still.
+pub fn next_message_is_sent()
+    ensures { NextMessageIsSent }
+{
+    loadable_runs::<BusSetting>();
+}
+
+/// Law: what is told of the message that comes next stays as it is where faults are planned, and where the host of a
+/// terminal is asked for something more: no such action moves a bus's time, or changes what the controller sends.
+pub fn next_message_stays()
+    ensures faults { FaultsAreNotTold }
+    ensures actions { TerminalActionsAreNotTold }
 {}

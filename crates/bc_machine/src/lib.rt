@@ -10,14 +10,17 @@ mod actions;
 mod agenda;
 mod asking;
 mod begun;
+mod ended;
 mod frames;
 mod laws;
 mod lookup;
 mod machine;
 mod made;
+mod next_message;
 mod outcomes;
 mod parts;
 mod placed;
+mod planning;
 mod posting;
 mod progress;
 mod queue;
@@ -28,10 +31,15 @@ mod stack;
 mod upcoming;
 
 pub use actions::Actions;
+pub use ended::Ended;
 pub use frames::Closing;
-pub use laws::{BusSetting, actions_to_come_are_free, controller_runs};
+pub use laws::{
+    BusSetting, actions_to_come_are_free, controller_runs, faults_to_come_are_free,
+    next_message_is_sent, next_message_stays,
+};
 pub use machine::Machine;
 use mil_monitor::Record;
+pub use next_message::NextMessage;
 pub use outcomes::asks;
 pub use placed::{HostAction, Placed};
 pub use saved::Saved;

@@ -4,7 +4,7 @@ ghost use Rattle.bc_machine.specs.Rising.{IsRising, IsParted, IsPutIn};
 ghost use Rattle.bc_machine.specs.Schedules.{AreRising, HaveRoom, is_control, sets_sources, with_action};
 ghost use Rattle.mil_bus.specs.Exchange.{now_of};
 ghost use Rattle.std.specs.List.Sorted.{IsPermutation};
-ghost use Rattle.std.specs.Prelude.{IsTrue, IfOk, IfErr, OnOk, OnErr};
+ghost use Rattle.std.specs.Prelude.{IsTrue, IfOk, IfErr, IfSome, OnOk, OnErr};
 ghost use Rattle.std.specs.Prelude.{◌≡◌, ℕ, ◌+◌, ◌^◌, ◌<◌, ◌≤◌, ◌++◌, ◌∷◌, ◌||◌, [], true, min, max, length};
 ghost use Rattle.std.specs.Prelude.{take, slice_index_or};
 
@@ -157,6 +157,14 @@ impl Schedule {
         ensures { result ≡ slice_index_or self.now.actions place result }
     {
         self.rows[place].placed(self.beside.as_slice())
+    }
+
+    /// What is asked for at a place, counted from 0, where it takes more memory than a row has. None says nothing.
+    pub fn whole(&self, place: usize) -> Option<&HostAction>
+        requires { place < length self.now.actions }
+        ensures { (one : Placed) → IfSome result (λ a. a.now ≡ (slice_index_or self.now.actions place one).action) }
+    {
+        self.rows[place].whole(self.beside.as_slice())
     }
 
     /// The number of the action at a place, counted from 0.

@@ -2,7 +2,7 @@
 ghost use Rattle.bc_machine.specs.declared.placed.Placed.{Placed};
 ghost use Rattle.bench_report.specs.Drafts.{TakesIntoDraft, last_number, numbers, with_refused, with_placed};
 ghost use Rattle.bench_report.specs.Reports.{IsPart, IsPlaced, IsPlace, IsHostAction, Rises, NeverFalls};
-ghost use Rattle.std.specs.Prelude.{◌≡◌, ◌≤◌, All, []};
+ghost use Rattle.std.specs.Prelude.{◌≡◌, ◌<◌, ◌≤◌, All, [], length, slice_index_or};
 
 use crate::fault::ReportFault;
 use bc_machine::{Actions, HostAction, Placed};
@@ -146,7 +146,18 @@ fn keep_ranges(placed: &Actions)
     ensures { All (λ (p : Placed). IsHostAction p.action) placed.now }
 {
     for place in 0..placed.len() {
-        action_keeps_ranges(&placed.get(place).action);
+        placed_keeps_ranges(placed, place);
+    }
+}
+
+/// The action at a place keeps its ranges.
+fn placed_keeps_ranges(placed: &Actions, place: usize)
+    requires { place < length placed.now }
+    ensures { (one : Placed) → IsHostAction (slice_index_or placed.now place one).action }
+{
+    match placed.whole(place) {
+        Some(action) => action_keeps_ranges(action),
+        None => action_keeps_ranges(&placed.get(place).action),
     }
 }
 

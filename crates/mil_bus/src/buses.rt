@@ -130,8 +130,9 @@ impl Bus {
         before
     }
 
-    /// When the next talk would start by its gap alone.
-    fn next_start(&self, gap: Gap) -> u64
+    /// When the next talk would start by its gap alone, in ticks: behind the last word on either line by this gap, or by
+    /// the least gap where that is longer; before any talk, at the start tick.
+    pub fn next_start(&self, gap: Gap) -> u64
         requires { clock_of self.now.start self.now.talks < 2 ^ 60 }
         ensures value { result ≡ next_start self.now.start self.now.talks gap }
         ensures soon { result ≤ clock_of self.now.start self.now.talks + 2 ^ 17 }
@@ -144,8 +145,8 @@ impl Bus {
         }
     }
 
-    /// When the next talk starts.
-    fn talk_start(&self, gap: Gap) -> u64
+    /// When the next talk starts at this gap, in ticks: no sooner than at the least start.
+    pub fn talk_start(&self, gap: Gap) -> u64
         requires { now_of self.now < 2 ^ 60 }
         ensures value { result ≡ talk_start self.now gap }
         ensures small { result < 2 ^ 61 }
