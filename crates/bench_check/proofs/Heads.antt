@@ -10,10 +10,17 @@ use Rattle.frame_tree.specs.Tree.{Tree}
 use Rattle.frame_text.specs.Frames.{tree_of_text}
 use Rattle.frame_text.specs.declared.faults.Cause.{Cause}
 use Rattle.job_file.specs.Options.{◌>>=◌}
-use Rattle.job_file.specs.Numbers.{number_of, number_within, start_of}
-use Rattle.job_file.specs.Lines.{Said, blank, action, control, said, said_in, of_keyword, is_controller, fault_word_of, fault_of, first, one, four, front, span_of, series_of, channel_in, start_in, terminal_in, action_in, fault_in, faults_in, series_in}
+use Rattle.job_file.specs.Numbers.{number_within, start_of}
+use Rattle.job_file.specs.Lines.{Said, blank, said, said_in, of_keyword, is_controller, fault_word_of, fault_of, first, one, four, front, span_of, series_of, control_at, terminal_action_at, fault_by, faults_by, channel_in, start_in, terminal_in, action_in, fault_in, faults_in, series_in}
 use Rattle.job_file.specs.HeadLines.{Head, head_of}
-use Rattle.job_file.specs.Spelled.{ChannelJob, joined_lines, is_script, parted, all_said, lawful, first_of, job_with, job_of, spelled}
+use Rattle.job_file.specs.Spelled.{ChannelJob, joined_lines, is_script, parted, all_said, lawful, first_of, job_with, written_with, written_of, written, job_meant, spelled}
+use Rattle.job_file.specs.Timed.{resolved}
+use Rattle.job_file.specs.Whens.{when_words, when_of, which_words, which_of}
+use Rattle.job_file.specs.declared.whens.When.{When}
+use Rattle.job_file.specs.declared.whens.When.TheVariants as when
+use Rattle.job_file.specs.declared.whens.Which.{Which}
+use Rattle.job_file.specs.declared.whens.Which.TheVariants as which
+use Rattle.mil_line.specs.declared.faults.Fault.{Fault}
 use Rattle.text_lines.specs.Lines.{is_line_end, lines_of}
 use Rattle.job_file.specs.declared.keywords.Keyword.{Keyword}
 use Rattle.job_file.specs.declared.keywords.Keyword.TheVariants as keyword
@@ -22,26 +29,26 @@ use Rattle.bench_check.specs.Scripts.{behind, script_in}
 
 -- the job of a text has the tree of the script
 
-of_tree : (job : ChannelJob) (c : ℕ) (head : Head) (r : Result Tree Cause) → (result_ok r >>= (λ tree. Some (job_with c head tree))) ≡ Some job → r ≡ Ok job.tree
-of_tree job c head (Ok tree) e = let is : job_with c head tree ≡ job = cc in ap (λ (j : ChannelJob). Ok j.tree) is
+of_tree : (job : ChannelJob) (c : ℕ) (head : Head) (r : Result Tree Cause) → job_meant (result_ok r >>= (λ tree. Some (written_with c head tree))) ≡ Some job → r ≡ Ok job.tree
+of_tree job c head (Ok tree) e = let is : resolved (job_with c head tree) head.timed ≡ job = cc in ap (λ (j : ChannelJob). Ok j.tree) is
 of_tree job c head (Err why) e = absurd (cc)
 
 of_channel : (job : ChannelJob) (head : Head) (o : Option ℕ) (r : Result Tree Cause)
-    → (o >>= (λ c. result_ok r >>= (λ tree. Some (job_with c head tree)))) ≡ Some job → r ≡ Ok job.tree
+    → job_meant (o >>= (λ c. result_ok r >>= (λ tree. Some (written_with c head tree)))) ≡ Some job → r ≡ Ok job.tree
 of_channel job head None r e = absurd (cc)
 of_channel job head (Some c) r e = of_tree job c head r e
 
-of_heads : (job : ChannelJob) (o : Option (List Said)) (text : Text) → (o >>= (λ heads. job_of (head_of heads) text)) ≡ Some job → tree_of_text text ≡ Ok job.tree
+of_heads : (job : ChannelJob) (o : Option (List Said)) (text : Text) → job_meant (o >>= (λ heads. written_of (head_of heads) text)) ≡ Some job → tree_of_text text ≡ Ok job.tree
 of_heads job None text e = absurd (cc)
 of_heads job (Some heads) text e = of_channel job (head_of heads) (first_of (head_of heads).channels) (tree_of_text text) e
 
 of_said : (job : ChannelJob) (o : Option (List Said)) (text : Text)
-    → (o >>= (λ said. lawful [] said >>= (λ heads. job_of (head_of heads) text))) ≡ Some job → tree_of_text text ≡ Ok job.tree
+    → job_meant (o >>= (λ said. lawful [] said >>= (λ heads. written_of (head_of heads) text))) ≡ Some job → tree_of_text text ≡ Ok job.tree
 of_said job None text e = absurd (cc)
 of_said job (Some said) text e = of_heads job (lawful [] said) text e
 
 of_parts : (job : ChannelJob) (o : Option (List Text × List Text)) (text : Text) → behind o ≡ Some text
-    → (o >>= (λ parts. all_said parts.0 >>= (λ said. lawful [] said >>= (λ heads. job_of (head_of heads) (joined_lines parts.1))))) ≡ Some job
+    → job_meant (o >>= (λ parts. all_said parts.0 >>= (λ said. lawful [] said >>= (λ heads. written_of (head_of heads) (joined_lines parts.1))))) ≡ Some job
     → tree_of_text text ≡ Ok job.tree
 of_parts job None text is e = absurd (cc)
 of_parts job (Some parts) text is e =
@@ -49,16 +56,16 @@ of_parts job (Some parts) text is e =
     subst (λ (t : Text). tree_of_text t ≡ Ok job.tree) same (of_said job (all_said parts.0) (joined_lines parts.1) e)
 
 of_none : (job : ChannelJob) (o : Option (List Text × List Text)) → behind o ≡ None
-    → (o >>= (λ parts. all_said parts.0 >>= (λ said. lawful [] said >>= (λ heads. job_of (head_of heads) (joined_lines parts.1))))) ≡ Some job → ⊥
+    → job_meant (o >>= (λ parts. all_said parts.0 >>= (λ said. lawful [] said >>= (λ heads. written_of (head_of heads) (joined_lines parts.1))))) ≡ Some job → ⊥
 of_none job None is e = absurd (cc)
 of_none job (Some parts) is e = absurd (cc)
 
 pub tree_of_script : (text below : Text) (job : ChannelJob) → script_in text ≡ Some below → spelled text ≡ Some job → tree_of_text below ≡ Ok job.tree
-unfolding spelled
+unfolding spelled written
 tree_of_script text below job is e = of_parts job (parted (lines_of text)) below is e
 
 pub no_script : (text : Text) (job : ChannelJob) → script_in text ≡ None → spelled text ≡ Some job → ⊥
-unfolding spelled
+unfolding spelled written
 no_script text job is e = of_none job (parted (lines_of text)) is e
 
 -- line by line
@@ -97,10 +104,21 @@ never : {X : Type 0} (o : Option X) (f : X → Option Said) → ((x : X) → is_
 never None f h = refl
 never (Some x) f h = h x
 
-by_host : (b : Bool) (number : ℕ) (host : Text) (ws : List Text)
-    → is_script (if b then Some (control number ws) else (number_within 0 30 host >>= (λ address. Some (action number address ws)))) ≡ false
-by_host true number host ws = refl
-by_host false number host ws = never (number_within 0 30 host) _ (λ address. refl)
+by_host : (b : Bool) (w : When) (host : Text) (ws : List Text)
+    → is_script (if b then Some (control_at w ws) else (number_within 0 30 host >>= (λ address. Some (terminal_action_at w address ws)))) ≡ false
+by_host true (when.Number n) host ws = refl
+by_host true (when.Moment m) host ws = refl
+by_host false (when.Number n) host ws = never (number_within 0 30 host) _ (λ address. refl)
+by_host false (when.Moment m) host ws = never (number_within 0 30 host) _ (λ address. refl)
+
+by_when : (w : When) (f : Fault) → is_script (Some (fault_by w f)) ≡ false
+by_when (when.Number n) f = refl
+by_when (when.Moment m) f = refl
+
+by_which : (w : Which) (f : Fault) → is_script (Some (faults_by w f)) ≡ false
+by_which (which.Numbers span) f = refl
+by_which (which.Places selector span) f = refl
+by_which (which.Window selector from to) f = refl
 
 of_other : (k : Keyword) (ws : List Text) → (k ≡ keyword.Script → ⊥) → is_script (of_keyword k ws) ≡ false
 unfolding of_keyword channel_in start_in terminal_in action_in fault_in faults_in series_in
@@ -108,14 +126,14 @@ of_other keyword.Channel ws h = never (one ws) _ (λ w. never (number_within 1 6
 of_other keyword.Start ws h = never (one ws) _ (λ w. never (start_of w) _ (λ n. refl))
 of_other keyword.Terminal ws h = never (one ws) _ (λ w. never (number_within 0 30 w) _ (λ n. refl))
 of_other keyword.At ws h =
-    never (first ws) _ (λ n. never (first n.1) _ (λ a. never (first a.1) _ (λ more.
-    never (number_within 1 1000000 n.0) _ (λ number. by_host (is_controller a.0) number a.0 a.1))))
+    never (when_words ws) _ (λ n. never (first n.1) _ (λ a. never (first a.1) _ (λ more.
+    never (when_of 1 1000000 n.0) _ (λ w. by_host (is_controller a.0) w a.0 a.1))))
 of_other keyword.Fault ws h =
-    never (first ws) _ (λ n. never (first n.1) _ (λ k. never (fault_word_of k.0) _ (λ kind. never (fault_of kind k.1) _ (λ f.
-    never (number_of n.0) _ (λ number. refl)))))
+    never (when_words ws) _ (λ n. never (first n.1) _ (λ k. never (fault_word_of k.0) _ (λ kind. never (fault_of kind k.1) _ (λ f.
+    never (when_of 0 9999999 n.0) _ (λ w. by_when w f)))))
 of_other keyword.Faults ws h =
-    never (front ws) _ (λ n. never (first n.1) _ (λ k. never (fault_word_of k.0) _ (λ kind. never (fault_of kind k.1) _ (λ f.
-    never (span_of n.0) _ (λ span. refl)))))
+    never (which_words ws) _ (λ n. never (first n.1) _ (λ k. never (fault_word_of k.0) _ (λ kind. never (fault_of kind k.1) _ (λ f.
+    never (which_of n.0) _ (λ w. by_which w f)))))
 of_other keyword.Series ws h = never (front ws) _ (λ n. never (four n.1) _ (λ w. never (span_of n.0) _ (λ span. never (series_of span w) _ (λ s. refl))))
 of_other keyword.Script ws h = absurd (h refl)
 

@@ -6,16 +6,17 @@ use crate::explanation::Explanation;
 pub(crate) static EXPLANATIONS: [Explanation; 15] = [
     Explanation {
         code: "J1",
-        means: "an unknown word in a job, or one that is missing or left over",
+        means: "an unknown word in a job, or one that is missing or left over, as nth behind a selector",
         remedy: "Compare the line with those of docs/jobs.md; words are parted by spaces, and a tab is no space.",
         example: "terminals 5",
     },
     Explanation {
         code: "J2",
-        means: "not a number, a number out of its range, or more than 1000000 actions of series lines",
-        remedy: "Channels are 1 to 65535, terminals 0 to 30, message numbers and steps 1 to 1000000 with the first at \
-            most the last, \
-                 subaddresses of series 1 to 29, a start tick at most 140737488355328.",
+        means: "not a number or time, one out of its range, or more than 1000000 actions of series lines",
+        remedy: "Times are as 1.5ms and at most 14073748.8355328s, places behind nth, message numbers and steps 1 to \
+            1000000 with the first at most the last; \
+                 channels are 1 to 65535, terminals 0 to 30, subaddresses of series 1 to 29, a start tick at most \
+            140737488355328.",
         example: "terminal 31",
     },
     Explanation {

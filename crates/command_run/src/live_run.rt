@@ -8,7 +8,7 @@ use bench_files::leads_to_output;
 use bench_live::{Desk, LiveRun, Pace, Pacing, Show, Showing, open_desk, start_host};
 use bench_mail::Inbox;
 use bench_report::Report;
-use bench_requests::{Fault, RunRequest};
+use bench_requests::{Fault, RunRequest, jobs_of};
 use bench_run::{LiveError, RunError};
 use bench_run_command::record_jobs_with_progress;
 use bench_settings::{MOST_POSTS, Settings};
@@ -113,6 +113,22 @@ pub(crate) fn with_posts(settings: Settings, way: Way) -> Settings {
         settings.posts = MOST_POSTS;
     }
     settings
+}
+
+/// The jobs of texts, for a run that goes on like that. A live run takes none with a line by time or by command: what
+/// is posted would move the numbers at which it is due.
+pub(crate) fn jobs_for<'a>(
+    alloc: Global,
+    texts: &[Vec<u8>],
+    way: Way,
+) -> Result<Vec<Job>, Fault<'a>> {
+    let jobs = jobs_of(alloc, texts)?;
+    if way.live && jobs.iter().any(|job| job.is_resolved()) {
+        return Err(Fault::Usage(
+            "--live takes no job with a line by time or by command: posted actions would move where it is due",
+        ));
+    }
+    Ok(jobs)
 }
 
 /// Starts what shows messages, where they are to be shown.

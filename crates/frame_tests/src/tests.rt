@@ -11,6 +11,8 @@ mod jobs_together;
 mod letters;
 mod loading;
 mod many_messages;
+mod moments;
+mod next_messages;
 mod placed_lists;
 mod records;
 mod text_faults;

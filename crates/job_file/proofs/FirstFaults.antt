@@ -5,7 +5,7 @@ use Rattle.std.specs.List.{position_or_len, before_first, after_first}
 use Rattle.std.proofs.lemmas.List.{append-nil, length-append, length-drop}
 use Rattle.text_lines.specs.Words.{Text, words, has_bytes}
 use Rattle.job_file.specs.Options.{◌>>=◌}
-use Rattle.job_file.specs.Lines.{Said, blank, script, channel, start, terminal, action, control, fault, faults, series, said, said_in}
+use Rattle.job_file.specs.Lines.{Said, blank, script, channel, start, terminal, action, control, fault, faults, series, timed_action, timed_control, timed_fault, said, said_in}
 use Rattle.job_file.specs.HeadLines.{Head, head_of, may_stand, are_lawful, is_none_yet}
 use Rattle.job_file.specs.Drafts.{with_line}
 use Rattle.job_file.specs.Spelled.{joined_lines, is_script, all_said}
@@ -130,6 +130,9 @@ is_script_line (Some (control number text)) is = cc
 is_script_line (Some (fault number f)) is = cc
 is_script_line (Some (faults span f)) is = cc
 is_script_line (Some (series s)) is = cc
+is_script_line (Some (timed_action moment address text)) is = cc
+is_script_line (Some (timed_control moment text)) is = cc
+is_script_line (Some (timed_fault occasion f)) is = cc
 
 module _ (text rest line behind : Text) (old new : Head) (n : ℕ) (i : IsReadTo text rest old n) (some : 1 ≤ length rest)
     (first : line ≡ before_first is_line_end rest) (after : behind ≡ after_first is_line_end rest) where

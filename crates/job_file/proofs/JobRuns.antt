@@ -22,7 +22,7 @@ use Rattle.bc_machine.specs.UnderWay.{IsUnderWay, IsReached}
 use Rattle.bc_machine.proofs.Runs.{run_stays}
 use Rattle.bc_machine.proofs.Inserting.{drained_is}
 use Rattle.bc_machine.proofs.Reached.{bus_is, is_halt, none_of, turn_is}
-use Rattle.job_file.specs.Spelled.{ChannelJob}
+use Rattle.job_file.specs.ChannelJobs.{ChannelJob}
 use Rattle.job_file.specs.Meaning.{bus_of, setting_at, world_at, end_of, end_in, records_in, records, up_to, bus_after, made_after}
 use Rattle.job_file.specs.Machines.{IsOf}
 use Rattle.job_file.proofs.Moves.{comes_to}

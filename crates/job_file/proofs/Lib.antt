@@ -11,3 +11,10 @@ pub mod JobRuns
 pub mod Nexts
 pub mod TextLemmas
 pub mod FirstFaults
+pub mod Fewness
+pub mod DueLemmas
+pub mod FaultLemmas
+pub mod TurnLemmas
+pub mod RunLemmas
+pub mod BeginLemmas
+pub mod KeptLemmas

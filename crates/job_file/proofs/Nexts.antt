@@ -13,7 +13,7 @@ use Rattle.bc_machine.specs.Running.{MachineState, HasEnded, waiting, stepped, e
 use Rattle.bc_machine.specs.declared.Stepped.{Stepped}
 use Rattle.bc_machine.specs.declared.Stepped.TheVariants.{Sent, Inserted}
 use Rattle.bc_machine.specs.UnderWay.{IsUnderWay, IsMessage, IsSent, IsInserted, TellsStep}
-use Rattle.job_file.specs.Spelled.{ChannelJob}
+use Rattle.job_file.specs.ChannelJobs.{ChannelJob}
 use Rattle.job_file.specs.Meaning.{records_in, records}
 use Rattle.job_file.specs.Machines.{IsOf, IsLatestOutcome, latest_outcome, StaysMachineOf, RecordsSoFar, AllRecords, CountsMessagesSent}
 use Rattle.job_file.proofs.JobRuns.{kept_with}

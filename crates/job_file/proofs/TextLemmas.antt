@@ -7,7 +7,7 @@ use Rattle.std.proofs.lemmas.Option.{slice_get-map, slice_get-get_or}
 use Rattle.std.proofs.lemmas.Simd.{map-map}
 use Rattle.text_lines.specs.Words.{Text}
 use Rattle.job_file.specs.Jobs.{JobState, job_in}
-use Rattle.job_file.specs.Spelled.{spelled}
+use Rattle.job_file.specs.Spelled.{written, spelled}
 use Rattle.job_file.specs.Reading.{IsJobRefusal}
 use Rattle.job_file.specs.Faults.{IsFirstFault}
 use Rattle.job_file.specs.Texts.{AreSpelled, IsAccepted, IsFirstRefused}
@@ -32,7 +32,7 @@ text_at texts i d inside =
     slice_get-map (λ (one : Bor Text). one.now) texts i ∙ ap (option_map (λ (one : Bor Text). one.now)) (slice_get-get_or texts i d inside)
 
 pub first_refused : (texts : List (Bor Text)) (i : ℕ) (d : Bor Text) (fault : JobError) → i < length texts → AcceptedSoFar texts i
-    → IsJobRefusal (spelled (slice_index_or texts i d).now) fault → IsFirstFault (slice_index_or texts i d).now fault → IsFirstRefused (all_of texts) i fault
+    → IsJobRefusal (written (slice_index_or texts i d).now) fault → IsFirstFault (slice_index_or texts i d).now fault → IsFirstRefused (all_of texts) i fault
 first_refused texts i d fault inside so_far why first = record {
   text = (slice_index_or texts i d).now;
   there = text_at texts i d inside;

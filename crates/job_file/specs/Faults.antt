@@ -20,7 +20,8 @@ use Rattle.frame_text.specs.declared.faults.Place.{Place}
 use Rattle.frame_code.specs.Table.{Code}
 use Rattle.frame_asm.specs.Shapes.{code_of_tree}
 use Rattle.job_file.specs.Lines.{Said, blank, script, channel, start, terminal, action, control, fault, faults}
-use Rattle.job_file.specs.Lines.{series}
+use Rattle.job_file.specs.Lines.{series, timed_action, timed_control, timed_fault}
+use Rattle.job_file.specs.Whens.{when_words, which_words}
 use Rattle.job_file.specs.Lines.{keyword_of, fault_word_of, sync_of, first, ended, one, two, three, four, front}
 use Rattle.job_file.specs.Lines.{said}
 use Rattle.job_file.specs.Spans.{span_count, numbers_of}
@@ -56,15 +57,16 @@ are_fault_words word.Early ws = is_some (two ws)
 are_fault_words word.Pause ws = is_some (three ws)
 are_fault_words word.Babble ws = is_some (three ws)
 
--- the words behind the first of a line, whatever numbers they spell; an action is judged behind all numbers
+-- the words behind the first of a line, whatever numbers they spell: those of a selector, `nth`, `from` and `to` too;
+-- an action is judged behind all numbers
 abbrev pub are_words_behind : Keyword → List Text → Bool
 are_words_behind keyword.Channel ws = is_some (one ws)
 are_words_behind keyword.Start ws = is_some (one ws)
 are_words_behind keyword.Terminal ws = is_some (one ws)
-are_words_behind keyword.At ws = there (first ws) (λ n. there (first n.1) (λ a. is_some (first a.1)))
-are_words_behind keyword.Fault ws = there (first ws)
+are_words_behind keyword.At ws = there (when_words ws) (λ n. there (first n.1) (λ a. is_some (first a.1)))
+are_words_behind keyword.Fault ws = there (when_words ws)
     (λ n. there (first n.1) (λ k. there (fault_word_of k.0) (λ kind. are_fault_words kind k.1)))
-are_words_behind keyword.Faults ws = there (front ws)
+are_words_behind keyword.Faults ws = there (which_words ws)
     (λ n. there (first n.1) (λ k. there (fault_word_of k.0) (λ kind. are_fault_words kind k.1)))
 are_words_behind keyword.Series ws = there (front ws) (λ n. is_some (four n.1))
 are_words_behind keyword.Script ws = is_some (ended ws script)
@@ -77,6 +79,10 @@ are_line_words (w ∷ ws) = if is_comment w then true else there (keyword_of w) 
 abbrev pub bad_action : {X : Type 0} → Result X BadAction → Option LineFault
 bad_action (Ok a) = None
 bad_action (Err bad) = Some (BadActionOf bad)
+
+-- what is wrong with an action of a terminal's host behind the lines above
+abbrev pub action_fault : ℕ → List Text → Head → Option LineFault
+action_fault address text above = if has address above.addresses then bad_action (in_words text) else Some Terminal
 
 -- what is wrong with a fault of a message behind these: a fifth one, or one out of its ranges
 abbrev pub plan_fault : List Planned → PlannedFault → ℕ → Option LineFault
@@ -100,11 +106,13 @@ place_fault script above = if is_none_yet above.channels then Some Order else No
 place_fault (channel n) above = if is_none_yet above.channels then None else Some Order
 place_fault (start n) above = if is_none_yet above.starts then None else Some Order
 place_fault (terminal n) above = if has n above.addresses then Some Terminal else None
-place_fault (action number address text) above = if has address above.addresses then bad_action (in_words text)
-    else Some Terminal
+place_fault (action number address text) above = action_fault address text above
 place_fault (control number text) above = bad_action (control_in text)
 place_fault (fault number f) above = plan_fault above.plan f number
 place_fault (faults span f) above = first_fault (map (plan_fault above.plan f) (numbers_of span))
+place_fault (timed_action moment address text) above = action_fault address text above
+place_fault (timed_control moment text) above = bad_action (control_in text)
+place_fault (timed_fault occasion f) above = if is_in_range f then None else Some (BadFaultOf OutOfRange)
 place_fault (series s) above =
     if has_room (span_count s.span) above
     then (if has s.address above.addresses then None else Some Terminal)
@@ -146,6 +154,9 @@ takes_room (Some (control number text)) = true
 takes_room (Some (fault number f)) = true
 takes_room (Some (faults span f)) = true
 takes_room (Some (series s)) = true
+takes_room (Some (timed_action moment address text)) = true
+takes_room (Some (timed_control moment text)) = true
+takes_room (Some (timed_fault occasion f)) = true
 
 abbrev pub takes_room_at : List Text → Bool
 takes_room_at [] = false
@@ -210,7 +221,7 @@ pub record HasInsertsFault (head : Head) (below : Text) : Type 0 where
   pub tree : Tree
   pub spells : tree_of_text below ≡ Ok tree
   pub well : HasProgram (code_of_tree tree)
-  pub many : AreTooMany head.actions (code_of_tree tree)
+  pub many : AreTooMany head.actions head.timed.whens (code_of_tree tree)
 
 pub record IsInsertsFault (text : Text) (line : ℕ) : Type 0 where
   pub head : Head
@@ -263,6 +274,15 @@ IsScriptRefused head line below (error.Loading n why) = (is_none_yet head.channe
 IsScriptRefused head line below (error.Inserts n) = (is_none_yet head.channels ≡ false) × (n ≡ line)
     × HasInsertsFault head below
 IsScriptRefused head line below error.Memory = is_none_yet head.channels ≡ false
+
+-- the messages that the lines above a script have inserted and those that it sends at worst are too many
+abbrev pub IsInsertsRefusal : ℕ → Head → Code → JobError → Type 0
+IsInsertsRefusal line head code (error.Line n why) = ⊥
+IsInsertsRefusal line head code (error.Script cause place) = ⊥
+IsInsertsRefusal line head code (error.Assembly n why) = ⊥
+IsInsertsRefusal line head code (error.Loading n why) = ⊥
+IsInsertsRefusal line head code (error.Inserts n) = (n ≡ line) × AreTooMany head.actions head.timed.whens code
+IsInsertsRefusal line head code error.Memory = Unit {0}
 
 -- a fault of the script stands at its place in it, whose line in front is this
 abbrev pub IsPlacedBelow : ℕ → Text → JobError → Type 0

@@ -11,7 +11,14 @@ use Rattle.mil_line.specs.declared.faults.Fault.{Fault}
 use Rattle.mil_line.specs.Plans.{Planned, faults_of}
 use Rattle.mil_line.specs.Ranges.{is_number, is_in_range}
 use Rattle.job_file.specs.Lines.{Said, blank, script, channel, start, terminal, action, control, fault, faults}
-use Rattle.job_file.specs.Lines.{series}
+use Rattle.job_file.specs.Lines.{series, timed_action, timed_control, timed_fault}
+use Rattle.job_file.specs.Whens.{turns_of}
+use Rattle.job_file.specs.TimedLines.{Timed}
+use Rattle.job_file.specs.declared.timed.TimedAction.{TimedAction}
+use Rattle.job_moments.specs.Planning.{PlannedFault}
+use Rattle.job_moments.specs.declared.moments.Moment.{Moment}
+use Rattle.job_moments.specs.declared.occasions.Turns.{Turns}
+use Rattle.job_moments.specs.declared.occasions.Occasion.TheVariants.{Numbers}
 use Rattle.job_file.specs.Spans.{span_count, numbers_of, placed_by}
 use Rattle.bc_machine.specs.declared.placed.Placed.{Placed}
 use Rattle.bc_machine.specs.declared.placed.HostAction.TheVariants.{Terminal, Controller}
@@ -19,7 +26,8 @@ use Rattle.controller_host.specs.declared.controls.Control.{Control}
 use Rattle.controller_text.specs.Reading.{control_in}
 
 -- the channels that are named, the start ticks, the addresses of the terminals, the hosts' actions and the planned
--- faults, each in the order of the lines; and how many of the actions are those of series
+-- faults that are placed by number, each in the order of the lines; how many of the actions are those of series; and
+-- what is said by time and by command
 pub record Head : Type 0 where
   pub channels : List ℕ
   pub starts : List ℕ
@@ -27,6 +35,7 @@ pub record Head : Type 0 where
   pub actions : List Placed
   pub plan : List Planned
   pub from_series : ℕ
+  pub timed : Timed
 
 abbrev pub channel_of : Said → Option ℕ
 channel_of (channel n) = Some n
@@ -60,6 +69,43 @@ planned_of (fault number f) = (number, f) ∷ []
 planned_of (faults span f) = map (λ number. (number, f)) (numbers_of span)
 planned_of _ = []
 
+-- the action of a terminal's host, or of the controller's, at a moment
+abbrev pub placing_then : Moment → ℕ → Result Action BadAction → Option TimedAction
+placing_then moment address (Ok a) = Some (record { moment = moment; action = Terminal address a })
+placing_then moment address (Err bad) = None
+
+abbrev pub asking_then : Moment → Result Control BadAction → Option TimedAction
+asking_then moment (Ok asked) = Some (record { moment = moment; action = Controller asked })
+asking_then moment (Err bad) = None
+
+abbrev pub whens_of : Said → List TimedAction
+whens_of (timed_action moment address text) = option_to_list (placing_then moment address (in_words text))
+whens_of (timed_control moment text) = option_to_list (asking_then moment (control_in text))
+whens_of _ = []
+
+-- one message alone
+abbrev pub turn_at : ℕ → Turns
+turn_at number = record { first = number; last = number; step = 1 }
+
+-- the fault of a line, and when it is due: by number too
+abbrev pub occasions_of : Said → List PlannedFault
+occasions_of (fault number f) = record { occasion = Numbers (turn_at number); fault = f } ∷ []
+occasions_of (faults span f) = record { occasion = Numbers (turns_of span); fault = f } ∷ []
+occasions_of (timed_fault occasion f) = record { occasion = occasion; fault = f } ∷ []
+occasions_of _ = []
+
+abbrev pub is_fault_in_time : Said → Bool
+is_fault_in_time (timed_fault occasion f) = true
+is_fault_in_time _ = false
+
+-- what lines say by time and by command
+abbrev pub timed_of : List Said → Timed
+timed_of lines = record {
+  whens = flat_map whens_of lines;
+  faults = flat_map occasions_of lines;
+  is_timed = list_any is_fault_in_time lines;
+}
+
 abbrev pub in_series : Said → ℕ
 in_series (series s) = span_count s.span
 in_series _ = 0
@@ -72,6 +118,7 @@ head_of lines = record {
   actions = flat_map placed_of lines;
   plan = flat_map planned_of lines;
   from_series = sum_by in_series lines;
+  timed = timed_of lines;
 }
 
 abbrev pub is_none_yet : List ℕ → Bool
@@ -103,6 +150,9 @@ may_stand (control number text) above = is_ok (control_in text)
 may_stand (fault number f) above = may_plan number f above.plan
 may_stand (faults span f) above = list_all (λ number. may_plan number f above.plan) (numbers_of span)
 may_stand (series s) above = has_room (span_count s.span) above && has s.address above.addresses
+may_stand (timed_action moment address text) above = has address above.addresses && is_ok (in_words text)
+may_stand (timed_control moment text) above = is_ok (control_in text)
+may_stand (timed_fault occasion f) above = is_in_range f
 
 -- each line may stand behind those before it
 abbrev pub are_lawful : List Said → List Said → Bool

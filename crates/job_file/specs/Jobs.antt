@@ -10,7 +10,7 @@ use Rattle.bc_machine.specs.Agendas.{inserts_among}
 use Rattle.bc_machine.specs.declared.placed.Placed.{Placed}
 use Rattle.job_file.specs.JobRanges.{may_act}
 use Rattle.job_file.specs.Scripts.{tree_spelled, IsProgramOf}
-use Rattle.job_file.specs.Spelled.{ChannelJob}
+use Rattle.job_file.specs.ChannelJobs.{ChannelJob}
 use Rattle.job_file.specs.declared.scripts.Script.{Script}
 
 pub record JobState : Type 0 where

@@ -10,7 +10,17 @@ use Rattle.mil_line.specs.declared.faults.Fault.TheVariants.{Mask, Drop, Add, La
 use Rattle.mil_line.specs.declared.faults.Fault.TheVariants.{Pause, Babble}
 use Rattle.job_file.specs.Options.{◌>>=◌}
 use Rattle.numerals.specs.Numerals.{data_word_of}
+use Rattle.job_moments.specs.declared.moments.Moment.{Moment}
+use Rattle.job_moments.specs.declared.occasions.Occasion.{Occasion}
+use Rattle.job_moments.specs.declared.occasions.Occasion.TheVariants.{Once, Places, Window}
 use Rattle.job_file.specs.Numbers.{number_of, number_within, start_of, half_bits_of}
+use Rattle.job_file.specs.Whens.{when_words, when_of, which_words, which_of, turns_of}
+use Rattle.job_file.specs.declared.whens.When.{When}
+use Rattle.job_file.specs.declared.whens.When.TheVariants as when
+use Rattle.job_file.specs.declared.whens.Which.{Which}
+use Rattle.job_file.specs.declared.whens.Which.TheVariants as which
+pub use Rattle.job_file.specs.Parts.{first, ended, one, two, three, four, front}
+pub use Rattle.job_file.specs.Whens.{span_of}
 use Rattle.job_file.specs.declared.keywords.Keyword.{Keyword}
 use Rattle.job_file.specs.declared.keywords.Keyword.TheVariants as keyword
 use Rattle.job_file.specs.declared.keywords.FaultWord.{FaultWord}
@@ -36,6 +46,12 @@ pub data Said : Type 0 where
   faults : Span → Fault → Said
   -- messages, and what a terminal's host puts up before each of them
   series : Series → Said
+  -- a moment by time or by command, the address of a terminal, and the words of its host's action
+  timed_action : Moment → ℕ → List Text → Said
+  -- such a moment, and the words of what the host of the controller asks for
+  timed_control : Moment → List Text → Said
+  -- when a fault that is not planned by number is due, and the fault
+  timed_fault : Occasion → Fault → Said
 
 abbrev pub keyword_of : Text → Option Keyword
 keyword_of w =
@@ -72,35 +88,10 @@ sync_of w =
     else if bytes_eq w (codes "d") then Some DataSync
     else None
 
--- the first word and those behind it; exactly one word, or two, three or four
-abbrev pub first : List Text → Option (Text × List Text)
-first [] = None
-first (w ∷ ws) = Some (w, ws)
-
-abbrev pub ended : {X : Type 0} → List Text → X → Option X
-ended [] x = Some x
-ended (w ∷ ws) x = None
-
-unfoldable pub one : List Text → Option Text
-one ws = first ws >>= (λ a. ended a.1 a.0)
-
-unfoldable pub two : List Text → Option (Text × Text)
-two ws = first ws >>= (λ a. one a.1 >>= (λ b. Some (a.0, b)))
-
-unfoldable pub three : List Text → Option (Text × Text × Text)
-three ws = first ws >>= (λ a. two a.1 >>= (λ b. Some (a.0, b.0, b.1)))
-
-unfoldable pub four : List Text → Option (Text × Text × Text × Text)
-four ws = first ws >>= (λ a. three a.1 >>= (λ b. Some (a.0, b.0, b.1, b.2)))
-
 -- exactly two words, each a number
 unfoldable pub two_numbers : List Text → Option (ℕ × ℕ)
 two_numbers ws =
     two ws >>= (λ w. number_of w.0 >>= (λ first. number_of w.1 >>= (λ second. Some (first, second))))
-
--- the first three words and those behind them
-unfoldable pub front : List Text → Option ((Text × Text × Text) × List Text)
-front ws = first ws >>= (λ a. first a.1 >>= (λ b. first b.1 >>= (λ c. Some ((a.0, b.0, c.0), c.1))))
 
 -- `mask RUN INDEX HALF_BITS`, `drop RUN INDEX`, `add RUN INDEX c|d WORD`, `late RUN TICKS`, `mute RUN`,
 -- `early RUN TICKS`, `pause RUN INDEX TICKS` and `babble RUN COUNT WORD`
@@ -143,34 +134,44 @@ start_in ws = one ws >>= (λ w. start_of w >>= (λ n. Some (start n)))
 unfoldable pub terminal_in : List Text → Option Said
 terminal_in ws = one ws >>= (λ w. number_within 0 highest_address w >>= (λ n. Some (terminal n)))
 
--- behind the number of a message the address of a terminal and the words of an action, or `bc` and those of what the
--- host of the controller asks for
-abbrev pub action_at : ℕ → Text → List Text → Option Said
-action_at number host ws =
-    if is_controller host then Some (control number ws)
-    else (number_within 0 highest_address host >>= (λ address. Some (action number address ws)))
+abbrev pub control_at : When → List Text → Said
+control_at (when.Number number) ws = control number ws
+control_at (when.Moment moment) ws = timed_control moment ws
+
+abbrev pub terminal_action_at : When → ℕ → List Text → Said
+terminal_action_at (when.Number number) address ws = action number address ws
+terminal_action_at (when.Moment moment) address ws = timed_action moment address ws
+
+-- behind a WHEN the address of a terminal and the words of an action, or `bc` and those of what the host of the
+-- controller asks for
+abbrev pub action_at : When → Text → List Text → Option Said
+action_at w host ws =
+    if is_controller host then Some (control_at w ws)
+    else (number_within 0 highest_address host >>= (λ address. Some (terminal_action_at w address ws)))
 
 unfoldable pub action_in : List Text → Option Said
 action_in ws =
-    first ws >>= (λ n. first n.1 >>= (λ a. first a.1 >>= (λ more.
-    number_within 1 1000000 n.0 >>= (λ number. action_at number a.0 a.1))))
+    when_words ws >>= (λ w. first w.1 >>= (λ a. first a.1 >>= (λ more.
+    when_of 1 1000000 w.0 >>= (λ w. action_at w a.0 a.1))))
+
+abbrev pub fault_by : When → Fault → Said
+fault_by (when.Number number) f = fault number f
+fault_by (when.Moment moment) f = timed_fault (Once moment) f
 
 unfoldable pub fault_in : List Text → Option Said
 fault_in ws =
-    first ws >>= (λ n. first n.1 >>= (λ k. fault_word_of k.0 >>= (λ kind. fault_of kind k.1 >>= (λ f.
-    number_of n.0 >>= (λ number. Some (fault number f))))))
+    when_words ws >>= (λ w. first w.1 >>= (λ k. fault_word_of k.0 >>= (λ kind. fault_of kind k.1 >>= (λ f.
+    when_of 0 9999999 w.0 >>= (λ w. Some (fault_by w f))))))
 
--- `FIRST LAST STEP`
-unfoldable pub span_of : Text × Text × Text → Option Span
-span_of w =
-    number_within 1 1000000 w.0 >>=
-    (λ low. number_within low 1000000 w.1 >>= (λ high. number_within 1 1000000 w.2 >>= (λ step.
-    Some (record { first = low; last = high; step = step }))))
+abbrev pub faults_by : Which → Fault → Said
+faults_by (which.Numbers span) f = faults span f
+faults_by (which.Places selector span) f = timed_fault (Places selector (turns_of span)) f
+faults_by (which.Window selector from to) f = timed_fault (Window selector from to) f
 
 unfoldable pub faults_in : List Text → Option Said
 faults_in ws =
-    front ws >>= (λ n. first n.1 >>= (λ k. fault_word_of k.0 >>= (λ kind. fault_of kind k.1 >>= (λ f.
-    span_of n.0 >>= (λ span. Some (faults span f))))))
+    which_words ws >>= (λ w. first w.1 >>= (λ k. fault_word_of k.0 >>= (λ kind. fault_of kind k.1 >>= (λ f.
+    which_of w.0 >>= (λ w. Some (faults_by w f))))))
 
 -- `ADDRESS SUB START ADD` of these messages
 unfoldable pub series_of : Span → Text × Text × Text × Text → Option Series

@@ -9,7 +9,7 @@ use Rattle.bc_machine.specs.declared.placed.Placed.{Placed}
 use Rattle.bc_machine.specs.Controller.{outcome_in}
 use Rattle.bc_machine.specs.Running.{MachineState, HasEnded, started, stepped}
 use Rattle.bc_machine.specs.UnderWay.{IsUnderWay}
-use Rattle.job_file.specs.Spelled.{ChannelJob}
+use Rattle.job_file.specs.ChannelJobs.{ChannelJob}
 use Rattle.job_file.specs.Meaning.{bus_of, records_in, records, bus_after, made_after}
 
 -- a controller under way that runs the job's script, from new terminals, under the job's planned faults and these

@@ -12,7 +12,7 @@ use Rattle.frame_asm.specs.Shapes.{code_of_tree}
 use Rattle.bc_machine.specs.Controller.{Setting, BusRun, world_in, drained, all_count}
 use Rattle.bc_machine.specs.MadeMessages.{MadeMessage}
 use Rattle.bc_machine.specs.Running.{beginning, most_inserted}
-use Rattle.job_file.specs.Spelled.{ChannelJob}
+use Rattle.job_file.specs.ChannelJobs.{ChannelJob}
 
 -- its bus before any message
 abbrev pub bus_of : ChannelJob → BusState

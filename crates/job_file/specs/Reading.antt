@@ -1,5 +1,6 @@
 -- What the reading of a job answers.
-use Rattle.std.specs.Prelude.{◌≡◌, ◌+◌, ◌<◌, ◌≤◌, true, false, Bool, List, length, Option, Some, None, Result, Ok, Err}
+use Rattle.std.specs.Prelude.{◌≡◌, ℕ, ◌+◌, ◌<◌, ◌≤◌, true, false, Bool, List, length}
+use Rattle.std.specs.Prelude.{Option, Some, None, Result, Ok, Err}
 use Rattle.frame_tree.specs.Tree.{Tree}
 use Rattle.frame_text.specs.declared.faults.Cause.{Cause}
 use Rattle.frame_code.specs.Table.{Code}
@@ -10,13 +11,15 @@ use Rattle.frame_load.specs.Budget.{worst_messages}
 use Rattle.frame_load.specs.Judging.{IsWithin, HasShortPeriods}
 use Rattle.bc_machine.specs.declared.placed.Placed.{Placed}
 use Rattle.job_file.specs.Jobs.{own_inserts}
+use Rattle.job_file.specs.TimedLines.{timed_inserts}
+use Rattle.job_file.specs.declared.timed.TimedAction.{TimedAction}
 use Rattle.frame_load.specs.declared.error.LoadError.{LoadError}
 use Rattle.frame_load.specs.declared.error.LoadError.TheVariants as loader
 use Rattle.job_file.specs.Lines.{Said}
 use Rattle.job_file.specs.Entries.{IsInRange}
 use Rattle.job_file.specs.HeadLines.{Head, may_stand}
 use Rattle.job_file.specs.Drafts.{with_line}
-use Rattle.job_file.specs.Spelled.{ChannelJob, is_script}
+use Rattle.job_file.specs.Spelled.{Written, is_script}
 use Rattle.job_file.specs.declared.error.Refusal.{Refusal}
 use Rattle.job_file.specs.declared.error.Refusal.TheVariants as refusal
 use Rattle.job_file.specs.declared.error.JobError.{JobError}
@@ -71,9 +74,13 @@ pub record HasProgram (code : Code) : Type 0 where
   pub within : IsWithin code
   pub short : HasShortPeriods code
 
+-- how many messages the lines of a job have inserted, by number, by time and by command
+abbrev pub all_inserts : List Placed → List TimedAction → ℕ
+all_inserts actions whens = own_inserts actions + timed_inserts whens
+
 -- the messages that a job has inserted and those that its code sends at worst are more than 1,000,000
-abbrev pub AreTooMany : List Placed → Code → Type 0
-AreTooMany actions code = 1000000 < own_inserts actions + worst_messages code.operations
+abbrev pub AreTooMany : List Placed → List TimedAction → Code → Type 0
+AreTooMany actions whens code = 1000000 < all_inserts actions whens + worst_messages code.operations
 
 abbrev pub IsCodeRefusal : Code → JobError → Type 0
 IsCodeRefusal code (error.Assembly line why) = IsTooLong code why
@@ -83,13 +90,13 @@ IsCodeRefusal code _ = ⊥
 
 -- A refusal for a cause other than memory: there is no job, or its script has an image that is too long or that the
 -- loader refuses for its budget or its periods.
-abbrev pub IsJobRefusal : Option ChannelJob → JobError → Type 0
-IsJobRefusal spelled (error.Line line why) = spelled ≡ None
-IsJobRefusal spelled (error.Script cause place) = spelled ≡ None
-IsJobRefusal spelled (error.Assembly line why) = (job : ChannelJob) × (spelled ≡ Some job)
-    × IsTooLong (code_of_tree job.tree) why
-IsJobRefusal spelled (error.Loading line why) = (job : ChannelJob) × (spelled ≡ Some job)
-    × IsTooMuch (code_of_tree job.tree) why
-IsJobRefusal spelled (error.Inserts line) = (job : ChannelJob) × (spelled ≡ Some job)
-    × AreTooMany job.actions (code_of_tree job.tree)
-IsJobRefusal spelled error.Memory = Unit {0}
+abbrev pub IsJobRefusal : Option Written → JobError → Type 0
+IsJobRefusal written (error.Line line why) = written ≡ None
+IsJobRefusal written (error.Script cause place) = written ≡ None
+IsJobRefusal written (error.Assembly line why) = (w : Written) × (written ≡ Some w)
+    × IsTooLong (code_of_tree w.job.tree) why
+IsJobRefusal written (error.Loading line why) = (w : Written) × (written ≡ Some w)
+    × IsTooMuch (code_of_tree w.job.tree) why
+IsJobRefusal written (error.Inserts line) = (w : Written) × (written ≡ Some w)
+    × AreTooMany w.job.actions w.timed.whens (code_of_tree w.job.tree)
+IsJobRefusal written error.Memory = Unit {0}

@@ -4,27 +4,14 @@ use Rattle.std.specs.Result.{result_ok}
 use Rattle.std.specs.List.{join_with_byte}
 use Rattle.text_lines.specs.Lines.{lines_of}
 use Rattle.text_lines.specs.Words.{Text}
-use Rattle.mil_line.specs.Plans.{Planned}
 use Rattle.frame_tree.specs.Tree.{Tree}
 use Rattle.frame_text.specs.Frames.{tree_of_text}
 use Rattle.job_file.specs.Options.{◌>>=◌}
 use Rattle.job_file.specs.Lines.{Said, script, said}
 use Rattle.job_file.specs.HeadLines.{Head, head_of, are_lawful}
-use Rattle.bc_machine.specs.declared.placed.Placed.{Placed}
-
--- all that is to be known of a channel's bus
-pub record ChannelJob : Type 0 where
-  pub channel : ℕ
-  -- the start tick
-  pub start : ℕ
-  -- the addresses of the terminals
-  pub addresses : List ℕ
-  -- the hosts' actions, in the order of the text
-  pub actions : List Placed
-  -- the planned faults, in the order of the text
-  pub plan : List Planned
-  -- what the script spells
-  pub tree : Tree
+use Rattle.job_file.specs.TimedLines.{Timed}
+use Rattle.job_file.specs.Timed.{resolved}
+pub use Rattle.job_file.specs.ChannelJobs.{ChannelJob}
 
 -- lines as a text again
 abbrev pub joined_lines : List Text → Text
@@ -71,17 +58,33 @@ job_with channel head tree = record {
   tree = tree;
 }
 
--- the job of the lines above the script, and the script: the channel has to be named
-abbrev pub job_of : Head → Text → Option ChannelJob
-job_of head text =
-    first_of head.channels >>= (λ channel. result_ok (tree_of_text text) >>=
-    (λ tree. Some (job_with channel head tree)))
+-- what the lines and the script of a text say: the job with what is placed by number alone, and what is said by time
+-- and by command
+pub record Written : Type 0 where
+  pub job : ChannelJob
+  pub timed : Timed
 
-abbrev pub job_of_lines : List Text → Option ChannelJob
-job_of_lines lines =
+abbrev pub written_with : ℕ → Head → Tree → Written
+written_with channel head tree = record { job = job_with channel head tree; timed = head.timed }
+
+-- the lines above the script, and the script: the channel has to be named
+abbrev pub written_of : Head → Text → Option Written
+written_of head text =
+    first_of head.channels >>= (λ channel. result_ok (tree_of_text text) >>=
+    (λ tree. Some (written_with channel head tree)))
+
+abbrev pub written_in : List Text → Option Written
+written_in lines =
     parted lines >>= (λ parts. all_said parts.0 >>= (λ said. lawful [] said >>= (λ heads.
-    job_of (head_of heads) (joined_lines parts.1))))
+    written_of (head_of heads) (joined_lines parts.1))))
+
+unfoldable pub written : Text → Option Written
+written text = written_in (lines_of text)
+
+-- the job that is meant: what is said by time and by command stands at the numbers at which it is due
+abbrev pub job_meant : Option Written → Option ChannelJob
+job_meant w = w >>= (λ w. Some (resolved w.job w.timed))
 
 -- the job that a text spells, if it spells one
 unfoldable pub spelled : Text → Option ChannelJob
-spelled text = job_of_lines (lines_of text)
+spelled text = job_meant (written text)

@@ -1,23 +1,31 @@
 //! A job as far as its lines were read.
-ghost use Rattle.job_file.specs.Drafts.{shown, with_action, Takes};
+ghost use Rattle.job_file.specs.Drafts.{shown, with_action, with_each, with_occasion, with_when_at, Takes, MayTake};
 ghost use Rattle.job_file.specs.Entries.{said_by, IsInRange};
 ghost use Rattle.job_file.specs.Faults.{IsEntryRefused, IsLineRefused, are_line_words, plan_fault, first_fault};
-ghost use Rattle.job_file.specs.HeadLines.{has};
+ghost use Rattle.job_file.specs.Faults.{action_fault, place_fault};
+ghost use Rattle.job_file.specs.TimedLines.{nothing_yet};
+ghost use Rattle.job_moments.specs.Planning.{MayStand};
+ghost use Rattle.mil_host.specs.Reading.{in_words};
+ghost use Rattle.job_file.specs.HeadLines.{has, turn_at};
 ghost use Rattle.job_file.specs.Lines as says;
-ghost use Rattle.job_file.specs.Lines.{terminal, action, control, said};
-ghost use Rattle.job_file.specs.Reading.{TakesLine, IsLineInRange};
+ghost use Rattle.job_file.specs.Lines.{terminal, action, control, timed_action, timed_control, timed_fault, said};
+ghost use Rattle.job_file.specs.Reading.{TakesLine, IsLineInRange, all_inserts};
 ghost use Rattle.job_file.specs.Spans.{IsSpan, numbers_of};
 ghost use Rattle.job_file.specs.declared.error.LineFault.TheVariants.{Order};
 ghost use Rattle.job_file.specs.declared.error.Refusal.TheVariants as refusal;
-ghost use Rattle.std.specs.Prelude.{◌≡◌, ◌<◌, ◌≤◌, true, [], map, Some, None, OnOk, OnErr, IfOk, IfErr};
+ghost use Rattle.std.specs.Prelude.{◌≡◌, ◌<◌, ◌≤◌, ◌&&◌, true, false, [], map, Some, None, Ok, nat_lt};
+ghost use Rattle.std.specs.Prelude.{OnOk, OnErr, IfOk, IfErr};
+ghost use Rattle.std.specs.Result.{is_ok};
 ghost use Rattle.text_lines.specs.Words.{words};
 
 use crate::error::{LineFault, Refusal};
-use crate::lines::{Entry, read_line};
+use crate::lines::{Entry, at_number, at_numbers, read_line};
 use crate::spans::{Series, Span};
+use crate::timed::TimedLines;
 use bc_machine::{Actions, HostAction, Placed};
 use controller_text::read_control;
-use mil_host::read_action;
+use job_moments::{Moment, Occasion};
+use mil_host::{Action, read_action};
 use mil_line::{Fault, LineError, Plan};
 use std::alloc::Global;
 
@@ -54,13 +62,21 @@ pub struct Draft {
     pub plan: Plan,
     /// How many of the actions are those of series.
     pub from_series: u32,
+    pub timed: TimedLines,
 }
 
 impl Draft {
     /// Nothing was said.
     pub fn make(alloc: Global) -> Draft
-        ensures { shown result ≡ record
-            { channels = []; starts = []; addresses = []; actions = []; plan = []; from_series = 0 } }
+        ensures { shown result ≡ record {
+          channels = [];
+          starts = [];
+          addresses = [];
+          actions = [];
+          plan = [];
+          from_series = 0;
+          timed = nothing_yet;
+        } }
     {
         Draft {
             channel: None,
@@ -69,6 +85,7 @@ impl Draft {
             actions: Actions::new(alloc),
             plan: Plan::make(alloc),
             from_series: 0,
+            timed: TimedLines::none(alloc),
         }
     }
 
@@ -91,19 +108,86 @@ impl Draft {
         }
     }
 
+    /// The action of a terminal's host, whose terminal a line above names.
     #[tactic(auto, unfolding(mil_host::specs::Reading::action_in))]
+    fn terminal_action(&self, address: u8, text: &[u8]) -> Result<Action, LineFault>
+        ensures read { IfOk result
+            (λ a. (has address self.now.addresses.items ≡ true) × (in_words (words text.now) ≡ Ok a)) }
+        ensures wrong { IfErr result (λ why. action_fault address (words text.now) (shown self.now) ≡ Some why) }
+        ensures stands { IfErr result
+            (λ _. (has address self.now.addresses.items && is_ok (in_words (words text.now))) ≡ false) }
+    {
+        if !self.has(address) {
+            return Err(LineFault::Terminal);
+        }
+        match read_action(text) {
+            Ok(action) => Ok(action),
+            Err(bad) => Err(LineFault::Action(bad)),
+        }
+    }
+
     fn place(&mut self, number: u32, address: u8, text: &[u8]) -> Result<(), Refusal>
         ensures takes { Takes (action number address (words text.now)) (shown self.old) (shown self.new) result }
         ensures refused { IfErr result (IsEntryRefused (action number address (words text.now)) (shown self.old)) }
     {
-        if !self.has(address) {
-            return Err(Refusal::Line(LineFault::Terminal));
-        }
-        let action = match read_action(text) {
-            Ok(action) => action,
-            Err(bad) => return Err(Refusal::Line(LineFault::Action(bad))),
-        };
+        let action = self.terminal_action(address, text)?;
         self.add(number, HostAction::Terminal { address, action })
+    }
+
+    fn place_then(&mut self, moment: Moment, address: u8, text: &[u8]) -> Result<(), Refusal>
+        ensures takes { Takes (timed_action moment address (words text.now)) (shown self.old) (shown self.new) result }
+        ensures refused { IfErr result
+            (IsEntryRefused (timed_action moment address (words text.now)) (shown self.old)) }
+    {
+        let action = self.terminal_action(address, text)?;
+        self.add_then(moment, HostAction::Terminal { address, action })
+    }
+
+    /// Puts an action at a moment behind the others.
+    fn add_then(&mut self, moment: Moment, action: HostAction) -> Result<(), Refusal>
+        ensures added { OnOk result (shown self.new ≡ with_when_at moment action (shown self.old)) }
+        ensures memory { IfErr result (λ f. f ≡ refusal.Memory) }
+    {
+        match self.timed.add_when(moment, action) {
+            Ok(()) => Ok(()),
+            Err(_) => Err(Refusal::Memory),
+        }
+    }
+
+    /// Puts a fault, and when it is due, behind the others.
+    fn add_fault(&mut self, occasion: &Occasion, fault: &Fault) -> Result<(), Refusal>
+        requires { MayStand occasion.now }
+        ensures added { OnOk result (shown self.new ≡ with_occasion occasion.now fault.now (shown self.old)) }
+        ensures memory { IfErr result (λ f. f ≡ refusal.Memory) }
+    {
+        match self.timed.add_fault(*occasion, *fault) {
+            Ok(()) => Ok(()),
+            Err(_) => Err(Refusal::Memory),
+        }
+    }
+
+    #[tactic(auto, unfolding(controller_text::specs::Reading::control_in))]
+    fn place_control_then(&mut self, moment: Moment, text: &[u8]) -> Result<(), Refusal>
+        ensures takes { Takes (timed_control moment (words text.now)) (shown self.old) (shown self.new) result }
+        ensures refused { IfErr result (IsEntryRefused (timed_control moment (words text.now)) (shown self.old)) }
+    {
+        match read_control(text) {
+            Ok(control) => self.add_then(moment, HostAction::Controller(control)),
+            Err(why) => Err(Refusal::Line(LineFault::Action(why))),
+        }
+    }
+
+    fn plan_then(&mut self, occasion: &Occasion, fault: &Fault) -> Result<(), Refusal>
+        requires { MayStand occasion.now }
+        ensures takes { Takes (timed_fault occasion.now fault.now) (shown self.old) (shown self.new) result }
+        ensures refused { IfErr result (IsEntryRefused (timed_fault occasion.now fault.now) (shown self.old)) }
+    {
+        if !fault.is_in_range() {
+            return Err(Refusal::Line(LineFault::Fault(LineError::OutOfRange)));
+        }
+        self.add_fault(occasion, fault)?;
+        self.timed.find_faults();
+        Ok(())
     }
 
     /// Puts an action behind the others.
@@ -134,10 +218,11 @@ impl Draft {
         ensures refused { IfErr result (IsEntryRefused (says.fault number fault) (shown self.old)) }
     {
         match self.plan.add(number, fault) {
-            Ok(()) => Ok(()),
-            Err(LineError::Memory) => Err(Refusal::Memory),
-            Err(bad) => Err(Refusal::Line(LineFault::Fault(bad))),
+            Ok(()) => {}
+            Err(LineError::Memory) => return Err(Refusal::Memory),
+            Err(bad) => return Err(Refusal::Line(LineFault::Fault(bad))),
         }
+        self.add_fault(&at_number(number), &fault)
     }
 
     /// Whether one more fault may be planned for the message of this number.
@@ -170,11 +255,13 @@ impl Draft {
         Ok(())
     }
 
-    /// The messages are judged before any of them is planned for, so that want of memory hides no refusal. They differ,
-    /// so that memory alone can be refused then.
-    fn plan_faults(&mut self, span: Span, fault: Fault) -> Result<(), Refusal>
+    /// Plans a fault for each of these messages. They are judged before any of them is planned for, so that want of
+    /// memory hides no refusal. They differ, so that memory alone can be refused then.
+    fn plan_each(&mut self, span: Span, fault: Fault) -> Result<(), Refusal>
         requires { IsSpan span }
-        ensures takes { Takes (says.faults span fault) (shown self.old) (shown self.new) result }
+        ensures stands { MayTake (says.faults span fault) (shown self.old) result }
+        ensures planned { OnOk result (shown self.new ≡ with_each span fault (shown self.old)) }
+        ensures well { OnOk result (place_fault (says.faults span fault) (shown self.old) ≡ None) }
         ensures refused { IfErr result (IsEntryRefused (says.faults span fault) (shown self.old)) }
     {
         self.may_plan_all(span, &fault)?;
@@ -185,6 +272,15 @@ impl Draft {
             }
         }
         Ok(())
+    }
+
+    fn plan_faults(&mut self, span: Span, fault: Fault) -> Result<(), Refusal>
+        requires { IsSpan span }
+        ensures takes { Takes (says.faults span fault) (shown self.old) (shown self.new) result }
+        ensures refused { IfErr result (IsEntryRefused (says.faults span fault) (shown self.old)) }
+    {
+        self.plan_each(span, fault)?;
+        self.add_fault(&at_numbers(span), &fault)
     }
 
     /// Room for the actions is made at once, since a series may have a million.
@@ -237,8 +333,23 @@ impl Draft {
             Entry::Fault { number, fault } => self.plan_fault(*number, *fault)?,
             Entry::Faults { span, fault } => self.plan_faults(*span, *fault)?,
             Entry::Series(series) => self.place_series(series)?,
+            Entry::TimedAction {
+                moment,
+                address,
+                text,
+            } => self.place_then(*moment, *address, text)?,
+            Entry::TimedControl { moment, text } => self.place_control_then(*moment, text)?,
+            Entry::TimedFault { occasion, fault } => self.plan_then(occasion, fault)?,
         }
         Ok(Taken::Line)
+    }
+
+    /// Whether more messages than so many are inserted.
+    pub fn has_more_inserts(&self, most: u64) -> bool
+        ensures { result ≡ nat_lt most (all_inserts self.now.actions self.now.timed.whens) }
+    {
+        let by_number = self.actions.inserts();
+        by_number > most || self.timed.inserts() > most - by_number
     }
 
     /// Takes in one more line.

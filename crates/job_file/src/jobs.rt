@@ -1,5 +1,6 @@
 //! A job: all that is to be known of a channel's bus.
 ghost use Rattle.bc_machine.specs.Running.{started};
+ghost use Rattle.bc_machine.specs.UnderWay.{IsUnderWay};
 ghost use Rattle.frame_asm.specs.Shapes.{code_of_tree};
 ghost use Rattle.frame_load.specs.Budget.{worst_messages};
 ghost use Rattle.frame_tree.specs.Bounds.{IsSound};
@@ -13,10 +14,11 @@ ghost use Rattle.job_file.specs.Scripts.{tree_spelled, IsProgramOf};
 ghost use Rattle.job_file.specs.Spelled.{job_with};
 ghost use Rattle.mil_bus.specs.Addresses.{is_fit};
 ghost use Rattle.std.specs.List.{list_all};
-ghost use Rattle.std.specs.Prelude.{◌≡◌, ◌+◌, ◌≤◌, true, Some, IfOk};
+ghost use Rattle.std.specs.Prelude.{◌≡◌, ◌+◌, ◌≤◌, [], true, Some, IfOk};
 
 use crate::drafts::Draft;
 use crate::scripts::Script;
+use crate::timed::TimedLines;
 use bc_machine::{Actions, Machine};
 use frame_load::Program;
 use mil_bus::Bus;
@@ -35,6 +37,8 @@ pub struct Job {
     plan: Plan,
     program: Program,
     script: Script,
+    /// Whether a line of its text was by time or by command.
+    is_resolved: bool,
 }
 
 impl Model for Job {
@@ -54,15 +58,22 @@ impl Model for Job {
 }
 
 impl Job {
-    /// The job of a draft that names its channel, with the program of its script.
-    pub(crate) fn make(channel: u16, draft: Draft, program: Program, script: Script) -> Job
+    /// The job of a draft that names its channel, with the program of its script, as far as it is said by number; and
+    /// what is said by time and by command.
+    pub(crate) fn make(
+        channel: u16,
+        draft: Draft,
+        program: Program,
+        script: Script,
+    ) -> (Job, TimedLines)
         requires channel { draft.channel ≡ Some channel }
         requires fit { IsFit (shown draft) }
         requires program { IsProgramOf script.text program }
         requires few { own_inserts draft.actions + worst_messages program.operations ≤ 1000000 }
-        ensures { job_in result ≡ job_with channel (shown draft) (tree_spelled script.text) }
+        ensures job { job_in result.0 ≡ job_with channel (shown draft) (tree_spelled script.text) }
+        ensures timed { result.1 ≡ draft.timed }
     {
-        Job {
+        let job = Job {
             channel,
             start: draft.start.unwrap_or(0),
             addresses: draft.addresses,
@@ -70,7 +81,9 @@ impl Job {
             plan: draft.plan,
             program,
             script,
-        }
+            is_resolved: false,
+        };
+        (job, draft.timed)
     }
 
     /// The number of the channel, 1 to 65,535.
@@ -79,6 +92,12 @@ impl Job {
         ensures low { 1 ≤ result }
     {
         self.channel
+    }
+
+    /// Whether a line of its text says by time or by command when something is due, so that its actions and faults
+    /// stand at numbers that no line names: where other messages come between, as in a live run, they are not those.
+    pub fn is_resolved(&self) -> bool {
+        self.is_resolved
     }
 
     /// When the first message starts, 0 to 2^47 ticks of 0.1 µs.
@@ -131,6 +150,26 @@ impl Job {
         self.program().worst_messages() + self.actions.inserts() + u64::from(posts) + 1
     }
 
+    /// A controller at the beginning of the job's program, on a bus with new terminals, under these planned faults and
+    /// placed actions. It fails for want of memory alone.
+    pub(crate) fn machine_under(
+        &self,
+        alloc: Global,
+        plan: Plan,
+        placed: &Actions,
+    ) -> Result<Machine, AllocError>
+        ensures value { IfOk result
+            (λ m. m ≡ started (code_of_tree (tree_in self.now)) (bus_of (job_in self.now)) plan placed.now) }
+        ensures under_way { IfOk result (λ m. IsUnderWay m) }
+    {
+        let program = self.program.copy()?;
+        let placed = placed.copy()?;
+        match Bus::make(alloc, self.start, self.addresses.as_slice()) {
+            Ok(bus) => Ok(Machine::start(program, bus, plan, placed)),
+            Err(_) => Err(AllocError),
+        }
+    }
+
     /// A controller at the beginning of the job's program, on a bus with new terminals, under the job's planned faults
     /// and these placed actions, which are not the job's own unless the caller hands in those. It fails for want of
     /// memory alone.
@@ -141,12 +180,55 @@ impl Job {
         ensures of_job { IfOk result (λ m. IsOf (job_in self.now) placed.now m) }
         ensures told { IfOk result (λ m. IsLatestOutcome m) }
     {
+        let plan = self.plan.copy()?;
+        Ok(self.machine_under(alloc, plan, placed)?)
+    }
+
+    /// A controller at the beginning of the job's program, on a bus with new terminals, under the job's planned faults
+    /// and its own placed actions, which it takes over, so that memory holds them once; and the job without them. It
+    /// fails for want of memory alone.
+    #[tactic(auto, using(crate::proofs::JobRuns::starts_as))]
+    pub fn into_machine(self, alloc: Global) -> Result<(Job, Machine), AllocError>
+        ensures rest { IfOk result (λ r. r.0 ≡ record self { actions = [] }) }
+        ensures value { IfOk result
+            (λ r. r.1 ≡ started (code_of_tree (tree_in self)) (bus_of (job_in self)) self.plan self.actions) }
+        ensures of_job { IfOk result (λ r. IsOf (job_in self) self.actions r.1) }
+        ensures told { IfOk result (λ r. IsLatestOutcome r.1) }
+    {
         let program = self.program.copy()?;
         let plan = self.plan.copy()?;
-        let placed = placed.copy()?;
-        match Bus::make(alloc, self.start, self.addresses.as_slice()) {
-            Ok(bus) => Ok(Machine::start(program, bus, plan, placed)),
-            Err(_) => Err(AllocError),
+        let Ok(bus) = Bus::make(alloc, self.start, self.addresses.as_slice()) else {
+            return Err(AllocError);
+        };
+        let machine = Machine::start(program, bus, plan, self.actions);
+        let rest = Job {
+            channel: self.channel,
+            start: self.start,
+            addresses: self.addresses,
+            actions: Actions::new(alloc),
+            plan: self.plan,
+            program: self.program,
+            script: self.script,
+            is_resolved: self.is_resolved,
+        };
+        Ok((rest, machine))
+    }
+
+    /// The same job with other actions and another plan.
+    pub(crate) fn by_number(self, actions: Actions, plan: Plan) -> Job
+        requires acts { list_all (may_act self.addresses) actions ≡ true }
+        requires few { own_inserts actions + worst_messages (code_of_tree (tree_in self)).operations ≤ 1000000 }
+        ensures { result ≡ record self { actions = actions; plan = plan } }
+    {
+        Job {
+            channel: self.channel,
+            start: self.start,
+            addresses: self.addresses,
+            actions,
+            plan,
+            program: self.program,
+            script: self.script,
+            is_resolved: true,
         }
     }
 }

@@ -2,8 +2,8 @@
 //! after so many messages.
 //!
 //! It may know: words, messages, host actions, what the host of a controller asks for, as values and as text, gaps and
-//! planned faults, the bus, the monitor, scripts from their text to the loader, the controller, histories, numbers and
-//! words of a text. Its tests: `frame_tests`. Its wrong bodies: `edits/`.
+//! planned faults, selectors of rules, moments, the bus, the monitor, scripts from their text to the loader, the
+//! controller, histories, numbers and words of a text. Its tests: `frame_tests`. Its wrong bodies: `edits/`.
 #![tactic(auto)]
 
 mod drafts;
@@ -13,11 +13,15 @@ mod keywords;
 mod laws;
 mod lines;
 mod numbers;
+mod parts;
 mod reading;
+mod resolving;
 mod scripts;
 mod spans;
 mod stepping;
 mod texts;
+mod timed;
+mod whens;
 
 pub use error::{JobError, JobsError, LineFault};
 pub use jobs::Job;

@@ -1,8 +1,12 @@
 //! What a line of a job says, by itself: whether it may stand where it does is judged elsewhere.
-ghost use Rattle.job_file.specs.Entries.{said_by, IsInRange};
+ghost use Rattle.job_file.specs.Entries.{said_by, IsInRange, IsWhen};
 ghost use Rattle.job_file.specs.Faults.{IsFaultOfWords, are_fault_words, are_words_behind, are_line_words};
 ghost use Rattle.job_file.specs.Lines as lines;
+ghost use Rattle.job_file.specs.HeadLines.{turn_at};
 ghost use Rattle.job_file.specs.Spans.{IsSpan};
+ghost use Rattle.job_file.specs.Whens.{turns_of};
+ghost use Rattle.job_moments.specs.Planning.{MayStand};
+ghost use Rattle.job_moments.specs.declared.occasions.Occasion.TheVariants.{Numbers};
 ghost use Rattle.job_file.specs.declared.error.LineFault.TheVariants.{Word as BadWord, Number as BadNumber};
 ghost use Rattle.job_file.specs.declared.keywords.FaultWord.TheVariants as kinds;
 ghost use Rattle.job_file.specs.declared.keywords.Keyword.TheVariants as keywords;
@@ -15,11 +19,17 @@ ghost use Rattle.text_lines.specs.Words.{words};
 use crate::error::LineFault;
 use crate::keywords::{FaultWord, Keyword, fault_word_in, is_controller, keyword_in, sync_in};
 use crate::numbers::{data_word, half_bits, number, number_within, start_tick};
+use crate::parts::{end, first_word, four_words, front, one_word, three_words, two_words};
 use crate::spans::{Series, Span};
+use crate::whens::{When, Which, read_when, read_which, span, when_words, which_words};
+use job_moments::{Moment, Occasion, Turns};
 use mil_line::Fault;
 use mil_word::Word;
 use mil_word::fields::{HIGHEST_ADDRESS, HIGHEST_PUT_UP};
 use text_lines::{is_comment, next_word};
+
+/// The greatest number of seven digits.
+const MOST: u32 = 9_999_999;
 
 /// What a line says.
 #[derive(Drop)]
@@ -57,85 +67,22 @@ pub enum Entry<'a> {
     },
     /// Actions of a terminal's host, one before each of these messages.
     Series(Series),
-}
-
-/// The first word, and what comes after it.
-fn first_word(text: &[u8]) -> Result<(&[u8], &[u8]), LineFault>
-    ensures value { IsOkOption (λ x. (x.0.now, words x.1.now)) result (lines.first (words text.now)) }
-    ensures words { IfErr result (λ f. f ≡ BadWord) }
-{
-    match next_word(text) {
-        Some(split) => Ok(split),
-        None => Err(LineFault::Word),
-    }
-}
-
-/// No word is left.
-fn end(text: &[u8]) -> Result<(), LineFault>
-    ensures value { IsOkOption (λ x. x) result (lines.ended (words text.now) tt) }
-    ensures words { IfErr result (λ f. f ≡ BadWord) }
-{
-    match next_word(text) {
-        Some(_) => Err(LineFault::Word),
-        None => Ok(()),
-    }
-}
-
-/// The only word.
-#[tactic(auto, unfolding(crate::specs::Lines::one))]
-fn one_word(text: &[u8]) -> Result<&[u8], LineFault>
-    ensures value { IsOkOption (λ x. x.now) result (lines.one (words text.now)) }
-    ensures words { IfErr result (λ f. f ≡ BadWord) }
-{
-    let (word, rest) = first_word(text)?;
-    end(rest)?;
-    Ok(word)
-}
-
-/// The only two words.
-#[tactic(auto, unfolding(crate::specs::Lines::two))]
-fn two_words(text: &[u8]) -> Result<(&[u8], &[u8]), LineFault>
-    ensures value { IsOkOption (λ x. (x.0.now, x.1.now)) result (lines.two (words text.now)) }
-    ensures words { IfErr result (λ f. f ≡ BadWord) }
-{
-    let (first, rest) = first_word(text)?;
-    let second = one_word(rest)?;
-    Ok((first, second))
-}
-
-/// The only three words.
-#[tactic(auto, unfolding(crate::specs::Lines::three))]
-fn three_words(text: &[u8]) -> Result<(&[u8], &[u8], &[u8]), LineFault>
-    ensures value { IsOkOption (λ x. (x.0.now, x.1.now, x.2.now)) result (lines.three (words text.now)) }
-    ensures words { IfErr result (λ f. f ≡ BadWord) }
-{
-    let (first, rest) = first_word(text)?;
-    let (second, third) = two_words(rest)?;
-    Ok((first, second, third))
-}
-
-/// The only four words.
-#[tactic(auto, unfolding(crate::specs::Lines::four))]
-fn four_words(text: &[u8]) -> Result<(&[u8], &[u8], &[u8], &[u8]), LineFault>
-    ensures value { IsOkOption (λ x. (x.0.now, x.1.now, x.2.now, x.3.now)) result (lines.four (words text.now)) }
-    ensures words { IfErr result (λ f. f ≡ BadWord) }
-{
-    let (first, rest) = first_word(text)?;
-    let (second, third, fourth) = three_words(rest)?;
-    Ok((first, second, third, fourth))
-}
-
-/// The first three words, and what comes after them.
-#[tactic(auto, unfolding(crate::specs::Lines::front))]
-fn front(text: &[u8]) -> Result<(&[u8], &[u8], &[u8], &[u8]), LineFault>
-    ensures value { IsOkOption (λ x. ((x.0.now, x.1.now, x.2.now), words x.3.now)) result
-        (lines.front (words text.now)) }
-    ensures words { IfErr result (λ f. f ≡ BadWord) }
-{
-    let (first, rest) = first_word(text)?;
-    let (second, rest) = first_word(rest)?;
-    let (third, rest) = first_word(rest)?;
-    Ok((first, second, third, rest))
+    /// The text of an action of a terminal's host, which is done at a moment.
+    TimedAction {
+        moment: Moment,
+        address: u8,
+        text: &'a [u8],
+    },
+    /// The text of what the host of the controller asks for at a moment.
+    TimedControl {
+        moment: Moment,
+        text: &'a [u8],
+    },
+    /// A fault, and when it is due, but by number; its own ranges are not judged yet.
+    TimedFault {
+        occasion: Occasion,
+        fault: Fault,
+    },
 }
 
 /// The only two words, each a number.
@@ -259,50 +206,95 @@ fn terminal(text: &[u8]) -> Result<u8, LineFault>
 
 /// An action of a terminal's host, or, where `bc` stands in the place of an address, what the host of the controller
 /// asks for.
+fn acting<'a>(when: When, address: &[u8], text: &'a [u8]) -> Result<Entry<'a>, LineFault>
+    requires { IsWhen 1 1000000 when }
+    ensures said { IsOkOption said_by result (lines.action_at when address.now (words text.now)) }
+    ensures range { IfOk result (λ e. IsInRange (said_by e)) }
+    ensures fault { IfErr result (λ f. f ≡ BadNumber) }
+{
+    if is_controller(address) {
+        return Ok(match when {
+            When::Number(number) => Entry::Control { number, text },
+            When::Moment(moment) => Entry::TimedControl { moment, text },
+        });
+    }
+    let address = number_within(address, 0, u32::from(HIGHEST_ADDRESS))? as u8;
+    Ok(match when {
+        When::Number(number) => Entry::Action {
+            number,
+            address,
+            text,
+        },
+        When::Moment(moment) => Entry::TimedAction {
+            moment,
+            address,
+            text,
+        },
+    })
+}
+
+/// When something is due, and what a host does then.
 #[tactic(auto, unfolding(crate::specs::Lines::action_in))]
 fn action(text: &[u8]) -> Result<Entry<'_>, LineFault>
     ensures said { IsOkOption said_by result (lines.action_in (words text.now)) }
     ensures range { IfOk result (λ e. IsInRange (said_by e)) }
     ensures words { IsFaultOfWords result (are_words_behind keywords.At (words text.now)) }
 {
-    let (number, rest) = first_word(text)?;
+    let (when, rest) = when_words(text)?;
     let (address, text) = first_word(rest)?;
     first_word(text)?;
-    let number = number_within(number, 1, 1_000_000)?;
-    if is_controller(address) {
-        return Ok(Entry::Control { number, text });
-    }
-    let address = number_within(address, 0, u32::from(HIGHEST_ADDRESS))?;
-    Ok(Entry::Action {
-        number,
-        address: address as u8,
-        text,
+    acting(read_when(when, 1, 1_000_000)?, address, text)
+}
+
+/// When a fault is planned, and the fault.
+#[tactic(auto, unfolding(crate::specs::Lines::fault_in))]
+fn fault(text: &[u8]) -> Result<Entry<'_>, LineFault>
+    ensures said { IsOkOption said_by result (lines.fault_in (words text.now)) }
+    ensures range { IfOk result (λ e. IsInRange (said_by e)) }
+    ensures words { IsFaultOfWords result (are_words_behind keywords.Fault (words text.now)) }
+{
+    let (when, rest) = when_words(text)?;
+    let (name, rest) = first_word(rest)?;
+    let fault = fault_named(fault_word_in(name)?, rest)?;
+    Ok(match read_when(when, 0, MOST)? {
+        When::Number(number) => Entry::Fault { number, fault },
+        When::Moment(moment) => Entry::TimedFault {
+            occasion: Occasion::Once(moment),
+            fault,
+        },
     })
 }
 
-/// The number of a message, and a fault of it.
-#[tactic(auto, unfolding(crate::specs::Lines::fault_in))]
-fn fault(text: &[u8]) -> Result<(u32, Fault), LineFault>
-    ensures said { IsOkOption (λ x. lines.fault x.0 x.1) result (lines.fault_in (words text.now)) }
-    ensures words { IsFaultOfWords result (are_words_behind keywords.Fault (words text.now)) }
+/// The same places or messages as turns.
+fn turns(span: Span) -> Turns
+    ensures { result ≡ turns_of span }
 {
-    let (message, rest) = first_word(text)?;
-    let (name, rest) = first_word(rest)?;
-    let fault = fault_named(fault_word_in(name)?, rest)?;
-    Ok((number(message)?, fault))
+    Turns {
+        first: span.first,
+        last: span.last,
+        step: span.step,
+    }
 }
 
-/// The messages of three words: the first, the last, and the step.
-#[tactic(auto, unfolding(crate::specs::Lines::span_of))]
-fn span(first: &[u8], last: &[u8], step: &[u8]) -> Result<Span, LineFault>
-    ensures value { IsOkOption (λ s. s) result (lines.span_of (first.now, last.now, step.now)) }
-    ensures range { IfOk result IsSpan }
-    ensures fault { IfErr result (λ f. f ≡ BadNumber) }
+/// At the messages of these numbers.
+pub fn at_numbers(span: Span) -> Occasion
+    requires { IsSpan span }
+    ensures value { result ≡ Numbers (turns_of span) }
+    ensures stands { MayStand result }
 {
-    let first = number_within(first, 1, 1_000_000)?;
-    let last = number_within(last, first, 1_000_000)?;
-    let step = number_within(step, 1, 1_000_000)?;
-    Ok(Span { first, last, step })
+    Occasion::Numbers(turns(span))
+}
+
+/// At the message of a number.
+pub fn at_number(number: u32) -> Occasion
+    ensures value { result ≡ Numbers (turn_at number) }
+    ensures stands { MayStand result }
+{
+    Occasion::Numbers(Turns {
+        first: number,
+        last: number,
+        step: 1,
+    })
 }
 
 /// Messages, and a fault of each of them.
@@ -312,11 +304,23 @@ fn faults(text: &[u8]) -> Result<Entry<'_>, LineFault>
     ensures range { IfOk result (λ e. IsInRange (said_by e)) }
     ensures words { IsFaultOfWords result (are_words_behind keywords.Faults (words text.now)) }
 {
-    let (first, last, step, rest) = front(text)?;
+    let (which, rest) = which_words(text)?;
     let (name, rest) = first_word(rest)?;
     let fault = fault_named(fault_word_in(name)?, rest)?;
-    let span = span(first, last, step)?;
-    Ok(Entry::Faults { span, fault })
+    Ok(match read_which(which)? {
+        Which::Numbers(span) => Entry::Faults { span, fault },
+        Which::Places { selector, span } => Entry::TimedFault {
+            occasion: Occasion::Places {
+                selector,
+                turns: turns(span),
+            },
+            fault,
+        },
+        Which::Window { selector, from, to } => Entry::TimedFault {
+            occasion: Occasion::Window { selector, from, to },
+            fault,
+        },
+    })
 }
 
 /// Actions of a terminal's host, one before each of some messages: behind the messages four words, the address, the
@@ -353,10 +357,7 @@ fn after_keyword(keyword: Keyword, text: &[u8]) -> Result<Entry<'_>, LineFault>
         }
         Keyword::Terminal => Ok(Entry::Terminal(terminal(text)?)),
         Keyword::At => action(text),
-        Keyword::Fault => {
-            let (number, fault) = fault(text)?;
-            Ok(Entry::Fault { number, fault })
-        }
+        Keyword::Fault => fault(text),
         Keyword::Faults => faults(text),
         Keyword::Series => Ok(Entry::Series(series(text)?)),
         Keyword::Script => {
@@ -366,9 +367,10 @@ fn after_keyword(keyword: Keyword, text: &[u8]) -> Result<Entry<'_>, LineFault>
     }
 }
 
-/// What a line says: `channel N`, `start TICK`, `terminal ADDRESS`, `at NUMBER ADDRESS ACTION`, `at NUMBER bc CONTROL`,
-/// `fault NUMBER FAULT`, `faults FIRST LAST STEP FAULT`, `series FIRST LAST STEP ADDRESS SUB START ADD`, `script`, a
-/// comment or nothing. J1, then J2.
+/// What a line says: `channel N`, `start TICK`, `terminal ADDRESS`, `at WHEN ADDRESS ACTION`, `at WHEN bc CONTROL`,
+/// `fault WHEN FAULT`, `faults FIRST LAST STEP FAULT`, `faults SELECTOR FIRST LAST STEP FAULT`,
+/// `faults SELECTOR from TIME to TIME FAULT`, `series FIRST LAST STEP ADDRESS SUB START ADD`, `script`, a comment or
+/// nothing; WHEN is a number, a time or `SELECTOR nth K`. J1, then J2.
 #[tactic(auto, unfolding(crate::specs::Lines::said_in))]
 pub fn read_line(line: &[u8]) -> Result<Entry<'_>, LineFault>
     ensures said { IsOkOption said_by result (lines.said line.now) }

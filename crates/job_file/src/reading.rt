@@ -5,17 +5,21 @@ ghost use Rattle.frame_text.specs.Frames.{tree_of_text};
 ghost use Rattle.frame_tree.specs.Bounds.{IsSound};
 ghost use Rattle.frame_tree.specs.Tree.{tree_of};
 ghost use Rattle.job_file.specs.Drafts.{shown};
-ghost use Rattle.job_file.specs.Faults.{IsJobHead, IsFirstFault, IsScriptRefused, IsLineOf, IsPlacedBelow};
+ghost use Rattle.job_file.specs.Faults.{IsJobHead, IsFirstFault, IsInsertsRefusal, IsScriptRefused, IsLineOf};
+ghost use Rattle.job_file.specs.Faults.{IsPlacedBelow};
 ghost use Rattle.job_file.specs.JobRanges.{IsFit};
-ghost use Rattle.job_file.specs.Jobs.{own_inserts, tree_in, job_in};
-ghost use Rattle.job_file.specs.Reading.{IsJobRefusal, IsScriptRefusal, IsCodeRefusal, HasProgram};
-ghost use Rattle.job_file.specs.Spelled.{spelled, job_of};
-ghost use Rattle.job_file.specs.Texts.{IsAccepted};
+ghost use Rattle.job_file.specs.Jobs.{job_in};
+ghost use Rattle.job_file.specs.Reading.{IsJobRefusal, IsScriptRefusal, IsCodeRefusal, HasProgram, all_inserts};
+ghost use Rattle.job_file.specs.Scripts.{tree_spelled, IsProgramOf};
+ghost use Rattle.job_file.specs.Spelled.{spelled, job_meant, job_with, written, written_of};
+ghost use Rattle.job_file.specs.Texts.{HasAccepted, IsAccepted};
+ghost use Rattle.job_file.specs.Timed.{resolved};
 ghost use Rattle.std.specs.Prelude.{◌≡◌, ◌+◌, ◌-◌, ◌^◌, ◌≤◌, min, Ok, Some, MatchResult, IfOk, IfErr};
 
 use crate::drafts::{Draft, Taken};
 use crate::error::{JobError, LineFault};
 use crate::jobs::Job;
+use crate::resolving::resolve;
 use crate::scripts::Script;
 use bumpalo::Bump;
 use frame_asm::{AsmError, assemble};
@@ -39,7 +43,7 @@ struct Head<'a> {
 /// The lines of a text up to the line of the script.
 fn read_head(alloc: Global, text: &[u8]) -> Result<Head<'_>, JobError>
     ensures read { MatchResult result
-        (λ h. spelled text.now ≡ job_of (shown h.draft) h.script.now) (IsJobRefusal (spelled text.now)) }
+        (λ h. written text.now ≡ written_of (shown h.draft) h.script.now) (IsJobRefusal (written text.now)) }
     ensures fit { IfOk result (λ h. IsFit (shown h.draft)) }
     ensures head { IfOk result (λ h. IsJobHead text.now (shown h.draft) h.line h.script.now) }
     ensures first { IfErr result (IsFirstFault text.now) }
@@ -124,6 +128,35 @@ fn give_up(alloc: Global, arena: &mut Bump) {
     }
 }
 
+/// The job of the lines above a script, and of the program of the script, which begins behind a line.
+fn complete(
+    alloc: Global,
+    channel: u16,
+    draft: Draft,
+    line: u64,
+    program: Program,
+    script: &[u8],
+) -> Result<Job, JobError>
+    requires channel { draft.channel ≡ Some channel }
+    requires fit { IsFit (shown draft) }
+    requires program { IsProgramOf script.now program }
+    ensures job { IfOk result (λ j. job_in j
+        ≡ resolved (job_with channel (shown draft) (tree_spelled script.now)) draft.timed) }
+    ensures few { IfOk result (λ _. all_inserts draft.actions draft.timed.whens
+        + worst_messages program.operations ≤ 1000000) }
+    ensures many { IfErr result (IsInsertsRefusal line (shown draft) program) }
+{
+    let left = MOST_MESSAGES - program.worst_messages();
+    if draft.has_more_inserts(left) {
+        return Err(JobError::Inserts { line });
+    }
+    let (job, timed) = Job::make(channel, draft, program, Script::of(script));
+    match resolve(alloc, job, timed) {
+        Ok(job) => Ok(job),
+        Err(_) => Err(JobError::Memory),
+    }
+}
+
 /// The job of the lines above a script, and of the script, which begins behind a line. The script's tree stands in the
 /// arena until its image is made.
 fn finish(
@@ -134,12 +167,10 @@ fn finish(
     script: &[u8],
 ) -> Result<Job, JobError>
     requires { IsFit (shown draft) }
-    ensures job { IfOk result (λ j. job_of (shown draft) script.now ≡ Some (job_in j)) }
-    ensures refused { IfErr result (IsJobRefusal (job_of (shown draft) script.now)) }
+    ensures job { IfOk result (λ j. job_meant (written_of (shown draft) script.now) ≡ Some (job_in j)) }
+    ensures refused { IfErr result (IsJobRefusal (written_of (shown draft) script.now)) }
     ensures first { IfErr result (IsScriptRefused (shown draft) line script.now) }
-    ensures well { IfOk result (λ j. HasProgram (code_of_tree (tree_in j))) }
-    ensures few { IfOk result (λ j. own_inserts j.actions
-        + worst_messages (code_of_tree (tree_in j)).operations ≤ 1000000) }
+    ensures well { IfOk result (λ _. HasAccepted (written_of (shown draft) script.now)) }
 {
     let Some(channel) = draft.channel else {
         return Err(JobError::Line {
@@ -151,18 +182,14 @@ fn finish(
     let program = program(alloc, line, &frame)?;
     drop(frame);
     give_up(alloc, arena);
-    let left = MOST_MESSAGES - program.worst_messages();
-    if draft.actions.inserts() > left {
-        return Err(JobError::Inserts { line });
-    }
-    Ok(Job::make(channel, draft, program, Script::of(script)))
+    complete(alloc, channel, draft, line, program, script)
 }
 
 /// The job that a text spells, whose script's tree stands in the arena meanwhile.
 pub(crate) fn read_in(alloc: Global, arena: &mut Bump, text: &[u8]) -> Result<Job, JobError>
     ensures job { IfOk result (λ j. spelled text.now ≡ Some (job_in j)) }
     ensures accepted { IfOk result (λ _. IsAccepted text.now) }
-    ensures refused { IfErr result (IsJobRefusal (spelled text.now)) }
+    ensures refused { IfErr result (IsJobRefusal (written text.now)) }
     ensures first { IfErr result (IsFirstFault text.now) }
 
     // Want of memory may still be answered of a text that gives a job, where there is no room for the job itself.
@@ -176,14 +203,16 @@ pub(crate) fn read_in(alloc: Global, arena: &mut Bump, text: &[u8]) -> Result<Jo
     finish(alloc, arena, draft, line, script)
 }
 
-/// The job that a text spells: lines `channel N`, `start TICK`, `terminal ADDRESS`, `at NUMBER ADDRESS ACTION`, `at
-/// NUMBER bc CONTROL` and `fault NUMBER FAULT`, and below a line `script` the script. The first fault is answered, line
-/// by line: J1 to J6, then J7 of the script, where A1 counts before A2, and P5 before P8, then J9; and J8 where memory
-/// is refused. The script's tree stands in an arena, which is given up once the image is made.
+/// The job that a text spells: lines `channel N`, `start TICK`, `terminal ADDRESS`, `at WHEN ADDRESS ACTION`,
+/// `at WHEN bc CONTROL`, `fault WHEN FAULT` and others, and below a line `script` the script. What is said by time and
+/// by command stands in the job at the numbers at which it is due: its controller is run once to find them, where there
+/// is such a line. The first fault is answered, line by line: J1 to J6, then J7 of the script, where A1 counts before
+/// A2, and P5 before P8, then J9; and J8 where memory is refused. The script's tree stands in an arena, which is given
+/// up once the image is made.
 pub fn read_job(alloc: Global, text: &[u8]) -> Result<Job, JobError>
     ensures job { IfOk result (λ j. spelled text.now ≡ Some (job_in j)) }
     ensures accepted { IfOk result (λ _. IsAccepted text.now) }
-    ensures refused { IfErr result (IsJobRefusal (spelled text.now)) }
+    ensures refused { IfErr result (IsJobRefusal (written text.now)) }
     ensures first { IfErr result (IsFirstFault text.now) }
 {
     let mut arena = Bump::new(alloc);

@@ -5,7 +5,7 @@ ghost use Rattle.bc_machine.specs.declared.placed.Placed.{Placed};
 ghost use Rattle.frame_tree.specs.Bounds.{IsSound};
 ghost use Rattle.job_file.specs.Machines.{IsOf, IsLatestOutcome};
 ghost use Rattle.job_file.specs.Meaning.{records};
-ghost use Rattle.job_file.specs.Spelled.{ChannelJob};
+ghost use Rattle.job_file.specs.ChannelJobs.{ChannelJob};
 ghost use Rattle.std.specs.Prelude.{◌≡◌, ◌+◌, ◌<◌, ◌≤◌, ◌^◌, List, Some, length, slice_get, IfSome, IfNone};
 
 use crate::laws::job_runs;

@@ -12,7 +12,7 @@ use std::alloc::Global;
 use std::process::Abort;
 
 /// `send A rx 5 1 [0001 0002 0003] send A mode 5 2 send A mode 5 2`
-const WRITTEN: [u8; 46] = [
+pub(crate) const WRITTEN: [u8; 46] = [
     0x42, 0x43, 0x30, 0x31, 4, 0, 2, 0, // the mark and the counts
     1, 0, 0, 0, 1, 0, 1, 0, 1, 0, 1, 0, 0, 0, 0, 0, // Send 0, Send 1, Send 1, Halt
     0, 0, 0x23, 0x28, 0, 0, 3, 0, 1, 0, 2, 0, 3, 0, // three words to terminal 5
@@ -49,7 +49,7 @@ pub(crate) const NINE: [Row; 9] = [
 ];
 
 /// What `WRITTEN` sends, where the third data word is dropped.
-const DROPPED: [Row; 3] = [
+pub(crate) const DROPPED: [Row; 3] = [
     (Some(0), Some((0x1220, 0x0000)), &[0x2823, 0x0001, 0x0002]),
     (Some(760), Some((0x0000, 0x0050)), &[0x2FE2, 0x2C00]),
     (Some(1240), Some((0x0000, 0x0050)), &[0x2FE2, 0x2C00]),
@@ -114,7 +114,7 @@ fn does(rt: &impl Abort, machine: &mut Machine, play: &Play) {
 }
 
 /// A controller of the image with these bytes, on a bus with terminal 5 alone, at tick 0.
-fn controller(
+pub(crate) fn controller(
     rt: &impl Abort,
     alloc: Global,
     image: &[u8],

@@ -1,7 +1,7 @@
 //! Records against those that are expected.
 
 use crate::tests::equal::{same, same_in};
-use bc_machine::{Machine, Stepped};
+use bc_machine::{Machine, NextMessage, Stepped};
 use mil_monitor::Record;
 use std::process::Abort;
 
@@ -17,15 +17,24 @@ fn is_row(rt: &impl Abort, text: &str, record: &Record, row: Option<&Row>) {
     same_in(rt, text, &record.words.as_slice(), &words);
 }
 
-/// The machine sends these rows in so many steps, or until it halts; a failure names the text that they are of.
+/// What was told of the message that comes next is that it starts with this record; a failure names the text.
+fn was_told(rt: &impl Abort, text: &str, next: Option<NextMessage>, record: &Record) {
+    let start = next.expect(rt, text).start;
+    same_in(rt, text, &start, &record.stamp);
+}
+
+/// The machine sends these rows in so many steps, or until it halts, each message when it is told before; a failure
+/// names the text that they are of.
 pub(crate) fn sends(rt: &impl Abort, text: &str, machine: &mut Machine, steps: u32, rows: &[Row]) {
     let mut left = rows.iter();
     for _ in 0..steps {
+        let next = machine.next_message();
         match machine.step() {
-            Stepped::Ran => {}
+            Stepped::Ran => same_in(rt, text, &next.is_none(), &true),
             Stepped::Halted => break,
             Stepped::Sent(record) | Stepped::Inserted(record) => {
-                is_row(rt, text, &record, left.next())
+                was_told(rt, text, next, &record);
+                is_row(rt, text, &record, left.next());
             }
         }
     }

@@ -4,7 +4,7 @@ use Rattle.std.proofs.lemmas.Bool.Decides.{nat_tests}
 use Rattle.std.proofs.lemmas.Result.{IfOk-at_ok, IfErr-at_err}
 use Rattle.job_file.specs.Lines.{said}
 use Rattle.job_file.specs.Reading.{IsLineInRange}
-use Rattle.job_file.proofs.HeadLemmas.{spelled_left, nothing_left, script_taken, script_fits, line_taken, line_refused, fit_at_first}
+use Rattle.job_file.proofs.HeadLemmas.{written_left, nothing_left, script_taken, script_fits, line_taken, line_refused, fit_at_first}
 use Rattle.text_lines.specs.Words.{words}
 use Rattle.job_file.specs.HeadLines.{head_of}
 use Rattle.job_file.specs.Drafts.{shown}
@@ -13,7 +13,7 @@ use Rattle.job_file.proofs.FirstFaults.{read_none, read_one, read_script, read_r
 use Rattle.job_file.proofs.reading.read_head.Goals as goal
 
 pub loop-rest-init : goal.loop-rest-init
-loop-rest-init c = ([], c.make-draft.ensures, spelled_left c.args.text.now, fit_at_first _ c.make-draft.ensures, read_none c.args.text.now _ c.make-draft.ensures, omega arith)
+loop-rest-init c = ([], c.make-draft.ensures, written_left c.args.text.now, fit_at_first _ c.make-draft.ensures, read_none c.args.text.now _ c.make-draft.ensures, omega arith)
 
 pub returns-in-Ok-Script-clause-read : goal.returns-in-Ok-Script-clause-read
 returns-in-Ok-Script-clause-read c =

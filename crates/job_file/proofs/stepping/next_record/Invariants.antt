@@ -2,7 +2,7 @@ use Rattle.std.proofs.Common.{◌≡◌, ◌-◌, List}
 use Rattle.frame_load.specs.Budget.{budget}
 use Rattle.bc_machine.specs.declared.placed.Placed.{Placed}
 use Rattle.bc_machine.specs.Running.{ended_in}
-use Rattle.job_file.specs.Spelled.{ChannelJob}
+use Rattle.job_file.specs.ChannelJobs.{ChannelJob}
 use Rattle.job_file.specs.Machines.{IsOf}
 use Rattle.job_file.proofs.stepping.next_record.Given as goal
 

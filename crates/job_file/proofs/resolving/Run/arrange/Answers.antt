@@ -1,0 +1,35 @@
+use Rattle.std.proofs.Common.{◌≡◌, ◌≤◌, length, sym, ap, subst, ◌∙◌, arith}
+use Rattle.std.specs.Prelude.{None}
+use Rattle.job_file.specs.Resolving.{standing}
+use Rattle.job_file.specs.Timed.{Standing, due_now, done_at, done_times}
+use Rattle.job_file.proofs.DueLemmas.{done_none, all_done, arranged_is, one_time_more}
+use Rattle.job_file.proofs.resolving.Run.arrange.Goals as goal
+
+pub returns-then-not-do_first-clause-arranged : goal.returns-then-not-do_first-clause-arranged
+returns-then-not-do_first-clause-arranged c =
+    let from = standing c.args.self.now in
+    let here = standing c.times.self in
+    let i = c.times.invariant in
+    let none : due_now here ≡ None = c.do_first.ensures.none c.if-not-do_first.true in
+    let none_there : due_now (done_times c.times.time from) ≡ None = subst (λ (s : Standing). due_now s ≡ None) i.done none in
+    let within : c.times.time ≤ length c.args.self.now.whens.items = omega arith in
+    c.do_first.ensures.done ∙ done_none here none ∙ i.done ∙ sym (all_done from c.times.time within none_there)
+
+pub returns-then-not-do_first-clause-within : goal.returns-then-not-do_first-clause-within
+returns-then-not-do_first-clause-within c addresses most within =
+    c.do_first.ensures.within addresses most (c.times.invariant.within addresses most within)
+
+pub times-preserved : goal.times-preserved
+times-preserved c =
+    let from = standing c.args.self.now in
+    let i = c.times.invariant in
+    record {
+      done = c.do_first.ensures.done ∙ ap (λ (s : Standing). done_at (due_now s) s) i.done ∙ sym (one_time_more from c.times.time);
+      faults = c.do_first.ensures.faults ∙ i.faults;
+      kept = c.do_first.ensures.kept;
+      within = λ addresses most within. c.do_first.ensures.within addresses most (i.within addresses most within);
+    }
+
+pub returns-clause-arranged : goal.returns-clause-arranged
+returns-clause-arranged c =
+    c.times.invariant.done ∙ sym (arranged_is (standing c.args.self.now) c.times.time (omega arith))
