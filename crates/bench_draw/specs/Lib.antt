@@ -1,4 +1,5 @@
 pub mod Axis
 pub mod Chosen
 pub mod Labels
+pub mod Lanes
 pub mod Rhythm

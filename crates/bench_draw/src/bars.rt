@@ -4,6 +4,7 @@ use crate::canvas::Canvas;
 use crate::labels::direction;
 use crate::rows::{BAR, Lane};
 use crate::scale::{LEFT, Run, Scale, WORD, end_of, runs_of};
+use crate::track::Track;
 use bench_decode::{Place, put_details};
 use ch11_layout::{Role, View};
 use mil_word::{Command, Status};
@@ -31,10 +32,11 @@ fn color(role: Role) -> &'static str {
     }
 }
 
-/// The element of a message: a bar for the words of each role with what there is room for, a mark where there is an
-/// error, and where the mouse rests on it the message as people read it.
+/// The element of a message in a lane: a bar for the words of each role that stand there with what there is room for, a
+/// mark where there is an error, and where the mouse rests on it the message as people read it.
 pub(crate) fn bar_of(
     canvas: &mut Canvas<'_>,
+    track: Track,
     lane: &Lane,
     place: &Place,
     view: &View<'_>,
@@ -47,7 +49,7 @@ pub(crate) fn bar_of(
     text.push_str("</title>")?;
     let mut before = 0usize;
     for run in runs_of(view) {
-        if run.words > 0 {
+        if run.words > 0 && track.has_word(view, before) {
             put_run(&mut text, scale, lane, &run)?;
             put_words(&mut text, scale, lane, &run, view, before)?;
         }

@@ -5,6 +5,7 @@ ghost use Rattle.ch11_layout.specs.Stamps.{kind_of};
 ghost use Rattle.ch11_stream.specs.Folding.{FoldsPackets};
 ghost use Rattle.std.specs.Prelude.{◌≡◌, ◌+◌, ◌<◌, ◌^◌, ℕ, List, Some, length, OnOk};
 
+use crate::called::Called;
 use crate::rows::Rows;
 use crate::scale::{Scale, end_of};
 use bench_select::Selection;
@@ -23,12 +24,19 @@ const LABELLED: u64 = 24;
 /// How many tenths of a pixel a message takes at least that is drawn as a bar.
 const BAR: u64 = 40;
 
+/// A channel with selected messages of which the time is known, and which terminals these call.
+#[derive(Clone, Copy)]
+pub(crate) struct Used {
+    pub(crate) channel: u16,
+    pub(crate) called: Called,
+}
+
 /// What is to be drawn: the channels with selected messages of which the time is known, how many messages are selected,
 /// the time that they take, what the first of their stamps is, and how many ticks the shortest and the longest of them
 /// take.
 #[derive(Drop)]
 pub(crate) struct Extent {
-    pub(crate) channels: Vec<u16>,
+    pub(crate) channels: Vec<Used>,
     pub(crate) messages: u64,
     pub(crate) begin: u64,
     pub(crate) kind: StampKind,
@@ -71,7 +79,7 @@ impl Extent {
                     widen_by(&mut extent, selection, &packet, packets.messages())?
                 }
                 Ok(None) => {
-                    extent.channels.sort()?;
+                    extent.channels.sort_by_key(|used| used.channel)?;
                     return Ok(extent);
                 }
                 Err(fault) => return Err(fault),
@@ -144,8 +152,21 @@ fn widen(extent: &mut Extent, channel: u16, view: &View<'_>) -> Result<(), Alloc
     extent.end = extent.end.max(end);
     extent.shortest = extent.shortest.min(ticks);
     extent.longest = extent.longest.max(ticks);
-    if extent.channels.len() < CHANNELS && !extent.channels.contains(&channel) {
-        extent.channels.push(channel)?;
+    use_channel(&mut extent.channels, channel, view)
+}
+
+/// The channels with one more message of one of them, as long as there is room for its channel.
+fn use_channel(channels: &mut Vec<Used>, channel: u16, view: &View<'_>) -> Result<(), AllocError> {
+    for used in channels.iter_mut() {
+        if used.channel == channel {
+            used.called.add(view);
+            return Ok(());
+        }
+    }
+    if channels.len() < CHANNELS {
+        let mut called = Called::none();
+        called.add(view);
+        channels.push(Used { channel, called })?;
     }
     Ok(())
 }

@@ -3,6 +3,8 @@
 use crate::picture::Picture;
 use crate::rows::{BAR, LOAD, Lane, Rows};
 use crate::scale::{LEFT, WIDTH};
+use crate::track::Track;
+use mil_word::Line;
 use std::alloc::{AllocError, Global};
 
 /// How texts and bars look.
@@ -30,7 +32,7 @@ const LEGEND: &str = "<rect x=\"90\" y=\"14\" width=\"14\" height=\"12\" fill=\"
 <rect x=\"430\" y=\"14\" width=\"14\" height=\"12\" fill=\"#e08a1e\"/>
 <text x=\"449\" y=\"24\">status, with its terminal</text>
 <rect x=\"630\" y=\"14\" width=\"14\" height=\"12\" fill=\"#cfddf2\" stroke=\"#2a5caa\"/>
-<text x=\"649\" y=\"24\">load of the line, where messages are too close for bars</text>
+<text x=\"649\" y=\"24\">load of the lane, where messages are too close for bars</text>
 <rect x=\"90\" y=\"37\" width=\"14\" height=\"3\" fill=\"#c22\"/>
 <text x=\"109\" y=\"42\">error: NR no response or late, WC word count, SY sync, UW unsound word, E other</text>
 <path class=\"f\" d=\"M637 32V46\"/>
@@ -70,15 +72,14 @@ pub(crate) fn put_escaped(text: &mut String, name: &str) -> Result<(), AllocErro
     Ok(())
 }
 
-/// The element with the number and the name of the channel at a place.
+/// The element with the number and the name of a channel that begins there.
 pub(crate) fn name_of_channel(
     alloc: Global,
-    rows: &Rows,
-    place: u64,
+    top: u64,
     channel: u16,
     name: Option<&str>,
 ) -> Result<String, AllocError> {
-    let y = rows.end(place).saturating_add(12);
+    let y = top.saturating_add(12);
     let mut text = String::new(alloc);
     write!(text, "<text x=\"8\" y=\"{y}\">channel {channel}")?;
     if let Some(name) = name {
@@ -89,12 +90,12 @@ pub(crate) fn name_of_channel(
     Ok(text)
 }
 
-/// The element with the name of a line, and a line under its bars.
-pub(crate) fn name_of_line(
+/// The element with the name of a lane, and a line under its bars.
+pub(crate) fn name_of_lane(
     alloc: Global,
     rows: &Rows,
     lane: &Lane,
-    name: &str,
+    track: Track,
 ) -> Result<String, AllocError> {
     let (base, under) = if rows.bars {
         (
@@ -105,9 +106,18 @@ pub(crate) fn name_of_line(
         (lane.load.saturating_add(24), lane.load.saturating_add(LOAD))
     };
     let right = LEFT + WIDTH;
-    format!(in alloc;
-        "<text x=\"48\" y=\"{base}\">{name}</text>
-<path d=\"M{LEFT} {under}H{right}\" stroke=\"#bbb\" fill=\"none\"/>
-"
-    )
+    let mut text = String::new(alloc);
+    match track {
+        Track::Line(Line::A) => write!(text, "<text x=\"48\" y=\"{base}\">A")?,
+        Track::Line(Line::B) => write!(text, "<text x=\"48\" y=\"{base}\">B")?,
+        Track::Terminal(31) => write!(text, "<text x=\"8\" y=\"{base}\">broadcast")?,
+        Track::Terminal(address) => {
+            write!(text, "<text x=\"8\" y=\"{base}\">terminal {address}")?
+        }
+    }
+    write!(
+        text,
+        "</text>\n<path d=\"M{LEFT} {under}H{right}\" stroke=\"#bbb\" fill=\"none\"/>\n"
+    )?;
+    Ok(text)
 }

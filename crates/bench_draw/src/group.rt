@@ -1,8 +1,10 @@
 //! Channels that are drawn in one pass.
 
 use crate::canvas::Canvas;
-use crate::frame::{name_of_channel, name_of_line};
+use crate::frame::{name_of_channel, name_of_lane};
 use crate::lanes::{Lanes, draw_lanes};
+use crate::loads::Loads;
+use crate::plan::{Plan, Strip};
 use crate::rows::Rows;
 use bench_names::ChannelNames;
 use ch11_f1::Messages;
@@ -24,9 +26,8 @@ impl Group {
     /// The channels from a place on, with no message yet.
     pub(crate) fn of(
         canvas: &Canvas<'_>,
-        rows: &Rows,
+        plan: &Plan,
         names: &ChannelNames<'_>,
-        channels: &[u16],
         first: usize,
     ) -> Result<Group, AllocError> {
         let alloc = canvas.alloc;
@@ -35,10 +36,10 @@ impl Group {
             room: canvas.picture.room(),
             size: 0,
         };
-        for (place, channel) in channels.iter().enumerate() {
+        for (place, strip) in plan.strips.iter().enumerate() {
             // (behind one that waits all wait)
             if place == first.saturating_add(group.lanes.len()) {
-                group.add(alloc, rows, names, place as u64, *channel)?;
+                group.add(alloc, &plan.rows, names, strip)?;
             }
         }
         Ok(group)
@@ -50,16 +51,17 @@ impl Group {
         alloc: Global,
         rows: &Rows,
         names: &ChannelNames<'_>,
-        place: u64,
-        channel: u16,
+        strip: &Strip,
     ) -> Result<(), AllocError> {
         let at = self.lanes.len();
-        self.lanes.push(Lanes::new(alloc, rows, place, channel)?)?;
-        let name = names.name(channel);
-        self.keep(at, name_of_channel(alloc, rows, place, channel, name)?)?;
-        let (on_a, on_b) = (rows.lane(place, false), rows.lane(place, true));
-        self.keep(at, name_of_line(alloc, rows, &on_a, "A")?)?;
-        self.keep(at, name_of_line(alloc, rows, &on_b, "B")?)
+        self.lanes.push(Lanes::new(alloc, rows, strip)?)?;
+        let name = names.name(strip.channel);
+        self.keep(at, name_of_channel(alloc, strip.top, strip.channel, name)?)?;
+        for (place, track) in strip.tracks.iter().enumerate() {
+            let lane = strip.lane(rows, place);
+            self.keep(at, name_of_lane(alloc, rows, &lane, *track)?)?;
+        }
+        Ok(())
     }
 
     /// One more element of the channel at a place in the group. It is left out where it can't have room in any case:
@@ -93,8 +95,8 @@ impl Group {
         }
     }
 
-    /// Adds the messages of a packet, where they are of a channel of the group: the selected ones as bars, or to the
-    /// load of their lane; those of which no time is known are left out.
+    /// Adds the messages of a packet, where they are of a channel of the group: the selected ones as bars that have the
+    /// room; those of which no time is known are left out.
     pub(crate) fn add_messages(
         &mut self,
         canvas: &mut Canvas<'_>,
@@ -110,11 +112,30 @@ impl Group {
         let mut rest = messages;
         'messages: while let Some(seen) = rest.next() {
             number = number.saturating_add(1);
-            let view = View::of(kind, &seen);
-            let Some(lanes) = self.lanes.get_mut(at) else {
-                return Ok(());
-            };
-            if let Some(element) = lanes.add(canvas, number, &view)? {
+            self.add_message(canvas, at, number, &View::of(kind, &seen))?;
+        }
+        Ok(())
+    }
+
+    /// One more message of the channel at a place in the group, with its number in the file: its elements in the lanes
+    /// that have it.
+    fn add_message(
+        &mut self,
+        canvas: &mut Canvas<'_>,
+        at: usize,
+        number: u64,
+        view: &View<'_>,
+    ) -> Result<(), AllocError> {
+        let Some(lanes) = self.lanes.get_mut(at) else {
+            return Ok(());
+        };
+        let Some(place) = lanes.pass(canvas, number, view)? else {
+            return Ok(());
+        };
+        for lane in 0..lanes.count() {
+            if let Some(lanes) = self.lanes.get_mut(at)
+                && let Some(element) = lanes.drawn(canvas, lane, &place, view)?
+            {
                 self.keep(at, element)?;
             }
         }
@@ -122,10 +143,10 @@ impl Group {
     }
 
     /// Draws the channels that did not have to wait; answers how many.
-    pub(crate) fn draw(self, canvas: &mut Canvas<'_>) -> Result<usize, AllocError> {
+    pub(crate) fn draw(self, canvas: &mut Canvas<'_>, loads: &Loads) -> Result<usize, AllocError> {
         let count = self.lanes.len();
         for lanes in self.lanes.into_iter() {
-            draw_lanes(canvas, &lanes)?;
+            draw_lanes(canvas, &lanes, loads)?;
         }
         Ok(count)
     }

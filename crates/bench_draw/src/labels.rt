@@ -17,14 +17,19 @@ const NARROW: u64 = 36;
 /// The least number that takes more than a narrow label has.
 const LONG_NUMBER: u64 = 1_000_000;
 
+/// The least one behind which the letter of line B takes more than that.
+const LONG_ON_B: u64 = 10_000;
+
 /// The most labels that a lane has.
 const MOST: usize = 400;
 
-/// What stands over a message: where it begins, in pixels from the left of the time, its number, and its form.
+/// What stands over a message: where it begins, in pixels from the left of the time, its number, whether the letter of
+/// line B stands behind that, and its form.
 #[derive(Clone, Copy)]
 pub(crate) struct Label {
     pub(crate) at: u64,
     pub(crate) number: u64,
+    pub(crate) on_b: bool,
     pub(crate) form: RecordedForm,
 }
 
@@ -91,7 +96,8 @@ fn width_of(label: &Label) -> u64 {
         label.form,
         RecordedForm::Receive { .. } | RecordedForm::Transmit { .. } | RecordedForm::Between { .. }
     );
-    if is_short && label.number < LONG_NUMBER {
+    let long = if label.on_b { LONG_ON_B } else { LONG_NUMBER };
+    if is_short && label.number < long {
         NARROW
     } else {
         WIDE
@@ -115,7 +121,7 @@ fn draw_label(
         top.saturating_sub(24),
         top.saturating_sub(14),
     );
-    let number = label.number;
+    let (number, line) = (label.number, if label.on_b { " B" } else { "" });
     let mut text = String::new(alloc);
     write!(
         text,
@@ -123,7 +129,7 @@ fn draw_label(
     )?;
     write!(
         text,
-        "<text x=\"{text_x}\" y=\"{}\" class=\"n\">{number}</text><text x=\"{text_x}\" y=\"{}\" class=\"l\">",
+        "<text x=\"{text_x}\" y=\"{}\" class=\"n\">{number}{line}</text><text x=\"{text_x}\" y=\"{}\" class=\"l\">",
         rows.0, rows.1
     )?;
     put_who(&mut text, label.form)?;

@@ -5,77 +5,60 @@ use crate::canvas::Canvas;
 use crate::extent::is_bar;
 use crate::frames::draw_frames;
 use crate::labels::{Label, Labels};
-use crate::load::Load;
+use crate::loads::Loads;
+use crate::plan::Strip;
 use crate::rhythm::Rhythm;
 use crate::rows::{Lane, Rows};
-use crate::scale::end_of;
+use crate::scale::{end_of, runs_of};
+use crate::track::Track;
 use bench_decode::Place;
 use ch11_layout::View;
 use std::alloc::{AllocError, Global};
 
-/// A line on the way into the picture: where its lane stands, its labels, and its load.
+/// A lane on the way into the picture: what has it, where it stands, and its labels.
 #[derive(Drop)]
-struct Bus {
+struct Row {
+    track: Track,
     lane: Lane,
     labels: Labels,
-    load: Load,
 }
 
-/// A channel on the way into the picture: its number, what lanes show, where they begin and end, how many of its
-/// messages were passed, its elements so far, how many bytes these have, its lines, and the rhythm of its messages.
+/// A channel on the way into the picture: its number, what lanes show, where they begin and end, how many lanes stand
+/// in front of its own, how many of its messages were passed, its elements so far, how many bytes these have, its
+/// lanes, and the rhythm of its messages.
 #[derive(Drop)]
 pub(crate) struct Lanes {
     pub(crate) channel: u16,
     rows: Rows,
     heights: (u64, u64),
+    before: usize,
     passed: u64,
     elements: Vec<String>,
     pub(crate) size: usize,
-    on_a: Bus,
-    on_b: Bus,
+    lanes: Vec<Row>,
     rhythm: Rhythm,
 }
 
-impl Bus {
-    fn new(alloc: Global, lane: Lane) -> Result<Bus, AllocError> {
-        Ok(Bus {
-            lane,
-            labels: Labels::new(alloc),
-            load: Load::new(alloc)?,
-        })
-    }
-
-    /// Draws the labels of a lane once all messages were passed.
-    fn draw_labels(&self, canvas: &mut Canvas<'_>, rows: &Rows) -> Result<(), AllocError> {
-        let (alloc, picture) = (canvas.alloc, &mut canvas.picture);
-        self.labels.draw(alloc, picture, &self.lane, rows.all)
-    }
-
-    /// Draws the load of a lane up to a bound in percent.
-    fn draw_load(&self, canvas: &mut Canvas<'_>, bound: u64) -> Result<(), AllocError> {
-        let (alloc, picture) = (canvas.alloc, &mut canvas.picture);
-        self.load
-            .draw(alloc, picture, &canvas.scale, &self.lane, bound)
-    }
-}
-
 impl Lanes {
-    /// The lanes of a channel that stands at a place, with no message yet.
-    pub(crate) fn new(
-        alloc: Global,
-        rows: &Rows,
-        place: u64,
-        channel: u16,
-    ) -> Result<Lanes, AllocError> {
+    /// The lanes of a channel, with no message yet.
+    pub(crate) fn new(alloc: Global, rows: &Rows, strip: &Strip) -> Result<Lanes, AllocError> {
+        let mut lanes = Vec::new(alloc);
+        for (place, track) in strip.tracks.iter().enumerate() {
+            lanes.push(Row {
+                track: *track,
+                lane: strip.lane(rows, place),
+                labels: Labels::new(alloc),
+            })?;
+        }
         Ok(Lanes {
-            channel,
+            channel: strip.channel,
             rows: *rows,
-            heights: rows.lanes(place),
+            heights: strip.heights(rows),
+            before: strip.before,
             passed: 0,
             elements: Vec::new(alloc),
             size: 0,
-            on_a: Bus::new(alloc, rows.lane(place, false))?,
-            on_b: Bus::new(alloc, rows.lane(place, true))?,
+            lanes,
             rhythm: Rhythm::new(alloc),
         })
     }
@@ -87,74 +70,98 @@ impl Lanes {
         Ok(())
     }
 
-    /// One more message of the channel, with its number in the file: its element, where it is selected, its time is
-    /// known, and it has the room of a bar; without that room it is added to the load of its line.
-    pub(crate) fn add(
+    /// How many lanes there are.
+    pub(crate) fn count(&self) -> usize {
+        self.lanes.len()
+    }
+
+    /// One more message of the channel, with its number in the file: where it is, if it is selected and its time is
+    /// known.
+    pub(crate) fn pass(
         &mut self,
-        canvas: &mut Canvas<'_>,
+        canvas: &Canvas<'_>,
         number: u64,
         view: &View<'_>,
-    ) -> Result<Option<String>, AllocError> {
+    ) -> Result<Option<Place>, AllocError> {
         self.passed = self.passed.saturating_add(1);
         if !canvas.selection.selects(number, self.channel, view) || !view.has_time() {
             return Ok(None);
         }
-        let place = Place {
+        self.rhythm.add(canvas.alloc, view, end_of(view))?;
+        Ok(Some(Place {
             number,
             channel: self.channel,
             in_channel: self.passed,
-        };
-        self.drawn(canvas, &place, view)
+        }))
     }
 
-    /// The element of a message on its line, where it has the room of a bar.
+    /// The element of a message in the lane at a place, where it stands there and has the room of a bar.
+    pub(crate) fn drawn(
+        &mut self,
+        canvas: &mut Canvas<'_>,
+        lane: usize,
+        place: &Place,
+        view: &View<'_>,
+    ) -> Result<Option<String>, AllocError> {
+        let ticks = end_of(view).saturating_sub(view.stamp());
+        if !self.rows.all && !is_bar(&canvas.scale, ticks) {
+            return Ok(None);
+        }
+        match self.lanes.get_mut(lane) {
+            Some(row) if row.track.has(view) => Ok(Some(row.drawn(canvas, place, view)?)),
+            _ => Ok(None),
+        }
+    }
+}
+
+impl Row {
+    /// The element of a message that stands in the lane, which has a label too.
     fn drawn(
         &mut self,
         canvas: &mut Canvas<'_>,
         place: &Place,
         view: &View<'_>,
-    ) -> Result<Option<String>, AllocError> {
-        let rows = self.rows;
-        let end = end_of(view);
-        self.rhythm.add(canvas.alloc, view, end)?;
-        let bus = if view.is_on_line_b() {
-            &mut self.on_b
-        } else {
-            &mut self.on_a
-        };
-        if rows.load {
-            bus.load.add(&canvas.scale, view.stamp(), end);
-        }
-        if rows.all || is_bar(&canvas.scale, end.saturating_sub(view.stamp())) {
-            bus.labels.add(Label {
-                at: canvas.scale.tenths(view.stamp()) / 10,
-                number: place.number,
-                form: view.form(),
-            })?;
-            return Ok(Some(bar_of(canvas, &bus.lane, place, view)?));
-        }
-        if view.has_error() {
-            bus.load.fail(&canvas.scale, view.stamp(), place.number);
-        }
-        Ok(None)
+    ) -> Result<String, AllocError> {
+        self.labels.add(Label {
+            at: canvas.scale.tenths(begin_in(self.track, view)) / 10,
+            number: place.number,
+            on_b: matches!(self.track, Track::Terminal(_)) && view.is_on_line_b(),
+            form: view.form(),
+        })?;
+        bar_of(canvas, self.track, &self.lane, place, view)
     }
 }
 
-/// Draws the elements of a channel, the begins of frames, the labels, and the load of both lines by one scale.
-pub(crate) fn draw_lanes(canvas: &mut Canvas<'_>, lanes: &Lanes) -> Result<(), AllocError> {
+/// When the first of a message's words begins that stands in a lane which has it, in ticks.
+fn begin_in(track: Track, view: &View<'_>) -> u64 {
+    let mut before = 0usize;
+    for run in runs_of(view) {
+        if run.words > 0 && track.has_word(view, before) {
+            return run.begin;
+        }
+        before = before.saturating_add(run.words as usize);
+    }
+    view.stamp()
+}
+
+/// Draws the elements of a channel, the begins of frames, the labels, and the loads of its lanes.
+pub(crate) fn draw_lanes(
+    canvas: &mut Canvas<'_>,
+    lanes: &Lanes,
+    loads: &Loads,
+) -> Result<(), AllocError> {
     for element in lanes.elements.iter() {
         canvas.picture.put(element.as_str())?;
     }
     draw_rhythm(canvas, lanes)?;
-    lanes.on_a.draw_labels(canvas, &lanes.rows)?;
-    lanes.on_b.draw_labels(canvas, &lanes.rows)?;
-    let (on_a, on_b) = (&lanes.on_a.load, &lanes.on_b.load);
-    if !lanes.rows.load || (on_a.is_idle() && on_b.is_idle()) {
-        return Ok(());
+    for row in lanes.lanes.iter() {
+        let (alloc, picture) = (canvas.alloc, &mut canvas.picture);
+        row.labels.draw(alloc, picture, &row.lane, lanes.rows.all)?;
     }
-    let bound = on_a.bound(&canvas.scale).max(on_b.bound(&canvas.scale));
-    lanes.on_a.draw_load(canvas, bound)?;
-    lanes.on_b.draw_load(canvas, bound)
+    for (place, row) in lanes.lanes.iter().enumerate() {
+        loads.draw(canvas, lanes.before.saturating_add(place), &row.lane)?;
+    }
+    Ok(())
 }
 
 /// Draws the begins of frames, where the messages have a rhythm.

@@ -5,9 +5,11 @@
 //! `command_tests`, and of recordings that are read anew `ch11_stream_tests`. Its wrong bodies: `edits/`.
 #![tactic(auto)]
 
+mod asked;
 mod axis;
 mod bands;
 mod bars;
+mod called;
 mod canvas;
 mod drawing;
 mod drawn;
@@ -19,15 +21,21 @@ mod group;
 mod labels;
 mod lanes;
 mod load;
+mod loads;
 mod picture;
+mod plan;
 mod plot;
 mod plots;
 mod range;
 mod rhythm;
 mod rows;
 mod scale;
+mod track;
 
+pub use asked::Asked;
 pub use axis::{Unit, first_step, step_of};
+pub use called::Called;
 pub use drawing::{Drawing, draw};
 pub use fault::DrawFault;
 pub use picture::MOST_BYTES;
+pub use track::{By, Track};

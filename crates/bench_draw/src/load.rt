@@ -1,12 +1,12 @@
-//! The load of a line over time, in percent.
+//! The load of a lane over time, in percent.
 
 use crate::picture::Picture;
 use crate::rows::{LOAD, Lane};
 use crate::scale::{LEFT, PARTS, Scale, WIDTH};
 use std::alloc::{AllocError, Global};
 
-/// How busy a line is in each hundredth of the time, in ticks, and for each pixel the number of the first message there
-/// that has an error, 0 where none has.
+/// How much of each hundredth of the time the messages of a lane take, in ticks, and for each pixel the number of the
+/// first message there that has an error, 0 where none has.
 #[derive(Drop)]
 pub(crate) struct Load {
     busy: Vec<u64>,
@@ -14,7 +14,7 @@ pub(crate) struct Load {
 }
 
 impl Load {
-    /// A line on which nothing has been yet; an error where there is no memory.
+    /// That of a lane without messages; an error where there is no memory.
     pub(crate) fn new(alloc: Global) -> Result<Load, AllocError> {
         Ok(Load {
             busy: vec![in alloc; 0; PARTS]?,
@@ -47,11 +47,6 @@ impl Load {
         };
         let share = u128::from(*busy) * 1000 / u128::from(scale.ticks_in(part).max(1));
         u64::try_from(share).unwrap_or(1000).min(1000)
-    }
-
-    /// Whether nothing was on the line.
-    pub(crate) fn is_idle(&self) -> bool {
-        self.busy.iter().all(|busy| *busy == 0)
     }
 
     /// The load up to which it may be drawn, in percent: a round one that none is above.

@@ -1,7 +1,7 @@
 //! Where lanes stand from top to bottom, and what they show.
 
 /// Where the first channel begins, in pixels from the top.
-const TOP: u64 = 92;
+pub(crate) const TOP: u64 = 92;
 
 /// How high the place of labels over bars is.
 const LABELS: u64 = 46;
@@ -48,28 +48,21 @@ impl Rows {
         self.bars_high().saturating_add(load)
     }
 
-    /// How high a channel is with both its lines.
-    fn channel_high(&self) -> u64 {
-        self.lane_high().saturating_mul(2).saturating_add(BETWEEN)
+    /// How high a channel is with so many lanes.
+    pub(crate) fn channel_high(&self, lanes: usize) -> u64 {
+        self.lane_high()
+            .saturating_mul(lanes as u64)
+            .saturating_add(BETWEEN)
     }
 
-    /// Where so many channels end.
-    pub(crate) fn end(&self, channels: u64) -> u64 {
-        TOP.saturating_add(channels.saturating_mul(self.channel_high()))
+    /// Where so many lanes of a channel end that begins there.
+    pub(crate) fn low(&self, top: u64, lanes: usize) -> u64 {
+        top.saturating_add(self.lane_high().saturating_mul(lanes as u64))
     }
 
-    /// Where the lanes of the channel at a place begin and end.
-    pub(crate) fn lanes(&self, place: u64) -> (u64, u64) {
-        (
-            self.end(place),
-            self.end(place.saturating_add(1)).saturating_sub(BETWEEN),
-        )
-    }
-
-    /// The lane of line A or B of the channel at a place.
-    pub(crate) fn lane(&self, place: u64, line_b: bool) -> Lane {
-        let beside = if line_b { self.lane_high() } else { 0 };
-        let top = self.end(place).saturating_add(beside);
+    /// The lane at a place of a channel that begins there.
+    pub(crate) fn lane(&self, top: u64, place: usize) -> Lane {
+        let top = self.low(top, place);
         let under = self.bars_high().saturating_add(BETWEEN);
         Lane {
             bars: top.saturating_add(LABELS),

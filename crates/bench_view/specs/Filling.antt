@@ -32,6 +32,8 @@ pub record IsFilled (front : List ℕ) (signals : List Signal) (messages : List 
   pub shut : f.full ≡ true → IsShut signals messages f.shown
 
 -- the chosen ones of a history, and how many messages each channel had
-pub record AreFilled (front : List ℕ) (signals : List Signal) (s : Selection) (history : List Viewed) (f : Filling) : Type 0 where
-  pub filled : IsFilled front signals (chosen s history) f
-  pub counts : AreCounts (channels_of history) f.numbers.counts.items
+pub record AreFilled (front : List ℕ) (signals : List Signal) (s : Selection) (history : List Viewed) (f : Filling)
+    : Type 0
+  where
+    pub filled : IsFilled front signals (chosen s history) f
+    pub counts : AreCounts (channels_of history) f.numbers.counts.items

@@ -1,6 +1,6 @@
--- A message as a line of a page (own choice): its number in the file, its channel, its number there, its stamp, then its
--- block status word, its gap times word and its bus words, and the values of signals that it has, each with the place
--- of the signal in the dictionary, counted from 0.
+-- A message as a line of a page (own choice): its number in the file, its channel, its number there, its stamp, then
+-- its block status word, its gap times word and its bus words, and the values of signals that it has, each with the
+-- place of the signal in the dictionary, counted from 0.
 use Rattle.std.specs.Prelude.{ℕ, zero, suc, ◌+◌, List, [], ◌∷◌, ◌++◌, Option, Some, None}
 use Rattle.std.specs.List.{flat_map}
 use Rattle.ch11_layout.specs.Layouts.{size_of, word_of}

@@ -19,11 +19,11 @@ use ch11_stream::{Advance, Packets, StreamFault};
 use std::alloc::{AllocError, Global};
 
 /// The page of the chosen messages of all bytes that a reader has left: a line for each, in the file's order, of the
-/// first 200,000 and as far as these lines have at most 38,000,000 bytes; how many there are, and how many were chosen;
-/// and notes, at most 1,000,000 bytes of them: the name of the recording, the signals, the names of channels, and what
-/// the clock tells of the time of day. The recording is read once, as its packets come, in memory for the largest packet
-/// of messages or of time, and for the page. One that can't be read is refused with its first fault, K1 to K5, N2 or F1
-/// to F3; want of memory and the reader's failure are the others.
+/// first 200,000 and as far as these lines have at most 38,000,000 bytes; how many there are, and how many were
+/// chosen; and notes, at most 1,000,000 bytes of them: the name of the recording, the signals, the names of channels,
+/// and what the clock tells of the time of day. The recording is read once, as its packets come, in memory for the
+/// largest packet of messages or of time, and for the page. One that can't be read is refused with its first fault, K1
+/// to K5, N2 or F1 to F3; want of memory and the reader's failure are the others.
 pub fn page_of<R: Advance + Drop>(
     alloc: Global,
     input: R,

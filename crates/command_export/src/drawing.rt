@@ -1,18 +1,16 @@
 //! `bench draw`: the messages of a recording as a picture.
 
-use bench_draw::{DrawFault, Drawing, draw};
+use bench_draw::{Asked, By, DrawFault, Drawing, draw};
 use bench_files::{Hold, Kind};
 use bench_names::ChannelNames;
-use bench_requests::{Fault, write_new};
-use bench_select::Selection;
+use bench_requests::Fault;
 use clap::{ArgMatches, Command};
-use command_parts::dictionaries::selection_by;
-use command_parts::extracting::{Extract, extract_options};
+use command_parts::extracting::extract_options;
 use command_parts::looking::{tell_of_unknown, tell_of_unread};
-use command_parts::options::{command_of, file, time_channel};
-use command_parts::recordings::{Recording, Source, Times, fault_of_reading};
+use command_parts::options::{choice, command_of};
+use command_parts::recordings::{Recording, Source, fault_of_reading};
 use command_parts::selecting::selection_options;
-use signal_dictionary::Signal;
+use command_parts::showing::{Showing, showing_options};
 use std::alloc::{AllocError, Global};
 use std::io::IsTerminal;
 use std::rt::{Clock, Files};
@@ -23,10 +21,14 @@ Each channel has a lane for bus A and one for bus B. Over the time that a messag
 with the terminal that they call, its data words, and the status words with the terminal that answered; over it
 its number, the address, R to receive or T to transmit and the subaddress; a red mark stands for an error and its
 kind. Of up to 24 messages all are labelled, of more those that have the room. Where messages are too close for
-that, the load of the line in percent is drawn; --from and --to show a part of them. Times are those of the
-recording, from tick 0 of its stamps, or from 1970 where these are times of day. Where commands recur with a
-period, a dashed line marks the begin of a frame. Where the mouse rests on a bar, a browser shows the message
-decoded.
+that, the load of each lane is drawn, the share of the time in percent that its messages take, by one scale for
+all lanes; --from and --to show a part of them. Times are those of the recording, from tick 0 of its stamps, or
+from 1970 where these are times of day. Where commands recur with a period, a dashed line marks the begin of a
+frame. Where the mouse rests on a bar, a browser shows the message decoded.
+
+With --by terminal a channel has a lane for each terminal that is called, in rising order, and one for broadcast in
+place of those of its lines. It has the words that the terminal sends or is sent, so that a transfer stands in two
+lanes; B stands behind the number of a message on bus B. A message without words has no terminal.
 
 With --signals DICTIONARY (bench signals --help) each signal has a lane of its own below, for each channel that has it
 (up to 64): its values over time as steps, with the least and the greatest at the left, or its names as bands; --only
@@ -35,6 +37,7 @@ then takes signal NAME too.
 Example:
   bench draw flight.ch11 --out flight.svg
   bench draw flight.ch11 --out retry.svg --channel 2 --from 15 --to 20
+  bench draw flight.ch11 --out terminals.svg --by terminal --to 40ms
   bench draw flight.ch11 --out speed.svg --signals avionics.signals";
 
 /// The command line of `bench draw`.
@@ -43,30 +46,35 @@ pub fn command<'a>(alloc: Global) -> Result<Command<'a>, AllocError> {
     let out = "The file to write the picture to, as SVG";
     let rows = extract_options("The Chapter 11 file to draw", out);
     let signals = "The dictionary of signals of which each has a lane";
-    let (more, selection) = (
-        [file("signals", signals), time_channel()],
-        selection_options(),
-    );
-    command_of(alloc, "draw", about, NOTES, &[&rows, &more, &selection])
+    let by = "Lanes by bus line, as where it is left out, or by terminal";
+    let lanes = [choice("by", "WHAT", &["line", "terminal"], by)];
+    let (more, selection) = (showing_options(signals), selection_options());
+    command_of(
+        alloc,
+        "draw",
+        about,
+        NOTES,
+        &[&rows, &lanes, &more, &selection],
+    )
 }
 
 /// What is to be drawn, and where to.
 #[derive(Debug, Drop)]
 pub struct Request<'a> {
-    /// Which messages, and the file to write to.
-    pub extract: Extract<'a>,
-    /// The channel whose time packets tell times of day; all where none is named.
-    pub time_channel: Option<u16>,
-    /// The file of a dictionary whose signals have lanes, if any.
-    pub signals: Option<&'a str>,
+    /// Which messages, with which signals, and the file to write to.
+    pub showing: Showing<'a>,
+    /// By what the messages of a channel have lanes.
+    pub by: By,
 }
 
 /// What a command line asks of `bench draw`.
 pub fn request_in<'a>(given: &ArgMatches<'a>) -> Request<'a> {
     Request {
-        extract: Extract::given(given),
-        time_channel: given.get_one::<u16>("time-channel"),
-        signals: given.get_str("signals"),
+        showing: Showing::given(given),
+        by: match given.get_str("by") {
+            Some("terminal") => By::Terminal,
+            _ => By::Line,
+        },
     }
 }
 
@@ -86,33 +94,25 @@ pub fn run<'a, R: Files<File: Hold> + AllocGlobal + Clock, E: Eprint + IsTermina
     errors: &E,
     request: &Request<'a>,
 ) -> Result<(), Fault<'a>> {
-    let extract = &request.extract;
-    let signals = extract.judge(rt, Kind::Picture, request.signals)?;
-    let selection = selection_by(&extract.selection, request.signals, signals.as_slice())?;
-    let source = Source::of(rt, errors, extract.recording)?;
+    let (showing, name) = (&request.showing, request.showing.extract.recording);
+    let signals = showing.judge(rt, Kind::Picture)?;
+    let selection = showing.selection(signals.as_slice())?;
+    let source = Source::of(rt, errors, name)?;
     let recording = source.recording(false, false);
     let stamps = recording.stamps(true)?;
-    let selection = selection.counting_from(stamps.origins.as_slice());
-    let drawn = draw_recording(&recording, request, &selection, signals.as_slice());
+    let asked = Asked {
+        selection: selection.counting_from(stamps.origins.as_slice()),
+        signals: signals.as_slice(),
+        by: request.by,
+    };
+    let drawn = draw_recording(&recording, showing, &asked);
     source.end();
-    tell_of_unknown(errors, extract.recording, &stamps);
+    tell_of_unknown(errors, name, &stamps);
     let drawn = drawn?;
-    put_picture(rt, extract, &drawn.drawing)?;
-    tell_of_unread(errors, extract.recording, drawn.unread);
+    let drawing = &drawn.drawing;
+    showing.put(rt, Kind::Picture, drawing.messages, drawing.text.as_slice())?;
+    tell_of_unread(errors, name, drawn.unread);
     Ok(())
-}
-
-/// Puts a picture into the out file. One without a message is none where messages were chosen.
-fn put_picture<'a, R: Files<File: Hold> + AllocGlobal>(
-    rt: &R,
-    extract: &Extract<'a>,
-    drawing: &Drawing,
-) -> Result<(), Fault<'a>> {
-    if drawing.messages == 0 && !extract.selection.is_empty() {
-        return Err(Fault::NoneSelected);
-    }
-    let (kind, text) = (Kind::Picture, drawing.text.as_slice());
-    write_new(rt, extract.out, kind, extract.force, text)
 }
 
 /// A picture of a recording.
@@ -123,25 +123,19 @@ struct Drawn {
     unread: bool,
 }
 
-/// Draws a recording with the lanes of these signals: a pass for its clock, and those of the picture.
+/// Draws what is asked of a recording: a pass for its clock, and those of the picture.
 fn draw_recording<'a, R: Files + AllocGlobal + Clock, E: Eprint + IsTerminal>(
     recording: &Recording<'_, 'a, R, E>,
-    request: &Request<'a>,
-    selection: &Selection,
-    signals: &[Signal],
+    showing: &Showing<'a>,
+    asked: &Asked<'_>,
 ) -> Result<Drawn, Fault<'a>> {
-    let alloc = recording.alloc();
-    let read = recording.clock(Times {
-        asked: true,
-        channel: request.time_channel,
-    })?;
-    let front = recording.front()?;
-    let names = ChannelNames::of(front.as_slice());
-    match draw(alloc, recording, selection, &read.clock, &names, signals) {
+    let known = showing.known(recording)?;
+    let names = ChannelNames::of(known.front.as_slice());
+    match draw(recording.alloc(), recording, asked, &known.clock, &names) {
         Ok(drawing) => Ok(Drawn {
             drawing,
-            unread: read.unread,
+            unread: known.unread,
         }),
-        Err(fault) => Err(fault_of_drawing(request.extract.recording, fault)),
+        Err(fault) => Err(fault_of_drawing(showing.extract.recording, fault)),
     }
 }

@@ -15,5 +15,6 @@ pub mod options;
 pub mod recordings;
 pub mod replacing;
 pub mod selecting;
+pub mod showing;
 pub mod streams;
 pub mod terminals;

@@ -2,16 +2,16 @@
 
 use bench_files::{Hold, Kind};
 use bench_names::ChannelNames;
-use bench_requests::{Fault, write_new};
+use bench_requests::Fault;
 use bench_select::Selection;
 use bench_view::{Asked, Page, page_of, template};
 use clap::{ArgMatches, Command};
-use command_parts::dictionaries::selection_by;
-use command_parts::extracting::{Extract, extract_options};
+use command_parts::extracting::extract_options;
 use command_parts::looking::{tell_of_unknown, tell_of_unread};
-use command_parts::options::{command_of, file, time_channel};
-use command_parts::recordings::{Recording, Source, Times};
+use command_parts::options::command_of;
+use command_parts::recordings::{Recording, Source};
 use command_parts::selecting::selection_options;
+use command_parts::showing::{Showing, showing_options};
 use signal_dictionary::Signal;
 use std::alloc::{AllocError, Global};
 use std::io::IsTerminal;
@@ -40,30 +40,21 @@ pub fn command<'a>(alloc: Global) -> Result<Command<'a>, AllocError> {
     let out = "The file to write the page to, as HTML";
     let rows = extract_options("The Chapter 11 file to look at", out);
     let signals = "The dictionary of signals whose values the page shows";
-    let (more, selection) = (
-        [file("signals", signals), time_channel()],
-        selection_options(),
-    );
+    let (more, selection) = (showing_options(signals), selection_options());
     command_of(alloc, "view", about, NOTES, &[&rows, &more, &selection])
 }
 
 /// What the page is of, and where to.
 #[derive(Debug, Drop)]
 pub struct Request<'a> {
-    /// Which messages, and the file to write to.
-    pub extract: Extract<'a>,
-    /// The channel whose time packets tell times of day; all where none is named.
-    pub time_channel: Option<u16>,
-    /// The file of a dictionary whose signals are shown, if any.
-    pub signals: Option<&'a str>,
+    /// Which messages, with which signals, and the file to write to.
+    pub showing: Showing<'a>,
 }
 
 /// What a command line asks of `bench view`.
 pub fn request_in<'a>(given: &ArgMatches<'a>) -> Request<'a> {
     Request {
-        extract: Extract::given(given),
-        time_channel: given.get_one::<u16>("time-channel"),
-        signals: given.get_str("signals"),
+        showing: Showing::given(given),
     }
 }
 
@@ -75,34 +66,22 @@ pub fn run<'a, R: Files<File: Hold> + AllocGlobal + Clock, E: Eprint + IsTermina
     errors: &E,
     request: &Request<'a>,
 ) -> Result<(), Fault<'a>> {
-    let extract = &request.extract;
-    let signals = extract.judge(rt, Kind::Page, request.signals)?;
-    let selection = selection_by(&extract.selection, request.signals, signals.as_slice())?;
-    let source = Source::of(rt, errors, extract.recording)?;
+    let (showing, name) = (&request.showing, request.showing.extract.recording);
+    let signals = showing.judge(rt, Kind::Page)?;
+    let selection = showing.selection(signals.as_slice())?;
+    let source = Source::of(rt, errors, name)?;
     let recording = source.recording(false, false);
     let stamps = recording.stamps(true)?;
     let selection = selection.counting_from(stamps.origins.as_slice());
-    let made = make_page(&recording, request, selection, signals.as_slice());
+    let made = make_page(&recording, showing, selection, signals.as_slice());
     source.end();
-    tell_of_unknown(errors, extract.recording, &stamps);
+    tell_of_unknown(errors, name, &stamps);
     let made = made?;
-    put_page(rt, extract, &made.page)?;
-    tell_of_unread(errors, extract.recording, made.unread);
-    tell_of_more(errors, extract.recording, &made.page);
+    let page = &made.page;
+    showing.put(rt, Kind::Page, page.chosen, page.text.as_slice())?;
+    tell_of_unread(errors, name, made.unread);
+    tell_of_more(errors, name, page);
     Ok(())
-}
-
-/// Puts a page into the out file. One without a message is none where messages were chosen.
-fn put_page<'a, R: Files<File: Hold> + AllocGlobal>(
-    rt: &R,
-    extract: &Extract<'a>,
-    page: &Page,
-) -> Result<(), Fault<'a>> {
-    if page.chosen == 0 && !extract.selection.is_empty() {
-        return Err(Fault::NoneSelected);
-    }
-    let text = page.text.as_slice();
-    write_new(rt, extract.out, Kind::Page, extract.force, text)
 }
 
 /// Says that a page has not all messages.
@@ -135,28 +114,24 @@ fn file_name(path: &str) -> &str {
 /// Makes the page of a recording: a pass for its clock, and one for the page.
 fn make_page<'a, R: Files + AllocGlobal + Clock, E: Eprint + IsTerminal>(
     recording: &Recording<'_, 'a, R, E>,
-    request: &Request<'a>,
+    showing: &Showing<'a>,
     selection: Selection<'_>,
     signals: &[Signal],
 ) -> Result<Made, Fault<'a>> {
     let alloc = recording.alloc();
-    let read = recording.clock(Times {
-        asked: true,
-        channel: request.time_channel,
-    })?;
-    let front = recording.front()?;
-    let names = ChannelNames::of(front.as_slice());
+    let known = showing.known(recording)?;
+    let names = ChannelNames::of(known.front.as_slice());
     let asked = Asked {
         selection,
         signals,
-        name: file_name(request.extract.recording),
+        name: file_name(showing.extract.recording),
     };
     let template = template(alloc)?;
     let input = recording.begin_reading()?;
-    let made = page_of(alloc, input, &asked, &read.clock, &names, &template);
+    let made = page_of(alloc, input, &asked, &known.clock, &names, &template);
     let page = recording.answer(made)?;
     Ok(Made {
         page,
-        unread: read.unread,
+        unread: known.unread,
     })
 }
