@@ -36,7 +36,11 @@ _bench() {
             return
             ;;
         --by)
-            _bench_words "terminal subaddress" "$word"
+            if [ "$command" = draw ]; then
+                _bench_words "line terminal" "$word"
+            else
+                _bench_words "terminal subaddress" "$word"
+            fi
             return
             ;;
         --out | --report | --prologue | --judge | --junit | --setup | --signals)
@@ -80,10 +84,14 @@ _bench() {
             options="--version --skip $options"
             ;;
         cut) options="--out --force --skip --channel --line --only --errors --from --to $options" ;;
-        reproduce) options="--channel --out --force $options" ;;
+        reproduce) options="--channel --out --frames --force $options" ;;
         compare) options="--within --junit --json --force --channel --line --only --errors --from --to $options" ;;
         judge) options="--junit --json --force --signals --skip $options" ;;
-        draw | view) options="--out --force --signals --time-channel --channel --line --only --errors --from --to $options" ;;
+        draw)
+            options="--out --force --by --signals --time-channel $options"
+            options="--channel --line --only --errors --from --to $options"
+            ;;
+        view) options="--out --force --signals --time-channel --channel --line --only --errors --from --to $options" ;;
     esac
     case $word in
         -*)

@@ -30,5 +30,6 @@ pub fn is_of_kind(kind: Kind, beginning: &[u8]) -> bool
         Kind::Verdicts => beginning.starts_with(b"<?xml "),
         Kind::Waves => beginning.starts_with(b"$comment kind: "),
         Kind::Page => beginning.starts_with(b"<!DOCTYPE html>"),
+        Kind::Job => beginning.starts_with(b"# What was recorded of channel "),
     }
 }

@@ -20,9 +20,12 @@ pub enum Kind {
     Waves,
     /// Messages as a page for a browser.
     Page,
+    /// A job that plays a recorded channel again.
+    Job,
 }
 
-/// `recording`, `report`, `image`, `table of messages`, `picture`, `JUnit report`, `value change dump`, `page`.
+/// `recording`, `report`, `image`, `table of messages`, `picture`, `JUnit report`, `value change dump`, `page`,
+/// `job of a recording`.
 impl Display for Kind {
     ghost use Rattle.bench_files.specs.Codes.{kind_text};
     ghost use Rattle.std.specs.Prelude.{Some};
@@ -39,6 +42,7 @@ impl Display for Kind {
             Kind::Verdicts => "JUnit report",
             Kind::Waves => "value change dump",
             Kind::Page => "page",
+            Kind::Job => "job of a recording",
         })
     }
 }

@@ -7,13 +7,14 @@ use Rattle.ch11_layout.specs.Stamps.{Recorded}
 use Rattle.frame_tree.specs.Bounds.{IsSound}
 use Rattle.bc_machine.specs.Running.{MachineState}
 use Rattle.bc_machine.specs.declared.placed.Placed.{Placed}
+use Rattle.job_file.specs.Jobs.{JobState, job_in}
 use Rattle.job_file.specs.Machines.{IsOf}
 use Rattle.job_file.specs.Meaning.{records}
 use Rattle.job_file.specs.Spelled.{ChannelJob}
 use Rattle.bench_compare.specs.Channels.{origins_by}
 use Rattle.bench_compare.specs.Differences.{first_stamp, origins_of}
 use Rattle.bench_compare.specs.declared.differences.Origins.{Origins}
-use Rattle.bench_reproduce.specs.Readings.{read_again}
+use Rattle.bench_reproduce.specs.Readings.{read_again, run_of}
 use Rattle.bench_reproduce.specs.Running.{ComparesNext, IsCompared, stamp_or, told_from}
 use Rattle.bench_reproduce.specs.Sameness.{is_same, places, same_in, same_up_to}
 use Rattle.bench_reproduce.specs.declared.judging.Standing.{Standing}
@@ -36,14 +37,28 @@ next_is job placed m now None here more all same sound of =
     let end : m.point.number ≡ length (records job placed) = all job placed sound of in
     (sym (slice_get_past (records job placed) m.point.number (omega (arith, end))), omega (arith, end, same))
 
-pub compares_next : {E : Type 0} (result : Result (Unit {0}) E) (rs : List Record) (made after : ℕ) (r : Option Record) (before now : Standing) (a : Recorded)
-    → OnOk result (IsCompared before a r now) → r ≡ slice_get rs made → after ≡ min (made + 1) (length rs)
-    → OnOk result (ComparesNext rs made after before a now)
-compares_next (Ok x) rs made after r before now a compared is count = record {
-  next = count;
-  compared = subst (λ (o : Option Record). IsCompared before a o now) is compared;
-}
-compares_next (Err e) rs made after r before now a compared is count = tt
+-- a message was compared with it, under whatever placed actions the controller is of the job
+pub compares_under : {E : Type 0} (result : Result (Unit {0}) E) (job : ChannelJob) (m after : MachineState) (r : Option Record) (before now : Standing) (a : Recorded)
+    → OnOk result (IsCompared before a r now)
+    → ((placed : List Placed) → IsOf job placed m → (r ≡ slice_get (records job placed) m.point.number) × (after.point.number ≡ min (m.point.number + 1) (length (records job placed))))
+    → OnOk result ((placed : List Placed) → IsOf job placed m → ComparesNext (records job placed) m.point.number after.point.number before a now)
+compares_under (Ok x) job m after r before now a compared next = λ placed of.
+    let is = next placed of in
+    record {
+      next = is.1;
+      compared = subst (λ (o : Option Record). IsCompared before a o now) is.0 compared;
+    }
+compares_under (Err e) job m after r before now a compared next = tt
+
+one_or_none : (b : Bool) → cond b 1 0 ≤ 1
+one_or_none true = omega arith
+one_or_none false = omega arith
+
+pub counts_one : {E : Type 0} (result : Result (Unit {0}) E) (r : Option Record) (before now : Standing) (a : Recorded)
+    → OnOk result (IsCompared before a r now) → OnOk result (now.same ≤ before.same + 1)
+counts_one (Ok x) r before now a compared =
+    omega (arith, compared.same, one_or_none (is_same (told_from before a r) (Some a) (option_map read_again r)))
+counts_one (Err e) r before now a compared = tt
 
 -- ---- so many messages were compared
 
@@ -64,10 +79,6 @@ module _ (xs : List Recorded) (rs : List Record) where
       by : (n < length rs) ⊎ (length rs ≤ n) → slice_get rs (min n (length rs)) ≡ slice_get rs n
       by (inl less) = let e : min n (length rs) ≡ n = omega (arith, less) in ap (slice_get rs) e
       by (inr past) = slice_get_past rs (min n (length rs)) (omega (arith, past)) ∙ sym (slice_get_past rs n past)
-
-  one : (b : Bool) → cond b 1 0 ≤ 1
-  one true = omega arith
-  one false = omega arith
 
 first_of : (rs : List Record) → stamp_or (slice_get rs 0) ≡ first_stamp (map read_again rs)
 first_of [] = refl
@@ -111,7 +122,7 @@ goes_on xs rs n made after st now a k here next =
     record {
       number = omega (arith, next.next, k.number);
       same = count ∙ ap (same_up_to o xs (map read_again rs)) (sym more);
-      small = omega (arith, next.compared.same, one xs rs (is_same (told_from st a (slice_get rs made)) (Some a) (option_map read_again (slice_get rs made))), k.small);
+      small = omega (arith, next.compared.same, one_or_none (is_same (told_from st a (slice_get rs made)) (Some a) (option_map read_again (slice_get rs made))), k.small);
       origins = next.compared.origins ∙ ap (λ (t : Origins). Some t) told ∙ ap (origins_at o) (sym more);
     }
 
@@ -140,3 +151,18 @@ all_compared xs rs n made st k all =
         by : (k < n) ⊎ (n ≤ k) → (more : ℕ) × (max k n ≡ more + k)
         by (inl less) = (n - k, omega (arith, less))
         by (inr past) = (0, omega (arith, past))
+
+-- ---- a job whose actions were handed over
+
+pub of_rest : (job rest : JobState) (m : MachineState) → rest ≡ record job { actions = [] } → IsOf (job_in job) job.actions m → IsOf (job_in rest) job.actions m
+of_rest job rest m is of =
+    subst (λ (j : JobState). IsOf (job_in j) job.actions m) (sym is) (record {
+      code = of.code;
+      plan = of.plan;
+      actions = of.actions;
+      begun = of.begun;
+      under_way = of.under_way;
+    })
+
+pub run_of_rest : (job rest : JobState) → rest ≡ record job { actions = [] } → map read_again (records (job_in rest) job.actions) ≡ run_of (job_in job)
+run_of_rest job rest is = ap (λ (j : JobState). map read_again (records (job_in j) job.actions)) is

@@ -51,6 +51,7 @@ pub(crate) fn due_count(message: &Message) -> u32 {
 }
 
 impl<'c> Case<'c> {
+    /// The message that it may be of.
     pub(crate) fn message(&self) -> &'c Message {
         &self.guess.message
     }

@@ -4,11 +4,12 @@
 use crate::cases::{Case, due_count};
 use crate::explanations::{Deed, Explanation};
 use crate::guesses::{GUESSES, Guess, guess_at};
-use crate::hosts::{has, is_uncommon, legality, renew, set_bits, set_reply};
+use crate::hosts::{Ahead, has, is_uncommon, legality, renew, set_bits, set_reply};
 use crate::mending::{mark_controller, mend, mend_bits, mend_controller};
 use crate::outlook::{Outlook, Shown, WRAPAROUND, bit};
 use crate::scene::Scene;
 use crate::styles::{Mark, STYLES, style_of};
+use crate::timeline::{Call, Played};
 use crate::wanted::Wanted;
 use bench_compare::Kept;
 use mil_bus::BusError;
@@ -102,6 +103,24 @@ impl<'a> Explainer<'a> {
     /// What explains the message that was explained last.
     pub(crate) fn explanation(&self) -> &Explanation {
         &self.explanation
+    }
+
+    /// Puts the message at a place behind those that were played on the bus, where it is explained.
+    fn play_one(&mut self, place: usize, played: &mut Vec<Played>) -> Result<(), AllocError> {
+        if let Some(wanted) = self.explain(place)? {
+            played.push(self.played(&wanted))?;
+        }
+        Ok(())
+    }
+
+    /// The same as it was played on the bus.
+    fn played(&self, wanted: &Wanted) -> Played {
+        Played {
+            at: wanted.at,
+            end: self.scene.ended(),
+            least: self.scene.least(),
+            call: Call::of(wanted.line, &self.explanation.message),
+        }
     }
 
     /// Tries guesses and ways until one gives the record and what is shown later; the best of them is then the
@@ -260,7 +279,12 @@ impl<'a> Explainer<'a> {
             renew(&mut self.explanation, address)?;
         }
         let stays = is_uncommon(reply.gap) && outlook.keeps_gap(case.next, address, reply.gap);
-        set_reply(&mut self.explanation, &self.scene, &reply, stays)
+        let ahead = Ahead {
+            outlook,
+            next: case.next,
+            stays,
+        };
+        set_reply(&mut self.explanation, &self.scene, &reply, &ahead)
     }
 
     /// The same for terminals that did not reply, as far as later messages show their status words.
@@ -336,4 +360,19 @@ impl<'a> Explainer<'a> {
 /// Whether another message might explain what later messages show.
 fn guess_matters(wanted: &Wanted) -> bool {
     !wanted.came(1)
+}
+
+/// When the messages of a channel were on the bus, and which they were.
+pub(crate) fn play(
+    alloc: Global,
+    heard: &[Kept],
+    first: u64,
+    addresses: &[u8],
+) -> Result<Vec<Played>, AllocError> {
+    let mut explainer = Explainer::begin(alloc, heard, first, addresses)?;
+    let mut played = Vec::new(alloc);
+    for place in 0..heard.len() {
+        explainer.play_one(place, &mut played)?;
+    }
+    Ok(played)
 }

@@ -1,5 +1,6 @@
-//! Which message a record may be of.
+//! Which message a record may be of, and which one that is no transfer between terminals.
 
+use crate::transfers::transfer;
 use crate::wanted::Wanted;
 use arrayvec::ArrayVec;
 use mil_message::Message;
@@ -28,8 +29,6 @@ const TO_TERMINAL: u8 = 0;
 
 const FROM_TERMINAL: u8 = 1;
 
-const BETWEEN: u8 = 2;
-
 const MODE: u8 = 3;
 
 const MODE_FROM: u8 = 4;
@@ -37,8 +36,6 @@ const MODE_FROM: u8 = 4;
 const MODE_TO: u8 = 5;
 
 const TO_ALL: u8 = 6;
-
-const BETWEEN_ALL: u8 = 7;
 
 const MODE_ALL: u8 = 8;
 
@@ -57,7 +54,7 @@ pub(crate) struct Guess {
 
 impl Guess {
     /// A message of which so many words are the controller's.
-    fn of(message: Message, sent: usize) -> Guess {
+    pub(crate) fn of(message: Message, sent: usize) -> Guess {
         Guess {
             message,
             sent,
@@ -68,7 +65,7 @@ impl Guess {
 }
 
 /// A command word of these fields.
-fn command(address: u8, transmit: bool, subaddress: u8, count: usize) -> u16 {
+pub(crate) fn command(address: u8, transmit: bool, subaddress: u8, count: usize) -> u16 {
     let direction = if transmit { 1024u16 } else { 0 };
     u16::from(address % 32) * 2048
         + direction
@@ -77,7 +74,7 @@ fn command(address: u8, transmit: bool, subaddress: u8, count: usize) -> u16 {
 }
 
 /// A subaddress of data words: that of a command, or else 1.
-fn data_subaddress(command: Command) -> u8 {
+pub(crate) fn data_subaddress(command: Command) -> u8 {
     if command.is_mode() {
         1
     } else {
@@ -311,101 +308,6 @@ fn other_transmit(wanted: &Wanted) -> Option<Message> {
     let count = if wanted.count() == 3 { 2 } else { 1 };
     let first = command(heard_address(wanted), true, 1, count);
     Message::of_parts(FROM_TERMINAL, first, 0, &[])
-}
-
-/// The terminals of a transfer, and how many words it has.
-#[derive(Clone, Copy)]
-struct Ends {
-    receiver: u8,
-    to: u8,
-    sender: u8,
-    from: u8,
-    count: u8,
-}
-
-/// A transfer between terminals.
-fn between(ends: Ends) -> Option<Message> {
-    let count = usize::from(ends.count);
-    let form = if ends.receiver == ALL {
-        BETWEEN_ALL
-    } else {
-        BETWEEN
-    };
-    let first = command(ends.receiver, false, ends.to, count);
-    let second = command(ends.sender, true, ends.from, count);
-    Message::of_parts(form, first, second, &[])
-}
-
-/// A terminal that may be the other end.
-fn other_end(address: u8) -> u8 {
-    if address == 0 { 1 } else { 0 }
-}
-
-/// The receiver of a transfer of which the command to it is not known: all terminals, where one reply was due and came.
-fn unknown_receiver(wanted: &Wanted, sender: u8) -> u8 {
-    if wanted.has(BlockBits::RESPONSE_TIMEOUT) || wanted.came(2) {
-        other_end(sender)
-    } else {
-        ALL
-    }
-}
-
-/// The ends that two commands have, with the count of the one or the other.
-fn both_ends(wanted: &Wanted, own: Command, second: Command, by_first: bool) -> Ends {
-    let sender = second.address().min(ALL - 1);
-    let receiver = if own.address() == sender {
-        unknown_receiver(wanted, sender)
-    } else {
-        own.address()
-    };
-    let counted = if by_first { own } else { second };
-    Ends {
-        receiver,
-        to: data_subaddress(own),
-        sender,
-        from: data_subaddress(second),
-        count: counted.count(),
-    }
-}
-
-/// The ends of a transfer whose first command, or whose second, was left out.
-fn one_end(wanted: &Wanted, which: u8) -> Ends {
-    let own = Command::of(wanted.word(0));
-    let address = own.address().min(ALL - 1);
-    let (receiver, sender) = if which == 2 {
-        (unknown_receiver(wanted, address), address)
-    } else {
-        (own.address(), other_end(own.address()))
-    };
-    let subaddress = data_subaddress(own);
-    Ends {
-        receiver,
-        to: subaddress,
-        sender,
-        from: subaddress,
-        count: own.count(),
-    }
-}
-
-/// A guess of a transfer between terminals.
-fn transfer(wanted: &Wanted, which: u8) -> Option<Guess> {
-    let (own, second) = (Command::of(wanted.word(0)), Command::of(wanted.word(1)));
-    let (ends, commands) = match which {
-        0 => (both_ends(wanted, own, second, false), 2),
-        1 => (both_ends(wanted, own, second, true), 2),
-        2 | 3 => (one_end(wanted, which), 1),
-        4 => (both_ends(wanted, own, second, false), 3),
-        _ => return None,
-    };
-    let message = between(ends)?;
-    let sent = if wanted.came(1) {
-        commands
-    } else {
-        wanted.count()
-    };
-    let mut found = Guess::of(message, sent);
-    found.is_headless = which == 2;
-    Some(found)
 }
 
 /// A message that a record may be of, the likeliest first; None where there is no such guess.

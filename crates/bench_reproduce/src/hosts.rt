@@ -2,7 +2,8 @@
 
 use crate::explanations::Explanation;
 use crate::guesses::ALL;
-use crate::outlook::is_question;
+use crate::outlook::{Outlook, is_question};
+use crate::ramps::{HIGHEST_PUT_UP, counters_in};
 use crate::scene::Scene;
 use arrayvec::ArrayVec;
 use mil_host::{Action, Mark, ModeMark, ReplyGap, ResponseGap, TransmitWords};
@@ -47,6 +48,16 @@ pub(crate) struct Reply<'a> {
     pub(crate) is_odd: bool,
     /// Whether one may be unsound.
     pub(crate) is_unsound: bool,
+}
+
+/// What the messages behind a reply are looked at for.
+#[derive(Clone, Copy)]
+pub(crate) struct Ahead<'o, 'm> {
+    pub(crate) outlook: &'o Outlook<'m>,
+    /// The place of the next message.
+    pub(crate) next: usize,
+    /// Whether the terminal's next reply has the same gap.
+    pub(crate) stays: bool,
 }
 
 /// Whether a status word has a bit.
@@ -113,15 +124,19 @@ fn set_flags(
     Ok(())
 }
 
+/// The word that a terminal sends at a place: 0 where none is put up.
+pub(crate) fn word_in(held: &[u16], place: usize) -> u16 {
+    match held.get(place) {
+        Some(word) => *word,
+        None => 0,
+    }
+}
+
 /// In how many places the words that a terminal sends are others than these.
 fn differing(held: &[u16], words: &[u16]) -> usize {
     let mut count = 0usize;
     for place in 0..words.len() {
-        let own = match held.get(place) {
-            Some(word) => *word,
-            None => 0,
-        };
-        if own != words[place] {
+        if word_in(held, place) != words[place] {
             count = count.saturating_add(1);
         }
     }
@@ -144,14 +159,12 @@ fn put_up(sub: u8, held: &[u16], words: &[u16]) -> Option<Action> {
     Some(Action::Transmit(TransmitWords::make(sub, all)))
 }
 
-/// The highest subaddress for which a host puts words up.
-const HIGHEST_PUT_UP: u8 = 29;
-
-/// Puts up the data words of a reply, where the terminal has others.
+/// Puts up the data words of a reply, where the terminal has others; as ramps, where later replies show that they are.
 fn set_words(
     explanation: &mut Explanation,
     terminal: &Terminal,
     reply: &Reply<'_>,
+    ahead: &Ahead<'_, '_>,
 ) -> Result<(), AllocError> {
     let sub = reply.command.subaddress();
     if !reply.command.is_transmit() || sub == 0 || sub > HIGHEST_PUT_UP {
@@ -160,6 +173,12 @@ fn set_words(
     let held = terminal.transmit_words(sub);
     let count = differing(held, reply.words);
     if count == 0 || reply.is_odd && count == 1 {
+        return Ok(());
+    }
+    if let Some(counters) = counters_in(ahead.outlook, ahead.next, held, reply) {
+        for counter in counters.as_slice() {
+            explanation.act(terminal.address(), Action::Ramp(counter.ramp(sub)))?;
+        }
         return Ok(());
     }
     match put_up(sub, held, reply.words) {
@@ -251,12 +270,12 @@ fn replying<'t>(scene: &'t Scene, reply: &Reply<'_>) -> Option<&'t Terminal> {
     }
 }
 
-/// Has the host of a terminal set what its reply shows. `stays`: its next reply has the same gap.
+/// Has the host of a terminal set what its reply shows.
 pub(crate) fn set_reply(
     explanation: &mut Explanation,
     scene: &Scene,
     reply: &Reply<'_>,
-    stays: bool,
+    ahead: &Ahead<'_, '_>,
 ) -> Result<(), AllocError> {
     let Some(terminal) = replying(scene, reply) else {
         return Ok(());
@@ -268,9 +287,9 @@ pub(crate) fn set_reply(
     if reply.command.is_mode() {
         set_mode_word(explanation, terminal, reply)?;
     } else {
-        set_words(explanation, terminal, reply)?;
+        set_words(explanation, terminal, reply, ahead)?;
     }
-    set_gap(explanation, scene, terminal.address(), reply, stays)
+    set_gap(explanation, scene, terminal.address(), reply, ahead.stays)
 }
 
 /// The action by which a terminal takes a command as illegal, or as legal again.

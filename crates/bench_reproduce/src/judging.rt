@@ -3,6 +3,7 @@ ghost use Rattle.bench_compare.specs.Channels.{origins_by};
 ghost use Rattle.bench_reproduce.specs.Readings.{read_again, run_of};
 ghost use Rattle.bench_reproduce.specs.Running.{ComparesNext, IsCompared, stamp_or};
 ghost use Rattle.bench_reproduce.specs.Sameness.{is_same, places, same_in};
+ghost use Rattle.bc_machine.specs.declared.placed.Placed.{Placed};
 ghost use Rattle.byteorder.specs.Endian.{little_bytes};
 ghost use Rattle.ch11_f1.specs.Again.{as_message};
 ghost use Rattle.ch11_f1.specs.BodyBytes.{words_of};
@@ -11,7 +12,7 @@ ghost use Rattle.job_file.specs.Jobs.{job_in};
 ghost use Rattle.job_file.specs.Machines.{IsOf};
 ghost use Rattle.job_file.specs.Meaning.{records};
 ghost use Rattle.std.specs.List.{flat_map};
-ghost use Rattle.std.specs.Prelude.{◌≡◌, ◌+◌, ◌≤◌, ◌<◌, if◌then◌else◌, Some, None, take, option_map};
+ghost use Rattle.std.specs.Prelude.{◌≡◌, ◌+◌, ◌≤◌, ◌<◌, if◌then◌else◌, List, Some, None, map, take, option_map};
 ghost use Rattle.std.specs.Prelude.{length};
 ghost use Rattle.std.specs.Prelude.{OnOk, IfOk};
 
@@ -208,11 +209,13 @@ fn compare_next(
     number: u64,
     kept: &Kept,
 ) -> Result<(), AllocError>
-    requires few { standing.old.same < number }
-    requires of_job { IsOf (job_in job.now) job.now.actions machine.old }
-    ensures of_job { IsOf (job_in job.now) job.now.actions machine.new }
-    ensures next { OnOk result (ComparesNext (records (job_in job.now) job.now.actions) machine.old.point.number
-        machine.new.point.number standing.old kept.now standing.new) }
+    requires { standing.old.same < number }
+    ensures of_job { (placed : List Placed) → IsOf (job_in job.now) placed machine.old
+        → IsOf (job_in job.now) placed machine.new }
+    ensures next { OnOk result ((placed : List Placed) → IsOf (job_in job.now) placed machine.old
+        → ComparesNext (records (job_in job.now) placed) machine.old.point.number machine.new.point.number
+        standing.old kept.now standing.new) }
+    ensures more { OnOk result (standing.new.same ≤ standing.old.same + 1) }
 {
     // A job's script is sound by its type.
     let _sound = job.program();
@@ -222,20 +225,27 @@ fn compare_next(
 
 /// Lets a job run to its end.
 fn run_on(job: &Job, machine: &mut Machine)
-    requires { IsOf (job_in job.now) job.now.actions machine.old }
-    ensures { machine.new.point.number ≡ length (records (job_in job.now) job.now.actions) }
+    ensures { (placed : List Placed) → IsOf (job_in job.now) placed machine.old
+        → machine.new.point.number ≡ length (records (job_in job.now) placed) }
 {
     // A job's script is sound by its type.
     let _sound = job.program();
     'records: while let Some(_record) = next_record(machine) {}
 }
 
-/// Runs a job and compares its records with the messages that were recorded.
-pub(crate) fn judge(alloc: Global, job: &Job, heard: &[Kept]) -> Result<Verdict, AllocError>
-    ensures messages { IfOk result (λ v. v.messages ≡ places heard.now (run_of (job_in job.now))) }
-    ensures same { IfOk result (λ v. v.same ≡ same_in heard.now (run_of (job_in job.now))) }
+/// Compares the records of a job, whose controller has made none, with the messages that were recorded.
+fn compare_all(
+    alloc: Global,
+    job: &Job,
+    machine: &mut Machine,
+    heard: &[Kept],
+) -> Result<Verdict, AllocError>
+    requires { machine.old.point.number ≡ 0 }
+    ensures messages { IfOk result (λ v. (placed : List Placed) → IsOf (job_in job.now) placed machine.old
+        → v.messages ≡ places heard.now (map read_again (records (job_in job.now) placed))) }
+    ensures same { IfOk result (λ v. (placed : List Placed) → IsOf (job_in job.now) placed machine.old
+        → v.same ≡ same_in heard.now (map read_again (records (job_in job.now) placed))) }
 {
-    let mut machine = job.machine(alloc, job.actions())?;
     let mut standing = Standing {
         origins: None,
         same: 0,
@@ -243,19 +253,22 @@ pub(crate) fn judge(alloc: Global, job: &Job, heard: &[Kept]) -> Result<Verdict,
     };
     'messages: for place in 0..heard.len() {
         let number = place as u64 + 1;
-        compare_next(
-            alloc,
-            job,
-            &mut machine,
-            &mut standing,
-            number,
-            &heard[place],
-        )?;
+        compare_next(alloc, job, machine, &mut standing, number, &heard[place])?;
     }
-    run_on(job, &mut machine);
+    run_on(job, machine);
     Ok(Verdict {
         messages: u64::from(machine.number()).max(heard.len() as u64),
         same: standing.same,
         differences: standing.differences,
     })
+}
+
+/// Runs a job and compares its records with the messages that were recorded. Its actions stand in memory once.
+pub(crate) fn judge(alloc: Global, job: Job, heard: &[Kept]) -> Result<Verdict, AllocError>
+    ensures messages { IfOk result (λ v. v.messages ≡ places heard.now (run_of (job_in job))) }
+    ensures same { IfOk result (λ v. v.same ≡ same_in heard.now (run_of (job_in job))) }
+{
+    let (rest, mut machine) = job.into_machine(alloc)?;
+    let verdict = compare_all(alloc, &rest, &mut machine, heard)?;
+    Ok(verdict)
 }

@@ -1,6 +1,7 @@
 //! What the messages behind one tell of the terminals then: replies that show a status word, a last command or words
 //! that were received before.
 
+use crate::ramps::Coming;
 use crate::scene::Scene;
 use arrayvec::ArrayVec;
 use bench_compare::Kept;
@@ -67,6 +68,30 @@ fn answer_in(view: &View<'_>, command: Command) -> Shown {
         shown.last = Some(view.word(2));
     }
     shown
+}
+
+/// Where the data words of a reply begin.
+fn data_place(view: &View<'_>) -> usize {
+    if view.is_transfer() { 3 } else { 2 }
+}
+
+/// Whether a message has a command to which a terminal replies with data words.
+fn asks(view: &View<'_>, command: Command) -> bool {
+    view.word(data_place(view).saturating_sub(2)) == command.value()
+}
+
+/// The data words that a terminal sent for a command, zeros behind them, if the message is sound and has them.
+fn sent_words(view: &View<'_>, command: Command) -> Option<[u16; 32]> {
+    let from = data_place(view);
+    let count = usize::from(command.count()).min(32);
+    if view.has_error() || view.word_count() < from.saturating_add(count) {
+        return None;
+    }
+    let mut words = [0u16; 32];
+    for place in 0..count {
+        words[place] = view.word(from.saturating_add(place));
+    }
+    Some(words)
 }
 
 impl<'a> Outlook<'a> {
@@ -137,6 +162,28 @@ impl<'a> Outlook<'a> {
                 return;
             }
         }
+    }
+
+    /// The words of the next two replies to a command, from a place on, if both are sound.
+    pub(crate) fn coming(&self, from: usize, command: Command) -> Option<Coming> {
+        let mut first = None;
+        for ahead in 0..REACH {
+            let view = self.messages.get(from.saturating_add(ahead))?.view();
+            if !asks(&view, command) {
+                continue;
+            }
+            let words = sent_words(&view, command)?;
+            match first {
+                None => first = Some(words),
+                Some(first) => {
+                    return Some(Coming {
+                        first,
+                        second: words,
+                    });
+                }
+            }
+        }
+        None
     }
 
     /// Whether the next reply of a terminal, by messages from a place on, has this gap too.

@@ -8,7 +8,7 @@ use mil_bus::{Bus, BusError, Talk};
 use mil_host::Action;
 use mil_line::Gap;
 use mil_terminal::Terminal;
-use mil_word::timing::LEAST_GAP;
+use mil_word::timing::{LEAST_GAP, LONGER_GAP};
 use std::alloc::{AllocError, Global};
 
 /// The last tick at which a message is tried.
@@ -28,6 +28,8 @@ pub(crate) struct Scene {
     spent: bool,
     /// The gap that the host of each terminal has set.
     gaps: [u16; 32],
+    /// The least gap that a controller keeps behind the message that is settled last, in ticks.
+    least: u16,
 }
 
 /// Whether a message may still be exchanged.
@@ -63,6 +65,15 @@ fn exchange(
     Ok(Some(talk))
 }
 
+/// The least gap that a controller keeps behind a message (own choice of the longer one).
+fn least_behind(talk: &Talk) -> u16 {
+    if talk.outcome().failed || talk.is_controllers_last() {
+        LONGER_GAP
+    } else {
+        LEAST_GAP
+    }
+}
+
 impl Scene {
     /// New terminals of these addresses.
     pub(crate) fn make(alloc: Global, addresses: &[u8]) -> Result<Scene, BusError> {
@@ -73,6 +84,7 @@ impl Scene {
             tried,
             spent: false,
             gaps: [FIRST_GAP; 32],
+            least: LEAST_GAP,
         })
     }
 
@@ -97,8 +109,9 @@ impl Scene {
         wanted: &Wanted,
         explanation: &Explanation,
     ) -> Result<(), AllocError> {
-        // What comes of it was seen when it was tried.
-        let _ = exchange(alloc, &mut self.settled, wanted, explanation)?;
+        if let Some(talk) = exchange(alloc, &mut self.settled, wanted, explanation)? {
+            self.least = least_behind(&talk);
+        }
         self.spent = false;
         for deed in explanation.deeds.as_slice() {
             self.note_gap(deed);
@@ -116,6 +129,16 @@ impl Scene {
         if let Some(kept) = self.gaps.get_mut(usize::from(deed.address)) {
             *kept = ticks;
         }
+    }
+
+    /// When the last word of the messages explained so far ended, in ticks.
+    pub(crate) fn ended(&self) -> u64 {
+        self.settled.clock()
+    }
+
+    /// The least gap that a controller keeps behind them, in ticks.
+    pub(crate) fn least(&self) -> u16 {
+        self.least
     }
 
     /// The gap that the host of a terminal has set, in ticks.

@@ -95,6 +95,7 @@ impl Wanted {
         self.is_like(&observe(talk))
     }
 
+    /// Whether it is the same as a record.
     fn is_like(&self, record: &Record) -> bool {
         self.at == record.stamp
             && self.block == record.block

@@ -57,25 +57,30 @@ fn put_fault(text: &mut String, number: u32, fault: &Fault) -> Result<(), AllocE
     text.push_str("\n")
 }
 
-/// A message as the host of the controller asks for it.
-fn insertion_of(wanted: &Wanted, explanation: &Explanation) -> Insertion {
-    let tick = wanted.at.min(LATEST_TICK);
+/// A message as the host of the controller asks for it, in a job in which the first begins at a tick.
+fn insertion_of(wanted: &Wanted, explanation: &Explanation, shift: u64) -> Insertion {
+    let tick = wanted.at.saturating_add(shift).min(LATEST_TICK);
     Insertion::make(tick, wanted.line, explanation.message.copy())
 }
 
 impl JobText {
-    /// The lines in front of the first message.
+    /// The lines in front of the first message. `sent`: how many messages the script sends, where that is not empty.
     pub(crate) fn begin(
         alloc: Global,
         channel: u16,
         count: usize,
+        sent: Option<u64>,
         addresses: &[u8],
     ) -> Result<JobText, AllocError> {
         let mut text = String::new(alloc);
         write!(
             &mut text,
-            "# What was recorded of channel {channel}: {count} messages\nchannel {channel}\n"
+            "# What was recorded of channel {channel}: {count} messages\n"
         )?;
+        if let Some(sent) = sent {
+            write!(&mut text, "# {sent} of them are sent by the script\n")?;
+        }
+        write!(&mut text, "channel {channel}\n")?;
         for address in addresses {
             write!(&mut text, "terminal {address}\n")?;
         }
@@ -93,33 +98,67 @@ impl JobText {
         write!(&mut self.text, "\n# {seconds}.{part} s\n")
     }
 
-    /// Puts the lines of a message.
-    pub(crate) fn put(
-        &mut self,
-        number: u32,
-        wanted: &Wanted,
-        explanation: &Explanation,
-    ) -> Result<(), AllocError> {
-        self.put_time(wanted.at)?;
+    /// Puts what hosts of terminals do in front of a message.
+    fn put_deeds(&mut self, number: u32, explanation: &Explanation) -> Result<(), AllocError> {
         let text = &mut self.text;
         for deed in explanation.deeds.as_slice() {
             let (address, action) = (deed.address, &deed.action);
             write!(text, "at {number} {address} {action}\n")?;
         }
-        let control = Control::Insert(insertion_of(wanted, explanation));
-        let control = ControlText(&control);
-        write!(text, "at {number} bc {control}\n")?;
+        Ok(())
+    }
+
+    /// Puts the faults that are planned for a message.
+    fn put_faults(&mut self, number: u32, explanation: &Explanation) -> Result<(), AllocError> {
         for fault in explanation.faults.as_slice() {
-            put_fault(text, number, fault)?;
+            put_fault(&mut self.text, number, fault)?;
         }
         Ok(())
     }
 
-    /// The whole text.
-    pub(crate) fn end(self) -> Result<String, AllocError> {
+    /// Puts the lines of a message that is inserted, in a job in which the first begins at a tick.
+    pub(crate) fn put_inserted(
+        &mut self,
+        number: u32,
+        wanted: &Wanted,
+        explanation: &Explanation,
+        shift: u64,
+    ) -> Result<(), AllocError> {
+        self.put_time(wanted.at)?;
+        self.put_deeds(number, explanation)?;
+        let control = Control::Insert(insertion_of(wanted, explanation, shift));
+        let control = ControlText(&control);
+        write!(&mut self.text, "at {number} bc {control}\n")?;
+        self.put_faults(number, explanation)
+    }
+
+    /// Puts the lines of a message that the script sends, if there are any. `control`: what the host of the controller
+    /// does in front of it.
+    pub(crate) fn put_sent(
+        &mut self,
+        number: u32,
+        wanted: &Wanted,
+        explanation: &Explanation,
+        control: &str,
+    ) -> Result<(), AllocError> {
+        let is_plain = explanation.deeds.is_empty() && explanation.faults.as_slice().is_empty();
+        if is_plain && control.is_empty() {
+            return Ok(());
+        }
+        self.put_time(wanted.at)?;
+        self.put_deeds(number, explanation)?;
+        if !control.is_empty() {
+            write!(&mut self.text, "at {number} bc {control}\n")?;
+        }
+        self.put_faults(number, explanation)
+    }
+
+    /// The whole text, with a script.
+    pub(crate) fn end(self, script: &str) -> Result<String, AllocError> {
         let JobText { text, tenth: _ } = self;
         let mut text = text;
         text.push_str("\nscript\n")?;
+        text.push_str(script)?;
         Ok(text)
     }
 }

@@ -3,24 +3,19 @@
 use crate::channels::{Found, find_channel};
 use bench_compare::write_part;
 use bench_files::{Hold, Kind};
-use bench_reproduce::{ReproduceFault, Reproduction, Verdict, reproduce};
+use bench_reproduce::{Form, ReproduceFault, Reproduction, Verdict, reproduce};
 use bench_requests::{Fault, write_new};
 use bench_watch::Reopen;
 use clap::{ArgMatches, Command};
 use command_parts::hosts::System;
-use command_parts::options::{argument, command_of, file, force, number};
+use command_parts::options::{argument, command_of, file, flag, force, number};
 use command_parts::recordings::{Recording, Source, fault_of_reading};
 use command_parts::replacing::may_write;
 use command_parts::streams::{listing, on_stream, printed};
 use std::alloc::{AllocError, Global};
-use std::fs;
 use std::io::{BufWriter, IsTerminal, Write};
 use std::rt::{Clock, Files};
 use text_lines::WriteFault;
-
-/// What the file is that is written, as it is called until it is whole: lines, as those of a report are. What is there
-/// under its name is looked at by its length alone.
-const JOB: Kind = Kind::Report;
 
 /// What the help of `bench reproduce` ends with.
 const NOTES: &str = "\
@@ -28,8 +23,12 @@ The job has the terminals that answered, an `insert at` line for each message wi
 channel, what hosts set so that the replies come as they were recorded, and planned faults for what went wrong. It is
 read back and run, and what it gives is compared with the recording, to the tick: `messages N same M`, and for each of
 the first ten that are not the same `differs at K PART: X and Y`, K counted in the channel, the recording first, as
-`bench compare` has it. The job is written in either case; one that is there is replaced with --force alone, since
-people change jobs.
+`bench compare` has it. The job is written in either case.
+
+With --frames messages that recur, the same commands at the same distances three times or more, are sent by a script of
+frames with periods, and the others are inserted; words of the controller that change are set by `data` lines. It is run
+and compared in the same way. Where no messages recur, or fewer come out the same so, each is inserted, and standard
+error says so.
 
 --channel may be left out where one channel alone has messages. A damaged recording is mended first by
 `bench cut --skip`; of one with more than 1000000 messages in the channel a part is cut first by `bench cut --from
@@ -48,6 +47,7 @@ pub fn command<'a>(alloc: Global) -> Result<Command<'a>, AllocError> {
         argument("RECORDING", "A Chapter 11 file"),
         number("channel", channel),
         file("out", "The file to write the job to").required(),
+        flag("frames", "Sends messages that recur by frames of a script"),
         force(),
     ];
     command_of(alloc, "reproduce", about, NOTES, &[&rows])
@@ -62,7 +62,9 @@ pub struct Request<'a> {
     pub channel: Option<u32>,
     /// The file to write the job to.
     pub out: &'a str,
-    /// Whether a file that is there may be replaced.
+    /// Whether messages that recur are sent by frames.
+    pub frames: bool,
+    /// Whether a file that is there and is of another kind may be replaced.
     pub force: bool,
 }
 
@@ -72,6 +74,7 @@ pub fn request_in<'a>(given: &ArgMatches<'a>) -> Request<'a> {
         recording: given.get_str("RECORDING").unwrap_or(""),
         channel: given.get_one::<u32>("channel"),
         out: given.get_str("out").unwrap_or(""),
+        frames: given.get_flag("frames"),
         force: given.get_flag("force"),
     }
 }
@@ -84,14 +87,26 @@ pub fn run<'a, R: System, E: Eprint + IsTerminal>(
     request: &Request<'a>,
 ) -> Result<(), Fault<'a>> {
     let named = named_channel(request)?;
-    may_write(rt, request.out, JOB, true, &[request.recording])?;
-    keep_what_is_there(rt, request)?;
+    may_write(
+        rt,
+        request.out,
+        Kind::Job,
+        request.force,
+        &[request.recording],
+    )?;
     let source = Source::of(rt, errors, request.recording)?;
     let recording = source.recording(false, true);
     let done = reproduce_channel(&recording, request, named);
     source.end();
     let done = done?;
-    write_new(rt, request.out, JOB, true, done.text.as_bytes())?;
+    write_new(
+        rt,
+        request.out,
+        Kind::Job,
+        request.force,
+        done.text.as_bytes(),
+    )?;
+    tell_of_frames(errors, request, done.form);
     print_verdict(rt, &done.verdict)?;
     if done.verdict.same < done.verdict.messages {
         return Err(Fault::Differ);
@@ -99,17 +114,14 @@ pub fn run<'a, R: System, E: Eprint + IsTerminal>(
     Ok(())
 }
 
-/// Refuses, as a usage fault, an out file that is there with a byte, unless it may be replaced: a job is a text that
-/// people change.
-fn keep_what_is_there<'a, R: Files>(rt: &R, request: &Request<'a>) -> Result<(), Fault<'a>> {
-    if request.force {
-        return Ok(());
-    }
-    match fs::metadata(rt, request.out) {
-        Ok(about) if about.is_file() && about.len() > 0 => Err(Fault::Usage(
-            "the file of --out is there, and would be written over; --force allows it",
-        )),
-        _ => Ok(()),
+/// Says that the job has no frames, where they were asked for.
+fn tell_of_frames<E: Eprint>(errors: &E, request: &Request<'_>, form: Form) {
+    if request.frames && form == Form::Inserts {
+        // Nothing else is lost where standard error takes no more.
+        let _ = eprintln!(errors;
+            "bench: {}: no frames: no messages recur, or fewer come out the same by them",
+            request.recording
+        );
     }
 }
 
@@ -163,7 +175,12 @@ fn reproduce_channel<'a, R: Files + AllocGlobal + Clock, E: Eprint + IsTerminal>
     let name = request.recording;
     let channel = channel_of(recording, name, named)?;
     let input = reopened(recording, name)?;
-    match reproduce(recording.alloc(), input, channel) {
+    let form = if request.frames {
+        Form::Frames
+    } else {
+        Form::Inserts
+    };
+    match reproduce(recording.alloc(), input, channel, form) {
         Ok(done) => Ok(done),
         Err(fault) => Err(fault_of_reproducing(name, fault)),
     }

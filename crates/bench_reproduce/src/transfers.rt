@@ -1,0 +1,107 @@
+//! Which transfer between terminals a record may be of.
+
+use crate::guesses::{ALL, Guess, command, data_subaddress};
+use crate::wanted::Wanted;
+use mil_message::Message;
+use mil_status::BlockBits;
+use mil_word::Command;
+
+/// The numbers of the forms of a transfer.
+const BETWEEN: u8 = 2;
+
+const BETWEEN_ALL: u8 = 7;
+
+/// The terminals of a transfer, and how many words it has.
+#[derive(Clone, Copy)]
+struct Ends {
+    receiver: u8,
+    to: u8,
+    sender: u8,
+    from: u8,
+    count: u8,
+}
+
+/// A transfer between terminals.
+fn between(ends: Ends) -> Option<Message> {
+    let count = usize::from(ends.count);
+    let form = if ends.receiver == ALL {
+        BETWEEN_ALL
+    } else {
+        BETWEEN
+    };
+    let first = command(ends.receiver, false, ends.to, count);
+    let second = command(ends.sender, true, ends.from, count);
+    Message::of_parts(form, first, second, &[])
+}
+
+/// A terminal that may be the other end.
+fn other_end(address: u8) -> u8 {
+    if address == 0 { 1 } else { 0 }
+}
+
+/// The receiver of a transfer of which the command to it is not known: all terminals, where one reply was due and came.
+fn unknown_receiver(wanted: &Wanted, sender: u8) -> u8 {
+    if wanted.has(BlockBits::RESPONSE_TIMEOUT) || wanted.came(2) {
+        other_end(sender)
+    } else {
+        ALL
+    }
+}
+
+/// The ends that two commands have, with the count of the one or the other.
+fn both_ends(wanted: &Wanted, own: Command, second: Command, by_first: bool) -> Ends {
+    let sender = second.address().min(ALL - 1);
+    let receiver = if own.address() == sender {
+        unknown_receiver(wanted, sender)
+    } else {
+        own.address()
+    };
+    let counted = if by_first { own } else { second };
+    Ends {
+        receiver,
+        to: data_subaddress(own),
+        sender,
+        from: data_subaddress(second),
+        count: counted.count(),
+    }
+}
+
+/// The ends of a transfer whose first command, or whose second, was left out.
+fn one_end(wanted: &Wanted, which: u8) -> Ends {
+    let own = Command::of(wanted.word(0));
+    let address = own.address().min(ALL - 1);
+    let (receiver, sender) = if which == 2 {
+        (unknown_receiver(wanted, address), address)
+    } else {
+        (own.address(), other_end(own.address()))
+    };
+    let subaddress = data_subaddress(own);
+    Ends {
+        receiver,
+        to: subaddress,
+        sender,
+        from: subaddress,
+        count: own.count(),
+    }
+}
+
+/// A guess of a transfer between terminals.
+pub(crate) fn transfer(wanted: &Wanted, which: u8) -> Option<Guess> {
+    let (own, second) = (Command::of(wanted.word(0)), Command::of(wanted.word(1)));
+    let (ends, commands) = match which {
+        0 => (both_ends(wanted, own, second, false), 2),
+        1 => (both_ends(wanted, own, second, true), 2),
+        2 | 3 => (one_end(wanted, which), 1),
+        4 => (both_ends(wanted, own, second, false), 3),
+        _ => return None,
+    };
+    let message = between(ends)?;
+    let sent = if wanted.came(1) {
+        commands
+    } else {
+        wanted.count()
+    };
+    let mut found = Guess::of(message, sent);
+    found.is_headless = which == 2;
+    Some(found)
+}
