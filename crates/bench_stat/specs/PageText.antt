@@ -97,13 +97,13 @@ unfoldable pub long_traffic_lines : Traffic → Option Between → Text
 long_traffic_lines t times = long_span_line (known_span t) ++ (falls_line t ++ (times_line times
     ++ (long_counts t ++ load_line (known_load t))))
 
--- the least and the greatest gap, where there are two messages
+-- the least and the greatest gap, where there is one: a fall of stamps leaves none, and none is less than 20 ticks
 abbrev pub known_gaps : Flow → Text
 known_gaps f = codes "  gaps      " ++ (time_text f.least_gap ++ (codes " least, " ++ (time_text f.greatest_gap
     ++ codes " greatest\n")))
 
 abbrev pub gaps_line : Flow → Bool → Text
-gaps_line f timed = if nat_lt f.messages 2 || not timed then codes "  gaps      -\n" else known_gaps f
+gaps_line f timed = if nat_lt f.greatest_gap 1 || not timed then codes "  gaps      -\n" else known_gaps f
 
 -- status words by their bits, each by its name in a script (MIL-STD-1553B 4.3.3.5.3)
 abbrev pub replies_in_front : Replies → Text
@@ -143,7 +143,7 @@ subaddress_column subaddress = if subaddress == 0 || subaddress == 31 then codes
     else column 12 subaddress
 
 abbrev pub gap_columns : Flow → Bool → Text
-gap_columns f timed = if nat_lt f.messages 2 || not timed then codes "             -                -"
+gap_columns f timed = if nat_lt f.greatest_gap 1 || not timed then codes "             -                -"
     else codes " " ++ (column 11 (f.least_gap / 10) ++ (codes "." ++ (decimal (f.least_gap % 10) ++ (codes " "
     ++ tenths_column 14 f.greatest_gap))))
 

@@ -42,9 +42,9 @@ ticks_field (Some ticks) = tenths_text ticks
 abbrev pub if_timed : Bool → Text → Text
 if_timed timed value = if timed then value else codes "-"
 
--- the least and the greatest gap, where there are two messages
+-- the least and the greatest gap, where there is one: a fall of stamps leaves none, and none is less than 20 ticks
 abbrev pub gap_field : Flow → ℕ → Option ℕ
-gap_field f gap = if nat_lt 1 f.messages then Some gap else None
+gap_field f gap = if nat_lt 0 f.greatest_gap then Some gap else None
 
 abbrev pub time_rows : ℕ → Option Between → Text
 time_rows channel None = []
@@ -105,7 +105,7 @@ figure_rows f l d times = loss_rows f.channel l ++ (traffic_rows f.channel f.tra
 -- ---- messages by terminal, direction and subaddress
 
 abbrev pub entry_gaps : Flow → Text
-entry_gaps f = if nat_lt 1 f.messages
+entry_gaps f = if nat_lt 0 f.greatest_gap
     then tenths_text f.least_gap ++ (codes "," ++ (tenths_text f.greatest_gap ++ codes ","))
     else codes ",,"
 

@@ -124,11 +124,15 @@ fn if_timed(timed: bool, value: Value) -> Value
     if timed { value } else { Value::Unknown }
 }
 
-/// A gap of a flow, where it has two messages.
+/// A gap of a flow, where it has one.
 fn gap_of(flow: &Flow, gap: u64) -> Option<u64>
     ensures { result ≡ spec.gap_field flow.now gap }
 {
-    if flow.messages > 1 { Some(gap) } else { None }
+    if flow.greatest_gap > 0 {
+        Some(gap)
+    } else {
+        None
+    }
 }
 
 /// Writes the rows of how much a channel carried; those of its rate and its load are empty where no time passed.

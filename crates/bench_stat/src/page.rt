@@ -233,12 +233,11 @@ fn print_rate<W: Write>(out: &mut W, rate: Option<u64>) -> io::Result<()>
     write!(out, " a second")
 }
 
-/// Writes the least and the greatest gap between two messages, '-' where there are fewer than two or times are not
-/// known.
+/// Writes the least and the greatest gap between two messages, '-' where there is none or times are not known.
 fn print_gaps<W: Write>(out: &mut W, flow: &Flow, timed: bool) -> io::Result<()>
     ensures { OnOk result (Appends (W.contents out.old) (W.contents out.new) (spec.gaps_line flow.now timed)) }
 {
-    if flow.messages < 2 || !timed {
+    if flow.greatest_gap < 1 || !timed {
         return writeln!(out, "  gaps      -");
     }
     print_known_gaps(out, flow)

@@ -293,11 +293,11 @@ fn write_flow_times<W: Write>(out: &mut W, flow: &Flow, span: Option<u64>) -> io
     write_value(out, Value::Hundredths(rate(flow.messages, span)))
 }
 
-/// Writes the gaps of an entry, which are empty for a single message.
+/// Writes the gaps of an entry, which are empty where there is none.
 fn write_entry_gaps<W: Write>(out: &mut W, flow: &Flow) -> io::Result<()>
     ensures { OnOk result (Appends (W.contents out.old) (W.contents out.new) (spec.entry_gaps flow.now)) }
 {
-    if flow.messages < 2 {
+    if flow.greatest_gap < 1 {
         return write!(out, ",,");
     }
     write_us(out, flow.least_gap)?;

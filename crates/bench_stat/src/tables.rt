@@ -125,12 +125,11 @@ fn print_counts<W: Write>(out: &mut W, flow: &Flow) -> io::Result<()>
     write!(out, " {messages:>10} {errors:>10}")
 }
 
-/// Writes the least and the greatest gap of an entry in µs, '-' where it has fewer than two messages or times are not
-/// known.
+/// Writes the least and the greatest gap of an entry in µs, '-' where it has none or times are not known.
 fn print_gap_columns<W: Write>(out: &mut W, flow: &Flow, timed: bool) -> io::Result<()>
     ensures { OnOk result (Appends (W.contents out.old) (W.contents out.new) (spec.gap_columns flow.now timed)) }
 {
-    if flow.messages < 2 || !timed {
+    if flow.greatest_gap < 1 || !timed {
         return write!(out, "             -                -");
     }
     let (least, least_part) = tenths(flow.least_gap);
