@@ -1,7 +1,6 @@
 //! Worked steps, recordings and reports of the bench.
 mod channels;
 mod equal;
-mod placing;
 mod posts;
 mod reports;
 mod scripts;

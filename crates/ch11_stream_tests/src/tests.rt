@@ -1,15 +1,12 @@
-//! Recordings that come from a reader, and what is made of their packets.
+//! Recordings that come from a reader, and what is made of their packets. What the commands print of them is shown by
+//! the transcripts.
 mod advancing;
-mod decoded;
 mod drawn;
 mod equal;
-mod exported;
+mod failures;
 mod followed;
-mod recorders;
+mod kept;
 mod rereading;
 mod skipped;
-mod stamped;
 mod streamed;
 mod streams;
-mod timed;
-mod waves;

@@ -1,11 +1,5 @@
-//! Sessions of the debugger: `bench_step`, and with it `bench_places` and `bench_state`.
+//! Sessions of the debugger whose readers and writers fail: `bench_step`.
 
-mod console;
-mod holdings;
 mod made;
 mod refusals;
-mod selectors;
-mod sessions;
 mod streams;
-mod times;
-mod walks;

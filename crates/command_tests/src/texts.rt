@@ -1,5 +1,3 @@
-//! Images, single messages and reasons: `bench_assemble`, `bench_one` and `bench_reasons`.
+//! Images of trees in an arena: `frame_asm` and `frame_code`.
 
 mod images;
-mod pairs;
-mod reasons;

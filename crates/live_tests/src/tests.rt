@@ -1,5 +1,3 @@
 //! Tests of live recordings.
-mod lines;
 mod paces;
-mod posts;
 mod shows;

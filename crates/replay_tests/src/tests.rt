@@ -1,6 +1,6 @@
 //! Worked recordings under the debugger.
 mod checkpoints;
 mod moves;
-mod openings;
 mod recordings;
+mod refusals;
 mod scripts;

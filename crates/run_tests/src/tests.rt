@@ -1,6 +1,4 @@
 //! Tests of runs, of live runs and of mailboxes.
-mod channels;
-mod counts;
 mod equal;
 mod fixtures;
 mod full_queues;

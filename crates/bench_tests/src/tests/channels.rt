@@ -1,7 +1,6 @@
-//! Recordings of one channel, byte by byte and read back.
+//! Recordings of one channel, byte by byte.
 use crate::tests::equal::{are_bytes, printed, reads, same_in};
 use bench_core::{ChannelFault, one_channel};
-use ch11_reader::Index;
 use ch11_writer::{FuseSink, MemorySink, Sink};
 use job_file::{Job, read_job};
 use std::alloc::Global;
@@ -10,11 +9,6 @@ use test_values::ONE_PACKET;
 
 /// A job that sends three words to a terminal.
 const ONE_MESSAGE: &str = "channel 1\nterminal 5\nscript\nsend A rx 5 1 [0001 0002 0003]\n";
-
-/// A job of ten messages, and one of none.
-const TEN_MESSAGES: &str = "channel 2\nterminal 5\nscript\nrepeat 10 { send A rx 5 1 [0001] }\n";
-
-const NO_MESSAGE: &str = "channel 1\nscript\nif fail { send A mode 5 1 }";
 
 /// The job that a text spells.
 pub(crate) fn job_of(rt: &impl Abort, alloc: Global, text: &str) -> Job {
@@ -28,21 +22,6 @@ fn recorded(rt: &impl Abort, alloc: Global, text: &str, limit: u32) -> MemorySin
     sent.ok().expect(rt, "no fault")
 }
 
-/// A file of ten messages of channel 2.
-fn holds_ten(rt: &impl Abort, alloc: Global, file: &[u8]) {
-    same_in(rt, "length", &file.len(), &228);
-    let index = Index::build(alloc, file).ok().expect(rt, "readable");
-    has_ten(rt, &index);
-}
-
-fn has_ten(rt: &impl Abort, index: &Index<'_>) {
-    same_in(rt, "total", &index.total(), &10);
-    let tenth = index
-        .message(10)
-        .map(|(channel, seen)| (channel, seen.stamp));
-    same_in(rt, "the tenth", &tenth, &Some((2, 6120)));
-}
-
 #[test]
 fn one_message_is_one_packet(rt: HostRuntime) {
     is_one_packet(&rt, &recorded(&rt, rt.alloc(), ONE_MESSAGE, 4096));
@@ -51,18 +30,6 @@ fn one_message_is_one_packet(rt: HostRuntime) {
 fn is_one_packet(rt: &impl Abort, sink: &MemorySink) {
     are_bytes(rt, "one packet", sink.bytes(), &ONE_PACKET);
     same_in(rt, "failures", &sink.failures(), &0);
-}
-
-#[test]
-fn ten_messages_are_read_back(rt: HostRuntime) {
-    let sink = recorded(&rt, rt.alloc(), TEN_MESSAGES, 4096);
-    holds_ten(&rt, rt.alloc(), sink.bytes());
-}
-
-#[test]
-fn a_job_without_messages_is_an_empty_file(rt: HostRuntime) {
-    let sink = recorded(&rt, rt.alloc(), NO_MESSAGE, 256);
-    same_in(&rt, "length", &sink.bytes().len(), &0);
 }
 
 /// A job of one message is sent with a limit into a sink that fails behind so many bytes: the fault as it is printed,

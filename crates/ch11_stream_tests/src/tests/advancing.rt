@@ -105,16 +105,6 @@ fn front(file: &[u8], count: usize) -> &[u8] {
     file.get(..count).unwrap_or(&[])
 }
 
-/// A file that ends within a long packet is refused there, however far a reader may pass behind its end.
-#[test]
-fn sees_the_end_within_a_long_packet(rt: HostRuntime) {
-    let file = with_long_packet(rt.alloc(), LONG as u32).expect(&rt, "memory");
-    for end in [96, 119, 120, 500_000, 96 + LONG - 1, 96 + LONG] {
-        let cut = front(&file, end);
-        is_read_alike(&rt, rt.alloc(), cut, seeking(cut, usize::MAX));
-    }
-}
-
 /// Where bytes cannot be passed the reading fails.
 #[test]
 fn fails_where_bytes_cannot_be_passed(rt: HostRuntime) {
@@ -124,16 +114,4 @@ fn fails_where_bytes_cannot_be_passed(rt: HostRuntime) {
         ..seeking(front(&file, 500_000), usize::MAX)
     };
     gives(&rt, rt.alloc(), failing, &FOREIGN, Err(StreamFault::Device));
-}
-
-/// Bytes in memory are passed as they are.
-#[test]
-fn passes_bytes_in_memory(rt: HostRuntime) {
-    let file = with_long_packet(rt.alloc(), LONG as u32).expect(&rt, "memory");
-    same(&rt, &packets_of(&rt, rt.alloc(), file.as_slice()), &5);
-    same(
-        &rt,
-        &packets_of(&rt, rt.alloc(), front(&file, 96 + LONG - 1)),
-        &2,
-    );
 }

@@ -1,7 +1,6 @@
 //! Verdicts on a recording that is read anew for each pass, worked out by hand.
 
-use crate::tests::equal::{are_bytes, same};
-use crate::tests::followed::lossy;
+use crate::tests::equal::{are, are_bytes, same};
 use crate::tests::streamed::{damaged, pair, refusal};
 use crate::tests::streams::{Slow, reader_of};
 use bench_judge::{
@@ -30,25 +29,8 @@ rule 3 selected 2 missed 1
 rules 3 missed 2
 ";
 
-/// Rules of a recording whose first message, which had an error, is on another channel; and what they come to.
+/// Rules of a recording whose first message, which had an error, is on another channel.
 const APART_RULES: &[u8] = b"expect any fail\nexpect any count 1 1\n";
-
-/// What a terminal shows of them.
-const APART_COLORS: &str = "\x1b[31mmissed \x1b[0mexpect any fail  (2 selected, 1 missed)\n      \
-2     0.0010000       1       1 B    rx 5 1 3                          2800 8.0 us               \
-0001 0002 0003\n      block 2000 gaps 0050, expected fail\n\
-\x1b[31mmissed \x1b[0mexpect any count 1 1  (2 selected, count 2, expected 1 to 1)\n\
-\x1b[31m2 rules, 2 not held\x1b[0m\n";
-
-/// The report on them.
-const APART_REPORT: &str =
-    "<?xml version=\"1.0\" encoding=\"UTF-8\"?>\n<testsuite name=\"bench judge\" tests=\"2\" failures=\"2\">\n  \
-<testcase classname=\"line 1\" name=\"expect any fail\">\n    \
-<failure message=\"selected 2 missed 1\">apart.rules:1: expect any fail\n\
-message 2 channel 1 stamp 10000: block 2000 gaps 0050, expected fail</failure>\n  </testcase>\n  \
-<testcase classname=\"line 2\" name=\"expect any count 1 1\">\n    \
-<failure message=\"count 2, expected 1 to 1\">apart.rules:2: expect any count 1 1</failure>\n  </testcase>\n\
-</testsuite>\n";
 
 /// A recording that may be another from its second pass on, and that can be opened so many times. Its readers give one
 /// byte at a time.
@@ -114,13 +96,6 @@ fn verdicts_are_written_in_passes(rt: HostRuntime) {
     same(&rt, &recording.opened.get(), &2);
 }
 
-#[test]
-fn nothing_is_written_of_a_damaged_recording(rt: HostRuntime) {
-    let file = damaged();
-    let recording = Changing::of(&file, &file, 2);
-    is_refused(&rt, judged(&rt, rt.alloc(), &recording, ""));
-}
-
 /// The message that misses a rule stands in front of the fault of the second pass.
 #[test]
 fn a_later_pass_has_its_own_fault(rt: HostRuntime) {
@@ -152,17 +127,24 @@ fn is_not_opened<T: Drop>(rt: &impl Abort, found: Result<T, PassFault>) {
     same(rt, &is_opening, &true);
 }
 
+/// Passes over a damaged recording, which come behind those that answer its fault first.
 #[test]
-fn misses_of_a_rule_come_from_packets(rt: HostRuntime) {
+fn each_pass_refuses_a_damaged_recording(rt: HostRuntime) {
     let alloc = rt.alloc();
+    let file = damaged();
+    let input = reader_of(&file, 7);
     let rules = rules_of(&rt, alloc);
     let rule = rules.as_slice().first().expect(&rt, "a rule");
+    let found = [
+        tell_messages(alloc, input, rule, &[], 1).err(),
+        tell_packets(alloc, input, rule, 1, &[]).err(),
+        count_lost(alloc, input).err(),
+    ];
+    let refused = Some(StreamFault::Refused(refusal()));
+    are(&rt, found.as_slice(), &[refused; 3]);
     let mut out = Vec::new(alloc);
-    let found = write_misses(alloc, reader_of(&pair(), 7), rule, &[], &mut out);
-    same(&rt, &found.is_ok(), &true);
-    are_bytes(&rt, &out, b"missed 1 message 1 channel 1 stamp 0\n");
-    let found = write_misses(alloc, reader_of(&damaged(), 7), rule, &[], &mut out);
-    is_refused(&rt, found);
+    is_refused(&rt, write_misses(alloc, input, rule, &[], &mut out));
+    is_refused(&rt, write_packets(alloc, input, rule, &[], &[], &mut out));
 }
 
 /// The pair, with its first message on channel 2; its header's checksum is one more then.
@@ -183,41 +165,18 @@ fn apart_verdicts(rt: &impl Abort, alloc: Global) -> (Vec<Rule>, Vec<RuleVerdict
     (rules, verdicts)
 }
 
+/// The first rule is missed by a message, and its packets by the second packet of messages, which has the sequence
+/// number of the first one. Nothing is told of them where none are asked for.
 #[test]
-fn the_first_misses_are_told(rt: HostRuntime) {
+fn no_misses_are_told_where_none_are_asked_for(rt: HostRuntime) {
     let alloc = rt.alloc();
-    let (rules, _) = apart_verdicts(&rt, alloc);
+    let file = pair();
+    let rules = rules_of(&rt, alloc);
     let rule = rules.as_slice().first().expect(&rt, "a rule");
-    let line = "\nmessage 2 channel 1 stamp 10000: block 2000 gaps 0050, expected fail";
-    for (most, told) in [(0, ""), (1, line), (100, line)] {
-        let found = tell_messages(alloc, reader_of(&apart(), 7), rule, &[], most);
-        are_bytes(&rt, &found.ok().expect(&rt, "misses"), told.as_bytes());
-    }
-    let found = tell_messages(alloc, reader_of(&damaged(), 7), rule, &[], 1);
-    same(&rt, &found.err(), &Some(StreamFault::Refused(refusal())));
-}
-
-/// The second packet of the pair has the sequence number of the first, and begins behind the setup record and it.
-#[test]
-fn packets_that_do_not_follow_are_told(rt: HostRuntime) {
-    let alloc = rt.alloc();
-    let rules = read_rules(alloc, b"expect any whole\n")
-        .ok()
-        .expect(&rt, "rules");
-    let rule = rules.as_slice().first().expect(&rt, "a rule");
-    let mut out = Vec::new(alloc);
-    let found = write_packets(alloc, reader_of(&pair(), 7), rule, &[], &[], &mut out);
-    same(&rt, &found.is_ok(), &true);
-    are_bytes(&rt, &out, b"missed 1 packet 128 channel 1\n");
-    let line = "\npacket 128 channel 1: sequence number 0, expected the next of its channel";
-    for (most, told) in [(0, ""), (1, line), (100, line)] {
-        let found = tell_packets(alloc, reader_of(&pair(), 7), rule, most, &[]);
-        are_bytes(&rt, &found.ok().expect(&rt, "packets"), told.as_bytes());
-    }
-    let found = write_packets(alloc, reader_of(&damaged(), 7), rule, &[], &[], &mut out);
-    is_refused(&rt, found);
-    let found = tell_packets(alloc, reader_of(&damaged(), 7), rule, 1, &[]);
-    same(&rt, &found.err(), &Some(StreamFault::Refused(refusal())));
+    let messages = tell_messages(alloc, reader_of(&file, 7), rule, &[], 0);
+    same(&rt, &messages.ok().expect(&rt, "misses").len(), &0);
+    let packets = tell_packets(alloc, reader_of(&file, 7), rule, 0, &[]);
+    same(&rt, &packets.ok().expect(&rt, "packets").len(), &0);
 }
 
 /// Rules with these verdicts.
@@ -245,17 +204,6 @@ fn shown(
     (answer, out)
 }
 
-#[test]
-fn a_terminal_shows_misses_of_packets(rt: HostRuntime) {
-    let file = apart();
-    let recording = Changing::of(&file, &file, 1);
-    let (answer, out) = shown(&rt, rt.alloc(), &recording);
-    same(&rt, &answer.is_ok(), &true);
-    are_bytes(&rt, &out, APART_COLORS.as_bytes());
-    let (answer, _) = shown(&rt, rt.alloc(), &recording);
-    is_not_opened(&rt, answer);
-}
-
 /// The report on a recording that is apart.
 fn reported(
     rt: &impl Abort,
@@ -267,32 +215,13 @@ fn reported(
     junit_text(alloc, recording, judged, Lost::default())
 }
 
+/// What a terminal shows and what a report tells of misses is read anew: it may not be there, or be damaged by then.
 #[test]
-fn a_report_tells_misses_of_packets(rt: HostRuntime) {
+fn what_is_told_of_misses_is_read_anew(rt: HostRuntime) {
     let (file, broken) = (apart(), damaged());
-    let recording = Changing::of(&file, &broken, 2);
-    let report = reported(&rt, rt.alloc(), &recording);
-    let text = report.ok().expect(&rt, "a report");
-    are_bytes(&rt, &text, APART_REPORT.as_bytes());
+    let gone = Changing::of(&file, &file, 0);
+    let (answer, _) = shown(&rt, rt.alloc(), &gone);
+    is_not_opened(&rt, answer);
+    let recording = Changing::of(&broken, &broken, 1);
     is_refused(&rt, reported(&rt, rt.alloc(), &recording));
-}
-
-/// The second packet of the pair has the sequence number of the first; in the lossy one the overflow flag too.
-#[test]
-fn packets_tell_of_messages_that_are_missing(rt: HostRuntime) {
-    for (file, overflows) in [(pair(), 0), (lossy(), 1)] {
-        let found = count_lost(rt.alloc(), reader_of(&file, 7));
-        let told = found.ok().expect(&rt, "a sound file");
-        same(
-            &rt,
-            &told,
-            &Lost {
-                overflows,
-                jumps: 1,
-            },
-        );
-        same(&rt, &told.is_any(), &true);
-    }
-    let found = count_lost(rt.alloc(), reader_of(&damaged(), 7));
-    same(&rt, &found.err(), &Some(StreamFault::Refused(refusal())));
 }

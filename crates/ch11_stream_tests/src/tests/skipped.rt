@@ -1,4 +1,4 @@
-//! Recordings that may be damaged as they come from a reader, worked out by hand, and against the reading of all bytes.
+//! Recordings that may be damaged as they come from a reader, against the reading of all bytes.
 
 use crate::tests::equal::{same, wrote};
 use crate::tests::streamed::failing;
@@ -24,78 +24,12 @@ fn among_others() -> [u8; 105] {
     file
 }
 
-/// Its text.
-const AMONG_OTHERS_TEXT: &str = "skipped 0 length 3 K2
-packet 3 channel 0 type 01 skipped
-skipped 35 length 1 K2
-packet 36 channel 1 type 19 seq 0 flags 80 messages 1
-message 1 channel 1 stamp 0 block 0000 gaps 0050 words 2823 0001 0002 0003 2800
-skipped 100 length 5 K1
-";
-
-/// A header of a packet of 64 bytes, and then the first packet of the foreign file, of 32, which is the last.
-fn too_long() -> [u8; 56] {
-    let mut file = [0u8; 56];
-    file[..24].copy_from_slice(&FOREIGN[32..56]);
-    file[24..].copy_from_slice(&FOREIGN[..32]);
-    file
-}
-
-/// The same header in front of the packet that it was taken from: its body would hold more than eight million messages,
-/// of which the second ends behind it.
-fn over_a_packet() -> [u8; 88] {
-    let mut file = [0u8; 88];
-    file[..24].copy_from_slice(&FOREIGN[32..56]);
-    file[24..].copy_from_slice(&FOREIGN[32..]);
-    file
-}
-
 /// What is printed of a reader's file, and how that ends.
 fn dumped(alloc: Global, input: Slow<'_>) -> (Result<(), StreamFault>, Vec<u8>) {
     let clock = Clock::unset(alloc);
     let mut out = Vec::new(alloc);
     let answer = dump_skipping(alloc, input, &clock, false, &mut out);
     (answer, out)
-}
-
-/// A file is printed so, whether it is given one byte at a time or at once.
-fn is_printed(rt: &impl Abort, alloc: Global, file: &[u8], text: &str) {
-    for most in [1, usize::MAX] {
-        let found = dumped(alloc, reader_of(file, most));
-        wrote(rt, found, Ok(()), text);
-    }
-}
-
-#[test]
-fn bytes_around_packets_are_skipped(rt: HostRuntime) {
-    is_printed(&rt, rt.alloc(), &among_others(), AMONG_OTHERS_TEXT);
-}
-
-#[test]
-fn false_headers_are_skipped(rt: HostRuntime) {
-    is_printed(
-        &rt,
-        rt.alloc(),
-        &too_long(),
-        "skipped 0 length 24 N2\npacket 24 channel 0 type 01 skipped\n",
-    );
-    is_printed(
-        &rt,
-        rt.alloc(),
-        &over_a_packet(),
-        "skipped 0 length 24 F3
-packet 24 channel 1 type 19 seq 0 flags 80 messages 1
-message 1 channel 1 stamp 0 block 0000 gaps 0050 words 2823 0001 0002 0003 2800
-",
-    );
-}
-
-#[test]
-fn a_file_without_a_packet_is_skipped(rt: HostRuntime) {
-    let alloc = rt.alloc();
-    is_printed(&rt, alloc, &[], "");
-    is_printed(&rt, alloc, &[0x25], "skipped 0 length 1 K1\n");
-    is_printed(&rt, alloc, &[0; 30], "skipped 0 length 30 K2\n");
 }
 
 /// A reading that gives this next.

@@ -1,29 +1,11 @@
-//! Readers and writers of sessions: answers are flushed one by one, and a fault ends a session with what was answered.
+//! Readers and writers of sessions that fail: a fault ends a session with what was answered.
 use crate::looks::equal::reads;
 use crate::steps::made::{DROPPED, subject_of};
-use bench_step::{Manner, StepFault};
+use bench_step::StepFault;
 use std::alloc::Global;
 use std::io;
 use std::io::{BufReader, ErrorKind, Read, Write};
 use std::process::Abort;
-
-/// A writer that keeps what it was given, with a bar where it was flushed.
-#[derive(Drop)]
-struct Barred {
-    text: Vec<u8>,
-}
-
-impl Write for Barred {
-    fn write(&mut self, buf: &[u8]) -> io::Result<usize> {
-        self.text.extend_from_slice(buf)?;
-        Ok(buf.len())
-    }
-
-    fn flush(&mut self) -> io::Result<()> {
-        self.text.push(b'|')?;
-        Ok(())
-    }
-}
 
 /// A writer that takes all, and whose flush fails.
 #[derive(Drop)]
@@ -62,17 +44,6 @@ impl Read for Broken {
 }
 
 #[test]
-fn each_answer_is_flushed(rt: HostRuntime) {
-    let one = subject_of(&rt, rt.alloc(), &DROPPED);
-    let mut out = Barred {
-        text: Vec::new(rt.alloc()),
-    };
-    let (ended, _) = one.session(rt.alloc(), "forward\nback\nback\nwhere\nquit\n", &mut out);
-    assert_eq!(&rt; ended, Ok(()));
-    reads(&rt, &out.text, "at 1\n|at 0\n|Y3\n|unknown\n||");
-}
-
-#[test]
 fn a_flush_that_fails(rt: HostRuntime) {
     let one = subject_of(&rt, rt.alloc(), &DROPPED);
     let mut out = Unflushed { taken: 0 };
@@ -91,7 +62,7 @@ fn breaks(rt: &impl Abort, alloc: Global, kind: ErrorKind, fault: StepFault) {
     };
     let mut input = BufReader::new(alloc, reader).ok().expect(rt, "memory");
     let mut out = Vec::new(alloc);
-    let ended = one.session_of(alloc, Manner::Given, &mut input, &mut out);
+    let ended = one.session_of(alloc, &mut input, &mut out);
     assert_eq!(rt; ended, Err(fault));
     reads(rt, &out, "at 1\n");
 }

@@ -1,4 +1,4 @@
-//! Paces, and the gate that waits.
+//! The gate that waits, by its pace.
 use bench_live::{Pace, SessionGate};
 use bench_run::{Gate, OpenGate};
 use std::io;
@@ -64,17 +64,5 @@ fn a_gate_waits_for_ticks(rt: HostRuntime) {
         let pace = Pace::read(text.as_bytes());
         let gate = SessionGate::around(&OpenGate, &clock, &rt, pace, None, None);
         waits(&rt, &clock, &gate, text, &times);
-    }
-}
-
-#[test]
-fn which_texts_are_paces(rt: HostRuntime) {
-    for text in ["0.1", "0.100", "1", "1.0", "1000", "999.999"] {
-        assert!(&rt; Pace::read(text.as_bytes()).is_some(), "{text}");
-    }
-    for text in [
-        "", ".", "1.", ".5", "0", "0.09", "0.0999", "1000.001", "1001", "-1", "1e3", "1.2.3",
-    ] {
-        assert!(&rt; Pace::read(text.as_bytes()).is_none(), "{text}");
     }
 }

@@ -1,6 +1,6 @@
 //! Recordings that a bench writes of one job.
 use bench_core::{Step, World};
-use bench_report::{Report, read_report};
+use bench_report::Report;
 use bench_settings::Settings;
 use job_file::{Job, read_job};
 use std::alloc::Global;
@@ -20,12 +20,6 @@ fn jobs_of(rt: &impl Abort, alloc: Global, text: &str) -> Vec<Job> {
     let job = read_job(alloc, text.as_bytes()).ok().expect(rt, "a job");
     jobs.push(job).expect(rt, "memory");
     jobs
-}
-
-/// The report of a text.
-pub(crate) fn report_of(rt: &impl Abort, alloc: Global, text: &str) -> Report {
-    let report = read_report(alloc, text.as_bytes());
-    report.ok().expect(rt, "a report")
 }
 
 /// A bench of these jobs before any step, with a queue of one item.

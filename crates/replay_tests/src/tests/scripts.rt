@@ -18,9 +18,6 @@ pub(crate) enum Move {
     Find(&'static str),
     FindBack(&'static str),
 
-    /// So many moves back.
-    BackBy(u64),
-
     /// To each place in turn, from the first to this one.
     ThroughTo(u64),
 }
@@ -82,14 +79,6 @@ fn condition(rt: &impl Abort, alloc: Global, text: &str) -> Cond<Global> {
     condition.ok().expect(rt, "a condition")
 }
 
-/// The answer to so many moves back: of the last, or of the first that is refused.
-fn back_by(replay: &mut Replay<'_>, count: u64) -> Result<(), ReplayError> {
-    for _ in 0..count {
-        replay.back()?;
-    }
-    Ok(())
-}
-
 /// The answer to the moves to each place up to this one: of the last, or of the first that is refused.
 fn through_to(replay: &mut Replay<'_>, last: u64) -> Result<(), ReplayError> {
     for place in 1..=last {
@@ -111,7 +100,6 @@ fn answer(
         Move::Back => replay.back(),
         Move::Find(text) => replay.find(&condition(rt, alloc, text)),
         Move::FindBack(text) => replay.find_back(&condition(rt, alloc, text)),
-        Move::BackBy(count) => back_by(replay, count),
         Move::ThroughTo(last) => through_to(replay, last),
     }
 }

@@ -1,5 +1,4 @@
 //! Jobs and settings of the runs, and what is asked of a file.
-use crate::tests::equal::same_in;
 use bench_report::{ChannelReport, Report, print_report};
 use bench_run::{Gate, RunError, run};
 use bench_settings::Settings;
@@ -72,15 +71,13 @@ fn jobs_repeating(rt: &impl Abort, alloc: Global, counts: &[u32], round: &Round)
     jobs
 }
 
-/// Packets of at most 4096 bytes, a queue of so many items, and a prologue.
-pub(crate) fn settings_of(rt: &impl Abort, alloc: Global, queue: u32, prologue: &[u8]) -> Settings {
-    let mut bytes = Vec::new(alloc);
-    bytes.extend_from_slice(prologue).expect(rt, "memory");
+/// Packets of at most 4096 bytes, a queue of so many items, and no prologue.
+fn settings_of(alloc: Global, queue: u32) -> Settings {
     Settings {
         version: 6,
         limit: 4096,
         queue,
-        prologue: bytes,
+        prologue: Vec::new(alloc),
         posts: 65_536,
     }
 }
@@ -92,17 +89,11 @@ pub(crate) struct Bench {
     pub(crate) settings: Settings,
 }
 
-/// A bench of the jobs of these texts, with a queue of so many items and a prologue.
-pub(crate) fn bench_of(
-    rt: &impl Abort,
-    alloc: Global,
-    texts: &[&str],
-    queue: u32,
-    prologue: &[u8],
-) -> Bench {
+/// A bench of the jobs of these texts, with a queue of so many items.
+pub(crate) fn bench_of(rt: &impl Abort, alloc: Global, texts: &[&str], queue: u32) -> Bench {
     Bench {
         jobs: jobs_of(rt, alloc, texts),
-        settings: settings_of(rt, alloc, queue, prologue),
+        settings: settings_of(alloc, queue),
     }
 }
 
@@ -116,7 +107,7 @@ pub(crate) fn bench_repeating(
 ) -> Bench {
     Bench {
         jobs: jobs_repeating(rt, alloc, counts, round),
-        settings: settings_of(rt, alloc, queue, &[]),
+        settings: settings_of(alloc, queue),
     }
 }
 
@@ -137,10 +128,9 @@ pub(crate) fn recorded<R: Threads + Wait + Abort + Sync, G: Gate>(
     alloc: Global,
     texts: &[&str],
     queue: u32,
-    prologue: &[u8],
     gate: &G,
 ) -> (Report, MemorySink) {
-    let bench = bench_of(rt, alloc, texts, queue, prologue);
+    let bench = bench_of(rt, alloc, texts, queue);
     let answer = ran(rt, alloc, &bench, gate);
     answer.ok().expect(rt, "a run that ends well")
 }
@@ -170,33 +160,6 @@ pub(crate) fn are_packets(index: &Index<'_>, wanted: &[Shape]) -> bool {
     index.packets().len() == wanted.len()
 }
 
-/// Whether each packet of a recording has this length in bytes, and no flags.
-fn are_of(index: &Index<'_>, length: u32) -> bool {
-    for packet in index.packets() {
-        if (packet.header.packet_length, packet.header.flags) != (length, 0) {
-            return false;
-        }
-    }
-    true
-}
-
-/// A recording has so many bytes, in packets that each have this length in bytes and no flags.
-pub(crate) fn has_packets_of(
-    rt: &impl Abort,
-    alloc: Global,
-    file: &[u8],
-    bytes: usize,
-    length: u32,
-) {
-    let index = index_of(rt, alloc, file);
-    same_in(
-        rt,
-        "packets",
-        &(file.len(), are_of(&index, length)),
-        &(bytes, true),
-    );
-}
-
 /// Whether the messages of a channel have these stamps, in the file's order.
 pub(crate) fn are_stamps(index: &Index<'_>, channel: u16, wanted: &[u64]) -> bool {
     let mut messages = index.channel(channel);
@@ -207,16 +170,6 @@ pub(crate) fn are_stamps(index: &Index<'_>, channel: u16, wanted: &[u64]) -> boo
         }
     }
     messages.next().is_none()
-}
-
-/// How many messages of a channel a recording has.
-pub(crate) fn messages_of(rt: &impl Abort, alloc: Global, file: &[u8], channel: u16) -> u32 {
-    let index = index_of(rt, alloc, file);
-    let mut count = 0u32;
-    for _ in index.channel(channel) {
-        count = count.saturating_add(1);
-    }
-    count
 }
 
 /// How many messages of a channel were kept, where the file holds in their order those that were made but for the

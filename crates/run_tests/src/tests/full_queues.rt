@@ -22,7 +22,7 @@ fn kept_in(index: &Index<'_>, report: &Report) -> Option<u64> {
 #[test]
 fn a_writer_that_is_held_from_its_first_item(rt: HostRuntime) {
     let gate = OrderingGate::by(Rules::UntilTheTenth);
-    let (report, sink) = recorded(&rt, rt.alloc(), &TEN_MESSAGES, 1, &[], &gate);
+    let (report, sink) = recorded(&rt, rt.alloc(), &TEN_MESSAGES, 1, &gate);
     assert!(rt; gate.all_came());
     let kept = kept_in(&index_of(&rt, rt.alloc(), sink.bytes()), &report);
     assert!(rt; matches!(kept, Some(1 | 2)));

@@ -56,9 +56,6 @@ enum Does {
 /// channel, and each item.
 type Rule = (Place, Option<u32>, Option<u32>, Does);
 
-/// Nothing is held.
-const OPEN: &[Rule] = &[];
-
 /// Channel 1 waits before message 1 until the end mark of channel 2 was taken, before 2 until 1 was taken, and before 5
 /// until 2 was taken; the writer waits after taking message 1 of channel 1 until 4 was offered.
 const HELD_WRITER: &[Rule] = &[
@@ -180,7 +177,6 @@ const UNTIL_TWENTY_ONE_POSTS: &[Rule] = &[
 /// The rules of a gate, each of which says what is held.
 #[derive(Clone, Copy)]
 pub(super) enum Rules {
-    Open,
     HeldWriter,
     InTurn,
     Meeting,
@@ -198,7 +194,6 @@ impl Rules {
     /// Each rule, in their order.
     fn list(self) -> &'static [Rule] {
         match self {
-            Rules::Open => OPEN,
             Rules::HeldWriter => HELD_WRITER,
             Rules::InTurn => IN_TURN,
             Rules::Meeting => MEETING,

@@ -118,7 +118,7 @@ const ROWS: &[Row] = &[
 /// A live run of the job of a row is recorded so.
 fn is_recorded<R: Threads + Wait + Abort + Sync>(rt: &R, alloc: Global, row: &Row) {
     let (name, text, posts, low, wanted) = row;
-    let bench = taking(bench_of(rt, alloc, &[*text], 4096, &[]), *posts);
+    let bench = taking(bench_of(rt, alloc, &[*text], 4096), *posts);
     let (report, sink) = run_held(rt, alloc, &bench);
     is_printed(rt, alloc, &report, wanted);
     let found = three_in(rt, alloc, &bench.jobs, &report, sink.bytes(), *low);

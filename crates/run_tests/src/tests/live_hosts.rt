@@ -80,7 +80,7 @@ fn comes_to<R: Threads + Wait + Abort + Sync>(
 
 #[test]
 fn twenty_words_of_each_host(rt: HostRuntime) {
-    let bench = taking(bench_of(&rt, rt.alloc(), &[HUNDRED], 4096, &[]), 40);
+    let bench = taking(bench_of(&rt, rt.alloc(), &[HUNDRED], 4096), 40);
     let found = comes_to(&rt, rt.alloc(), &bench);
     same_in(&rt, "twenty words", &found, &(100, true, true));
 }

@@ -1,12 +1,12 @@
 //! Jobs on threads, into a sink in memory.
 ghost use Rattle.std.specs.Prelude.{◌-◌, ◌<◌, ◌^◌};
 
-use crate::tests::equal::{prints, same_in};
+use crate::tests::equal::same_in;
 use crate::tests::fixtures::{Bench, TEN_MESSAGES, TEN_REPORT, bench_of, index_of, is_printed};
 use crate::tests::sinks::{NONE_WHOLE, is_cut};
 use bench_report::Report;
 use bench_run::RunError;
-use bench_run_command::{Counts, record_jobs, record_jobs_with_progress};
+use bench_run_command::{record_jobs, record_jobs_with_progress};
 use ch11_writer::{FuseSink, MemorySink, Sink};
 use std::alloc::Global;
 use std::io::IsTerminal;
@@ -21,7 +21,7 @@ fn recorded<R: Threads + Wait + Abort + Sync>(
     alloc: Global,
     texts: &[&str],
 ) -> Result<(Report, MemorySink), RunError<MemorySink>> {
-    let Bench { jobs, settings } = bench_of(rt, alloc, texts, 4096, &[]);
+    let Bench { jobs, settings } = bench_of(rt, alloc, texts, 4096);
     record_jobs(rt, alloc, &jobs, &settings, MemorySink::make(alloc))
 }
 
@@ -34,18 +34,13 @@ fn shown<R: Threads + Wait + Clock + Abort + Sync, E: Eprint + IsTerminal + Sync
 ) -> Result<(Report, S), RunError<S>>
     requires { S.failures sink < 2 ^ 64 - 1 }
 {
-    let Bench { jobs, settings } = bench_of(rt, alloc, &TEN_MESSAGES, 4096, &[]);
+    let Bench { jobs, settings } = bench_of(rt, alloc, &TEN_MESSAGES, 4096);
     record_jobs_with_progress(rt, alloc, errors, &jobs, &settings, true, sink)
 }
 
-/// Two channels of ten messages are recorded whole: the report, what it counts, and the file.
+/// Two channels of ten messages are recorded whole: the report, and the file.
 fn are_both(rt: &impl Abort, alloc: Global, report: &Report, file: &[u8]) {
     is_printed(rt, alloc, report, TEN_REPORT);
-    let counts = Counts {
-        packets: 2,
-        messages: 20,
-    };
-    same_in(rt, "counts", &Counts::of_report(report), &counts);
     let found = (file.len(), index_of(rt, alloc, file).total());
     same_in(rt, "bytes and messages", &found, &(456, 20));
 }
@@ -64,28 +59,6 @@ fn records_both(
 fn two_channels_of_ten_messages(rt: HostRuntime) {
     let answer = recorded(&rt, rt.alloc(), &TEN_MESSAGES);
     records_both(&rt, rt.alloc(), answer);
-    let sink = MemorySink::make(rt.alloc());
-    let answer = shown(&rt, rt.alloc(), &rt.stderr(), sink);
-    records_both(&rt, rt.alloc(), answer);
-}
-
-/// Jobs of these texts are not recorded: what is printed of the fault.
-fn is_refused<R: Threads + Wait + Abort + Sync>(
-    rt: &R,
-    alloc: Global,
-    texts: &[&str],
-    wanted: &str,
-) {
-    let answer = recorded(rt, alloc, texts);
-    let fault = answer.err().expect(rt, "a fault");
-    prints(rt, alloc, &fault, wanted);
-}
-
-#[test]
-fn one_channel_twice_and_no_job(rt: HostRuntime) {
-    let twice = [TEN_MESSAGES[0], TEN_MESSAGES[0]];
-    is_refused(&rt, rt.alloc(), &twice, "U1");
-    is_refused(&rt, rt.alloc(), &[], "U2");
 }
 
 #[test]

@@ -1,6 +1,7 @@
-//! What is not run, and what each fault prints: the sink comes back as it was.
+//! How many posts a run may take, and what each fault prints: the sink of a run that is refused comes back as it was.
 use crate::tests::equal::{prints, same_in};
-use crate::tests::fixtures::{Bench, TEN_MESSAGES, TEN_REPORT, bench_of, ran};
+use crate::tests::fixtures::{Bench, TEN_REPORT, bench_of, ran};
+use crate::tests::hosts::taking;
 use bench_report::read_report;
 use bench_run::{LiveError, OpenGate, RunError};
 use ch11_writer::MemorySink;
@@ -8,13 +9,8 @@ use std::alloc::Global;
 use std::process::Abort;
 use std::sync::Wait;
 use std::thread::Threads;
-use test_values::FOREIGN;
 
 const ONE_MESSAGE: &str = "channel 1\nterminal 5\nscript\nsend A rx 5 1 [0001]\n";
-
-const ONE: &[&str] = &[ONE_MESSAGE];
-
-const TWICE: &[&str] = &[ONE_MESSAGE, ONE_MESSAGE];
 
 /// How many bytes the sink took that a fault hands back.
 fn taken_by(fault: &RunError<MemorySink>) -> usize {
@@ -46,79 +42,19 @@ fn taken_with<R: Threads + Wait + Abort + Sync>(
     }
 }
 
-/// A run: a name, the texts of its jobs, its limit, queue and posts, and of how many of the first bytes of the foreign
-/// recording its prologue is; what is printed of it, and how many bytes its sink takes.
-type Case = (
-    &'static str,
-    &'static [&'static str],
-    (u32, u32, u32),
-    usize,
-    &'static str,
-    usize,
-);
+/// A run of one message: a name, how many posts of each channel it takes at most, what is printed of it, and how many
+/// bytes its sink takes.
+type Case = (&'static str, u32, &'static str, usize);
 
 const CASES: &[Case] = &[
-    ("a limit too small", ONE, (255, 1, 0), 0, "U2", 0),
-    ("a limit too large", ONE, (524_289, 1, 0), 0, "U2", 0),
-    ("no queue", ONE, (4096, 0, 0), 0, "U2", 0),
-    ("a queue too long", ONE, (4096, 4097, 0), 0, "U2", 0),
-    ("too many posts", ONE, (4096, 1, 65_537), 0, "U2", 0),
-    ("the least limit", ONE, (256, 1, 0), 0, "ok", 48),
-    ("the largest limit", ONE, (524_288, 1, 0), 0, "ok", 48),
-    ("the longest queue", ONE, (4096, 4096, 0), 0, "ok", 48),
-    ("the most posts", ONE, (4096, 1, 65_536), 0, "ok", 48),
-    ("no job", &[], (4096, 4096, 65_536), 0, "U2", 0),
-    ("a channel twice", TWICE, (4096, 4096, 65_536), 0, "U1", 0),
-    (
-        "a prologue that is cut",
-        &TEN_MESSAGES,
-        (4096, 4096, 65_536),
-        30,
-        "U5",
-        0,
-    ),
-    (
-        "a prologue of messages",
-        &TEN_MESSAGES,
-        (4096, 4096, 65_536),
-        96,
-        "U5",
-        0,
-    ),
-    (
-        "a lawful prologue",
-        &TEN_MESSAGES,
-        (4096, 4096, 65_536),
-        32,
-        "ok",
-        488,
-    ),
-    (
-        "of three faults the first, U2",
-        TWICE,
-        (4096, 0, 65_536),
-        96,
-        "U2",
-        0,
-    ),
-    (
-        "of two faults the first, U1",
-        TWICE,
-        (4096, 1, 65_536),
-        96,
-        "U1",
-        0,
-    ),
-    ("the last fault, U5", ONE, (4096, 1, 65_536), 96, "U5", 0),
+    ("too many posts", 65_537, "U2", 0),
+    ("the most posts", 65_536, "ok", 48),
 ];
 
 /// A run comes to what its case says.
 fn is_case<R: Threads + Wait + Abort + Sync>(rt: &R, alloc: Global, case: &Case) {
-    let (row, texts, (limit, queue, posts), length, wanted, taken) = case;
-    let (prologue, _) = FOREIGN.split_at(FOREIGN.len().min(*length));
-    let mut bench = bench_of(rt, alloc, texts, *queue, prologue);
-    bench.settings.limit = *limit;
-    bench.settings.posts = *posts;
+    let (row, posts, wanted, taken) = case;
+    let bench = taking(bench_of(rt, alloc, &[ONE_MESSAGE], 1), *posts);
     same_in(rt, row, &taken_with(rt, alloc, &bench, wanted), taken);
 }
 

@@ -1,18 +1,15 @@
 //! Worked runs: which messages are kept, the packets of the file, and the report.
 use crate::tests::equal::same_in;
 use crate::tests::fixtures::{
-    Shape, TEN_MESSAGES, TEN_REPORT, are_packets, are_stamps, index_of, is_printed, messages_of,
-    recorded,
+    Shape, TEN_MESSAGES, TEN_REPORT, are_packets, are_stamps, index_of, is_printed, recorded,
 };
 use crate::tests::gates::{Counts, OrderingGate, Rules};
 use bench_report::Report;
-use bench_run::OpenGate;
 use ch11_reader::Index;
 use std::alloc::Global;
 use std::process::Abort;
 use std::sync::Wait;
 use std::thread::Threads;
-use test_values::FOREIGN;
 
 const FIVE_AND_ONE: [&str; 2] = [
     "channel 1\nterminal 5\nscript\nrepeat 5 { send A rx 5 1 [0001] }\n",
@@ -20,13 +17,6 @@ const FIVE_AND_ONE: [&str; 2] = [
 ];
 
 const TEN_STAMPS: [u64; 10] = [0, 680, 1360, 2040, 2720, 3400, 4080, 4760, 5440, 6120];
-
-/// Two actions at message 3, two at message 1, one at a message that is not made, and a script of three messages.
-const FIVE_ACTIONS: &str =
-    "channel 1\nterminal 5\nterminal 6\nat 3 5 busy on\nat 1 6 fault on\nat 3 6 service on\nat 1 5 busy off\n\
-     at 4 5 busy off\nscript\nrepeat 3 { send A rx 5 1 [0001] }\n";
-
-const NO_MESSAGE: &str = "channel 1\nterminal 5\nscript\nif fail { send A mode 5 1 }\n";
 
 /// What the file of the held writer has: its length in bytes, whether its packets are one of channel 2 and one of
 /// channel 1, and whether these have one message, and the first, second and fifth.
@@ -43,7 +33,7 @@ fn four_in(rt: &impl Abort, alloc: Global, file: &[u8]) -> (usize, bool, bool) {
 #[test]
 fn a_queue_of_one_and_a_held_writer(rt: HostRuntime) {
     let gate = OrderingGate::by(Rules::HeldWriter);
-    let (report, sink) = recorded(&rt, rt.alloc(), &FIVE_AND_ONE, 1, &[], &gate);
+    let (report, sink) = recorded(&rt, rt.alloc(), &FIVE_AND_ONE, 1, &gate);
     let found = (gate.all_came(), gate.counts());
     same_in(&rt, "the gate", &found, &(true, (0, 1, 2, 1)));
     let text = "channel 1\nmade 5\nrefused 3\nrefused 4\nchannel 2\nmade 1\npackets 2\n";
@@ -104,7 +94,6 @@ type Turns = (&'static str, Rules, u32, Counts, &'static [Order]);
 /// A queue of one has room for each message that waits until all before it were taken. Where two channels meet, neither
 /// waits for the other to end, and no lock is held between them.
 const TURNS: &[Turns] = &[
-    ("room for all", Rules::Open, 4096, (0, 0, 0, 0), EITHER),
     (
         "room for all while the writer waits",
         Rules::UntilTheEndMarks,
@@ -146,7 +135,7 @@ const TURNS: &[Turns] = &[
 fn takes_turns<R: Threads + Wait + Abort + Sync>(rt: &R, alloc: Global, turns: &Turns) {
     let (row, rules, queue, counts, orders) = turns;
     let gate = OrderingGate::by(*rules);
-    let (report, sink) = recorded(rt, alloc, &TEN_MESSAGES, *queue, &[], &gate);
+    let (report, sink) = recorded(rt, alloc, &TEN_MESSAGES, *queue, &gate);
     same_in(rt, row, &(gate.all_came(), gate.counts()), &(true, *counts));
     is_whole(rt, alloc, row, &report, sink.bytes(), orders);
 }
@@ -156,46 +145,4 @@ fn two_channels_of_ten_messages(rt: HostRuntime) {
     for turns in TURNS {
         takes_turns(&rt, rt.alloc(), turns);
     }
-}
-
-/// A script that sends nothing, behind this prologue.
-fn gives_the_prologue<R: Threads + Wait + Abort + Sync>(rt: &R, alloc: Global, prologue: &[u8]) {
-    let (report, sink) = recorded(rt, alloc, &[NO_MESSAGE], 1, prologue, &OpenGate);
-    assert_eq!(rt; sink.bytes(), prologue);
-    is_printed(rt, alloc, &report, "channel 1\nmade 0\npackets 0\n");
-}
-
-/// A whole recording of two channels of ten messages, behind this prologue.
-fn is_whole_behind(rt: &impl Abort, alloc: Global, report: &Report, file: &[u8], prologue: &[u8]) {
-    let parts = file.split_at_checked(prologue.len());
-    let (front, packets) = parts.expect(rt, "a prologue");
-    assert_eq!(rt; front, prologue);
-    is_whole(rt, alloc, "behind a prologue", report, packets, EITHER);
-}
-
-/// Two channels of ten messages are recorded whole behind this prologue.
-fn stands_in_front<R: Threads + Wait + Abort + Sync>(rt: &R, alloc: Global, prologue: &[u8]) {
-    let (report, sink) = recorded(rt, alloc, &TEN_MESSAGES, 4096, prologue, &OpenGate);
-    is_whole_behind(rt, alloc, &report, sink.bytes(), prologue);
-}
-
-#[test]
-fn a_prologue_stands_in_front(rt: HostRuntime) {
-    let alloc = rt.alloc();
-    gives_the_prologue(&rt, alloc, &[]);
-    gives_the_prologue(&rt, alloc, &FOREIGN[..32]);
-    stands_in_front(&rt, alloc, &[]);
-    stands_in_front(&rt, alloc, &FOREIGN[..32]);
-}
-
-/// The actions at the messages that were made, by their numbers, and in the job's order at one number.
-#[test]
-fn placed_actions(rt: HostRuntime) {
-    let (report, sink) = recorded(&rt, rt.alloc(), &[FIVE_ACTIONS], 4096, &[], &OpenGate);
-    let text =
-        "channel 1\nmade 3\nplaced 1 6 fault on\nplaced 1 5 busy off\nplaced 3 5 busy on\nplaced 3 6 service on\n\
-         packets 1\n";
-    is_printed(&rt, rt.alloc(), &report, text);
-    let count = messages_of(&rt, rt.alloc(), sink.bytes(), 1);
-    same_in(&rt, "messages of channel 1", &count, &3);
 }

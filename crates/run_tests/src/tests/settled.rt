@@ -156,7 +156,7 @@ fn left_behind<R: Threads + Wait + Abort + Sync>(
 #[test]
 fn what_was_not_taken_is_received(rt: HostRuntime) {
     for (posts, words) in ROWS {
-        let bench = taking(bench_of(&rt, rt.alloc(), &[THREE], 4096, &[]), posts);
+        let bench = taking(bench_of(&rt, rt.alloc(), &[THREE], 4096), posts);
         let right = left_behind(&rt, rt.alloc(), &bench, &words);
         assert_eq!(rt; right, 4, "with {posts} posts taken");
     }

@@ -25,7 +25,7 @@ fn into_sink<R: Threads + Wait + Abort + Sync, S: Sink + Drop>(
 ) -> Result<(Report, S), RunError<S>>
     requires { S.failures sink < 2 ^ 64 - 1 }
 {
-    let Bench { jobs, settings } = bench_of(rt, alloc, &TEN_MESSAGES, 4096, &[]);
+    let Bench { jobs, settings } = bench_of(rt, alloc, &TEN_MESSAGES, 4096);
     run(rt, alloc, &jobs, &settings, &OpenGate, sink)
 }
 

@@ -1,5 +1,0 @@
-//! Jobs that are tried: `bench_check`.
-
-mod fitted;
-mod hosted;
-mod tried;
