@@ -8,7 +8,7 @@ use Rattle.mil_line.specs.declared.faults.Fault.{Fault}
 use Rattle.mil_bus.specs.declared.talks.Talk.{Talk}
 use Rattle.mil_bus.specs.declared.outcomes.Outcome.{Outcome}
 use Rattle.mil_bus.specs.Exchange.{BusState, exchanged, talk_of, held_until, now_of, clock_of}
-use Rattle.mil_monitor.specs.declared.Record.{Record}
+use Rattle.ch11_f1.specs.declared.Record.{Record}
 use Rattle.mil_monitor.specs.Observed.{observed}
 use Rattle.frame_code.specs.Table.{sends, act, stuck}
 use Rattle.std.proofs.lemmas.Bool.{cases_lt}

@@ -4,7 +4,7 @@ use Rattle.mil_message.specs.World.{Point}
 use Rattle.mil_bus.specs.declared.outcomes.Outcome.{Outcome}
 use Rattle.mil_bus.specs.declared.talks.Talk.{Talk}
 use Rattle.mil_bus.specs.Exchange.{played}
-use Rattle.mil_monitor.specs.declared.Record.{Record}
+use Rattle.ch11_f1.specs.declared.Record.{Record}
 use Rattle.mil_monitor.specs.Observed.{observed}
 use Rattle.frame_code.specs.Table.{goes_on, start, run}
 use Rattle.frame_code.specs.Loadable.{IsLoadable}

@@ -2,7 +2,8 @@
 //! for; and lists of placed actions, in rows of 16 bytes.
 //!
 //! It may know: words, messages, status bits, host actions, what the host of a controller asks for, gaps and planned
-//! faults, the bus, the monitor, histories, code, the loader. Its tests: `frame_tests`. Its wrong bodies: `edits/`.
+//! faults, the bus, the monitor, recorded messages, histories, code, the loader. Its tests: `frame_tests`. Its wrong
+//! bodies: `edits/`.
 #![tactic(auto)]
 
 mod action_rows;
@@ -31,6 +32,7 @@ mod stack;
 mod upcoming;
 
 pub use actions::Actions;
+use ch11_f1::Record;
 pub use ended::Ended;
 pub use frames::Closing;
 pub use laws::{
@@ -38,7 +40,6 @@ pub use laws::{
     next_message_is_sent, next_message_stays,
 };
 pub use machine::Machine;
-use mil_monitor::Record;
 pub use next_message::NextMessage;
 pub use outcomes::asks;
 pub use placed::{HostAction, Placed};

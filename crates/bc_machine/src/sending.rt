@@ -21,11 +21,12 @@ ghost use Rattle.std.specs.Prelude.{unwrap_or, false};
 use crate::Stepped;
 use crate::outcomes::other;
 use crate::parts::Parts;
+use ch11_f1::Record;
 use controller_host::Insertion;
 use mil_bus::{Bus, Outcome, Talk, TalkCounts};
 use mil_line::{Fault, Gap};
 use mil_message::Message;
-use mil_monitor::{Record, observe_with};
+use mil_monitor::observe_with;
 use mil_word::Line;
 
 /// A controller sends at most so many messages.

@@ -1,11 +1,11 @@
 //! The values of signals in a message that is tried.
 
 use bench_select::value_in;
-use ch11_f1::{RECORD_HEAD, body, put_record};
+use ch11_f1::{RECORD_HEAD, Record, body, put_record};
 use ch11_layout::{StampKind, View};
 use mil_bus::Talk;
 use mil_line::MOST_SENT;
-use mil_monitor::{Record, observe};
+use mil_monitor::observe;
 use signal_dictionary::Signal;
 use signal_values::put_told;
 use std::alloc::{AllocError, Global};

@@ -1,6 +1,5 @@
 //! The command line of `bench`: which commands there are, and which of them is asked for.
 
-use bench_requests::Fault;
 use clap::error::ErrorKind;
 use clap::{ArgMatches, Command, Error};
 use command_export::{completing, drawing, exporting, signalling};
@@ -8,6 +7,7 @@ use command_judge::{checking, judging};
 use command_listing::{dumping, statistics};
 use command_material::{comparing, cutting};
 use command_parts::context::{Context, context_in, context_option};
+use command_parts::requests::Fault;
 use command_reproduce::reproducing;
 use command_step::{assembling, explaining, one_message, stepping};
 use command_view::viewing;

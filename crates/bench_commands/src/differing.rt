@@ -2,8 +2,8 @@
 
 use bench_difference::difference;
 use bench_report::read_report;
-use bench_requests::{jobs_of, read_again, texts_again};
 use ch11_reader::Index;
+use command_parts::requests::{jobs_of, read_again, texts_again};
 use command_step::stepping;
 use std::alloc::AllocError;
 use std::rt::Files;

@@ -2,7 +2,7 @@
 
 use crate::command_line::{Asked, Request};
 use bench_files::{followed, part_of};
-use bench_requests::{Fault, RunRequest};
+use command_parts::requests::{Fault, RunRequest};
 use std::fs;
 use std::rt::Files;
 

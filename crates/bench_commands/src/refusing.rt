@@ -1,8 +1,8 @@
 //! Why jobs and settings may not be run: which setting, how many jobs, which two of them.
 
 use crate::command_line::Request;
-use bench_requests::{RunRequest, jobs_of, texts_again};
 use bench_settings::WorldError;
+use command_parts::requests::{RunRequest, jobs_of, texts_again};
 use job_file::Job;
 use std::alloc::AllocError;
 use std::fmt::Write;

@@ -3,7 +3,7 @@ use Rattle.std.proofs.Common.{◌≡◌, ℕ, zero, suc, ◌+◌, ◌<◌, ◌^�
 use Rattle.std.specs.Prelude.{Bool, true, false, cond, ◌==◌, Some, slice_get}
 use Rattle.std.specs.List.{AllByRecursion}
 use Rattle.std.proofs.lemmas.List.{map-append}
-use Rattle.mil_monitor.specs.declared.Record.{Record}
+use Rattle.ch11_f1.specs.declared.Record.{Record}
 use Rattle.ch11_builder.specs.Packet.{Numbered, messages_of}
 use Rattle.ch11_builder.specs.Held.{Held, fresh, fits, pushed, closed, with_record}
 use Rattle.ch11_builder.specs.Recorded.{IsRecorded}

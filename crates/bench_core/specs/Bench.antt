@@ -4,7 +4,7 @@
 -- channel, for a terminal or for the controller, acts at the channel's next message, behind what is placed there.
 use Rattle.std.specs.Prelude.{ℕ, ◌+◌, nat_lt, Bool, false, true, not, ◌||◌, if◌then◌else◌, List, [], ◌∷◌, ◌++◌, length}
 use Rattle.std.specs.Prelude.{slice_get, slice_set, Option, Some, None}
-use Rattle.mil_monitor.specs.declared.Record.{Record}
+use Rattle.ch11_f1.specs.declared.Record.{Record}
 use Rattle.bc_machine.specs.declared.placed.Placed.{Placed}
 use Rattle.bc_machine.specs.declared.placed.HostAction.{HostAction}
 use Rattle.job_file.specs.Jobs.{JobState, job_in}

@@ -2,7 +2,7 @@
 use Rattle.std.specs.Prelude.{◌≡◌, ℕ, ◌+◌, ◌-◌, ◌≤◌, ◌==◌, Bool, true, not, ◌||◌, if◌then◌else◌, length, Option}
 use Rattle.std.specs.Prelude.{Some, None}
 use Rattle.std.specs.List.{list_any}
-use Rattle.mil_monitor.specs.declared.Record.{Record}
+use Rattle.ch11_f1.specs.declared.Record.{Record}
 use Rattle.frame_tree.specs.Bounds.{IsSound}
 use Rattle.bench_report.specs.Reports.{ChannelPart, Rises}
 use Rattle.job_file.specs.Jobs.{tree_in, job_in}

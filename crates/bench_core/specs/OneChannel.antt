@@ -1,6 +1,6 @@
 -- The recording of one channel (IRIG 106-17 Chapter 11): its records, numbered from 1, and then its end mark.
 use Rattle.std.specs.Prelude.{◌≡◌, ℕ, List, [], map, Ok}
-use Rattle.mil_monitor.specs.declared.Record.{Record}
+use Rattle.ch11_f1.specs.declared.Record.{Record}
 use Rattle.ch11_f1.specs.Again.{as_message}
 use Rattle.ch11_builder.specs.Packet.{Numbered}
 use Rattle.ch11_reader.specs.Recording.{Found, packets_in}

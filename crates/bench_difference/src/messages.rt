@@ -2,10 +2,9 @@
 
 use crate::channels::channels_of_each;
 use bench_report::{ChannelReport, Report};
-use ch11_f1::Seen;
+use ch11_f1::{Record, Seen};
 use ch11_reader::Index;
 use job_file::{Job, next_record};
-use mil_monitor::Record;
 use std::alloc::{AllocError, Global};
 use std::fmt::Write;
 

@@ -4,7 +4,7 @@ use crate::desk::Desk;
 use crate::pace::Pace;
 use crate::show::Show;
 use bench_run::Gate;
-use mil_monitor::Record;
+use ch11_f1::Record;
 use std::rt::Clock;
 use std::sync::Wait;
 use std::time::Duration;

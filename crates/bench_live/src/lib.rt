@@ -2,9 +2,8 @@
 //! and messages that are shown as they are recorded.
 //!
 //! It may know: words, gaps and planned faults, host actions, what the host of a controller asks for, as text, placed
-//! actions, the records of the monitor, jobs, bodies, layouts, the writer, the trunk, reports, what runs share,
-//! mailboxes, runs, the library of `bench run`, decoded messages, numbers and words of a text. Its tests:
-//! `live_tests`. Its wrong bodies: `edits/`.
+//! actions, jobs, bodies, layouts, the writer, the trunk, reports, what runs share, mailboxes, runs, the library of
+//! `bench run`, decoded messages, numbers and words of a text. Its tests: `live_tests`. Its wrong bodies: `edits/`.
 #![tactic(auto)]
 
 mod desk;

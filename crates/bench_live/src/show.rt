@@ -1,11 +1,10 @@
 //! The messages of a run as people read them, while it goes on.
 
 use bench_decode::{Place, Shown, TextLine, write_columns, write_message};
-use ch11_f1::{RECORD_HEAD, body, put_record};
+use ch11_f1::{RECORD_HEAD, Record, body, put_record};
 use ch11_layout::{StampKind, View};
 use crossbeam_queue::ArrayQueue;
 use mil_line::MOST_SENT;
-use mil_monitor::Record;
 use std::alloc::{AllocError, Global};
 use std::io::Write;
 use std::rt::Clock;

@@ -7,11 +7,12 @@ ghost use Rattle.std.specs.Prelude.{◌≡◌, ◌<◌, ◌^◌, true, Ok, IfOk,
 use crate::fault::OneFault;
 use arrayvec::ArrayVec;
 use ch11_builder::Builder;
+use ch11_f1::Record;
 use frame_text::{ScriptError, read_send};
 use mil_bus::{Bus, Talk};
 use mil_line::Gap;
 use mil_message::Message;
-use mil_monitor::{Record, observe};
+use mil_monitor::observe;
 use mil_word::Line;
 use mil_word::timing::LEAST_GAP;
 use std::alloc::{AllocError, Global};

@@ -2,7 +2,7 @@
 use Rattle.std.proofs.Common.{◌≡◌, ℕ, zero, suc, ◌+◌, ◌-◌, ◌<◌, ◌≤◌, ◌⊎◌, inl, inr, Bool, true, false, cond, List, [], ◌∷◌, length, map, min, max, Option, None, Some, slice_get, Result, Ok, Err, refl, sym, ap, subst, ◌∙◌, arith}
 use Rattle.std.specs.Prelude.{IfNone, IfSome, OnOk, option_map}
 use Rattle.std.proofs.lemmas.Option.{slice_get-map, slice_get_past, slice_get_within}
-use Rattle.mil_monitor.specs.declared.Record.{Record}
+use Rattle.ch11_f1.specs.declared.Record.{Record}
 use Rattle.ch11_layout.specs.Stamps.{Recorded}
 use Rattle.frame_tree.specs.Bounds.{IsSound}
 use Rattle.bc_machine.specs.Running.{MachineState}

@@ -1,6 +1,6 @@
 -- The messages of a channel: as a recording has them, and as reading what a job records gives them (own choice).
 use Rattle.std.specs.Prelude.{ℕ, ◌==◌, Bool, if◌then◌else◌, List, [], ◌∷◌, ◌++◌, map}
-use Rattle.mil_monitor.specs.declared.Record.{Record}
+use Rattle.ch11_f1.specs.declared.Record.{Record}
 use Rattle.ch11_f1.specs.Again.{as_message}
 use Rattle.ch11_f1.specs.BodyReading.{Message}
 use Rattle.ch11_layout.specs.Stamps.{Recorded, counted, kind_of, recorded}

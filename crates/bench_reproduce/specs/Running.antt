@@ -1,7 +1,7 @@
 -- A job that runs beside the messages of a recording.
 use Rattle.std.specs.Prelude.{◌≡◌, ℕ, ◌+◌, List, Option, None, Some, min, length, slice_get, option_map}
 use Rattle.std.specs.Prelude.{if◌then◌else◌}
-use Rattle.mil_monitor.specs.declared.Record.{Record}
+use Rattle.ch11_f1.specs.declared.Record.{Record}
 use Rattle.ch11_layout.specs.Stamps.{Recorded}
 use Rattle.bench_compare.specs.Channels.{origins_by}
 use Rattle.bench_compare.specs.declared.differences.Origins.{Origins}

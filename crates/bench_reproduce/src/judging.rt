@@ -19,10 +19,9 @@ ghost use Rattle.std.specs.Prelude.{OnOk, IfOk};
 use bc_machine::Machine;
 use bench_compare::{Difference, Kept, Met, Origins, Part, part_of};
 use byteorder::{ByteOrder, LittleEndian};
-use ch11_f1::Seen;
+use ch11_f1::{Record, Seen};
 use ch11_layout::{StampKind, View};
 use job_file::{Job, next_record};
-use mil_monitor::Record;
 use std::alloc::{AllocError, Global};
 
 /// How many differences are told.

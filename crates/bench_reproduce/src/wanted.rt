@@ -1,10 +1,11 @@
 //! The record that a message of the job has to give.
 
 use arrayvec::ArrayVec;
+use ch11_f1::Record;
 use ch11_layout::View;
 use mil_bus::Talk;
 use mil_line::MOST_SENT;
-use mil_monitor::{Record, observe};
+use mil_monitor::observe;
 use mil_status::BlockBits;
 use mil_word::Line;
 

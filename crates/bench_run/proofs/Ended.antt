@@ -4,7 +4,7 @@ use Rattle.std.specs.Prelude.{◌==◌}
 use Rattle.std.specs.List.{AllByRecursion, filter}
 use Rattle.std.proofs.lemmas.List.Elements.{filter-append}
 use Rattle.std.proofs.lemmas.Bool.{cases_lt}
-use Rattle.mil_monitor.specs.declared.Record.{Record}
+use Rattle.ch11_f1.specs.declared.Record.{Record}
 use Rattle.mil_trunk.specs.Views.{with_tag}
 use Rattle.ch11_builder.specs.Packet.{Numbered, last_number}
 use Rattle.ch11_recording.specs.Items.{numbered_from, part_of, to_the_end}

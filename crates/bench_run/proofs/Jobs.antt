@@ -1,7 +1,7 @@
 -- What the jobs of a run come to: their records but for the refused, and their channels.
 use Rattle.std.proofs.Common.{◌≡◌, ℕ, zero, suc, ◌^◌, ◌<◌, List, [], ◌∷◌, slice_get, slice_index, Some, ap}
 use Rattle.std.specs.List.{AllByRecursion}
-use Rattle.mil_monitor.specs.declared.Record.{Record}
+use Rattle.ch11_f1.specs.declared.Record.{Record}
 use Rattle.job_file.specs.Jobs.{JobState}
 use Rattle.bench_settings.specs.Lawful.{channels_of}
 use Rattle.bench_settings.specs.Kept.{kept_records, is_kept}

@@ -3,7 +3,7 @@ use Rattle.std.proofs.Common.{◌≡◌, ℕ, zero, suc, ◌+◌, ◌-◌, ◌<�
 use Rattle.std.specs.Prelude.{◌==◌, Some, slice_get}
 use Rattle.std.specs.List.{AllByRecursion}
 use Rattle.std.proofs.lemmas.List.{map-append, length-append, length-map, take_all}
-use Rattle.mil_monitor.specs.declared.Record.{Record}
+use Rattle.ch11_f1.specs.declared.Record.{Record}
 use Rattle.mil_trunk.specs.declared.trunk.Trunk.{Trunk}
 use Rattle.mil_trunk.specs.declared.trunk.Ticket.{Ticket}
 use Rattle.mil_trunk.specs.Tags.{bounds_outside}

@@ -2,7 +2,7 @@
 use Rattle.std.specs.Prelude.{◌≡◌, ℕ, ◌+◌, ◌*◌, ◌^◌, ◌<◌, ◌≤◌, ◌==◌, Bool, true, false, List, [], ◌∷◌, ◌++◌, length}
 use Rattle.std.specs.Prelude.{map, if◌then◌else◌, slice_get, Option, Some, ⊤}
 use Rattle.std.specs.List.{AllByRecursion}
-use Rattle.mil_monitor.specs.declared.Record.{Record}
+use Rattle.ch11_f1.specs.declared.Record.{Record}
 use Rattle.ch11_builder.specs.Packet.{Numbered}
 use Rattle.ch11_builder.specs.Held.{Held, latest_number}
 use Rattle.ch11_recording.specs.declared.item.Item.{Item}

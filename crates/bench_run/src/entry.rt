@@ -1,6 +1,6 @@
 //! What goes through the trunk.
 
-use mil_monitor::Record;
+use ch11_f1::Record;
 use mil_trunk::Tagged;
 
 /// What a channel offers, by the index of its job.

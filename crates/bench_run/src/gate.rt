@@ -1,6 +1,6 @@
 //! Points of a run at which its threads may be held.
 
-use mil_monitor::Record;
+use ch11_f1::Record;
 use std::thread;
 
 /// What is called at points of a run, on the thread that is there. It may wait, so that tests fix the order of the

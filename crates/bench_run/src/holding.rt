@@ -1,6 +1,6 @@
 //! A gate under which no message finds the queue full.
 use crate::gate::Gate;
-use mil_monitor::Record;
+use ch11_f1::Record;
 use std::sync::atomic::{AtomicU64, Ordering};
 use std::thread;
 

@@ -2,8 +2,8 @@
 //! mailboxes.
 //!
 //! It may know: words, messages, what the host of a controller asks for, gaps and planned faults, terminals, the bus,
-//! the monitor, code, the assembler, the loader, the controller, jobs, bodies, the builder, the reader, the writer,
-//! recordings, the trunk, reports, what runs share, mailboxes. Its tests: `run_tests`. Its wrong bodies: `edits/`.
+//! code, the assembler, the loader, the controller, jobs, bodies, the builder, the reader, the writer, recordings, the
+//! trunk, reports, what runs share, mailboxes. Its tests: `run_tests`. Its wrong bodies: `edits/`.
 #![tactic(auto)]
 
 mod channel;

@@ -1,7 +1,7 @@
 -- The records of a channel that the queue took, where some were refused (own choice).
 use Rattle.std.specs.Prelude.{ℕ, ◌==◌, Bool, not, List}
 use Rattle.std.specs.List.{filter, list_any}
-use Rattle.mil_monitor.specs.declared.Record.{Record}
+use Rattle.ch11_f1.specs.declared.Record.{Record}
 use Rattle.ch11_builder.specs.Packet.{Numbered}
 use Rattle.ch11_recording.specs.Items.{numbered_from}
 

@@ -1,8 +1,8 @@
 //! What all runs share: their settings, which jobs may be run with these, placed actions in the order in which messages
 //! meet them, and what a report says of a channel.
 //!
-//! It may know: words, the bus, the monitor, the controller, jobs, the builder, the reader, recordings, reports. Its
-//! tests: `bench_tests`. Its wrong bodies: `edits/`.
+//! It may know: words, the bus, recorded messages, the controller, jobs, the builder, the reader, recordings, reports.
+//! Its tests: `bench_tests`. Its wrong bodies: `edits/`.
 #![tactic(auto)]
 
 mod error;

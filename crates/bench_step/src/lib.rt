@@ -1,7 +1,7 @@
 //! The command `bench step`: a debugger that walks through a recording, driven by lines of text.
 //!
-//! It may know: words, the bus, the controller, the conditions of scripts, jobs, layouts, the reader, reports, the
-//! debugger, rules, selections, places, decoded messages, what terminals hold, numbers and words of a text. Its tests:
+//! It may know: words, the bus, the controller, the conditions of scripts, jobs, the reader, reports, the debugger,
+//! rules, selections, places, decoded messages, what terminals hold, numbers and words of a text. Its tests:
 //! `command_tests`. Its wrong bodies: `edits/`.
 #![tactic(auto)]
 

@@ -4,7 +4,7 @@ use Rattle.std.specs.List.{flat_map, AllByRecursion}
 use Rattle.std.proofs.lemmas.Bool.{le-leb, eq-eqb}
 use Rattle.std.proofs.lemmas.List.{take_at, drop_at, append-nil, length-append, length-take-le, length-map}
 use Rattle.byteorder.specs.Endian.{little_bytes}
-use Rattle.mil_monitor.specs.declared.Record.{Record}
+use Rattle.ch11_f1.specs.declared.Record.{Record}
 use Rattle.ch11_header.specs.declared.header.Header.{Header}
 use Rattle.ch11_header.specs.HeaderBytes as header
 use Rattle.ch11_header.specs.HeaderReading.{header_in, with_lawful_lengths}

@@ -8,7 +8,7 @@ ghost use Rattle.std.specs.Prelude.{◌≡◌, ◌≤◌, ◌<◌, ◌^◌, ◌�
 
 use crate::error::BuilderError;
 use crate::packing::Packing;
-use mil_monitor::Record;
+use ch11_f1::Record;
 use std::alloc::Global;
 use std::marker::Model;
 

@@ -1,7 +1,7 @@
 //! The records of a channel as packets (IRIG 106-17 Chapter 11, MIL-STD-1553 bus data packets, Format 1).
 //!
-//! It may know: gaps and planned faults, the records of the monitor, headers, bodies, histories. Its tests:
-//! `ch11_tests`. Its wrong bodies: `edits/`.
+//! It may know: gaps and planned faults, headers, bodies, histories. Its tests: `ch11_tests`. Its wrong bodies:
+//! `edits/`.
 #![tactic(auto)]
 
 mod builder;

@@ -1,7 +1,7 @@
 //! What proofs know of a record in the open packet.
 ghost use Rattle.std.specs.Prelude.{◌≡◌};
 
-use mil_monitor::Record;
+use ch11_f1::Record;
 use std::marker::Model;
 use std::snapshot::Snapshot;
 

@@ -10,11 +10,10 @@ ghost use Rattle.std.specs.Prelude.{◌≡◌, [], ◌∷◌, ◌++◌, ◌+◌,
 use crate::error::BuilderError;
 use crate::numbered::NumberedRecord;
 use crate::sealing::{FIRST_MESSAGE, padded, put_behind, seal};
-use ch11_f1::RECORD_HEAD;
+use ch11_f1::{RECORD_HEAD, Record};
 use ch11_header::kinds::BUS_MESSAGES;
 use ch11_header::{Header, OVERFLOW};
 use history::History;
-use mil_monitor::Record;
 use std::alloc::Global;
 use std::marker::Model;
 

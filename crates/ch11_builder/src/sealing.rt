@@ -6,9 +6,8 @@ ghost use Rattle.ch11_header.specs.HeaderBytes.{header_bytes};
 ghost use Rattle.std.specs.Prelude.{◌≡◌, ◌++◌, ◌+◌, ◌*◌, ◌≤◌, ◌<◌, ◌^◌, length, take, drop};
 
 use byteorder::{ByteOrder, LittleEndian};
-use ch11_f1::put_record;
+use ch11_f1::{Record, put_record};
 use ch11_header::{HEADER_SIZE, Header, write_header};
-use mil_monitor::Record;
 
 /// Where the messages begin in a packet: behind the header and the channel-specific data word.
 pub(crate) const FIRST_MESSAGE: usize = 28;

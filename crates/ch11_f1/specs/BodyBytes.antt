@@ -3,7 +3,7 @@
 use Rattle.std.specs.Prelude.{ℕ, ◌+◌, ◌*◌, ◌^◌, List, ◌++◌, length}
 use Rattle.std.specs.List.{flat_map}
 use Rattle.byteorder.specs.Endian.{little_bytes}
-use Rattle.mil_monitor.specs.declared.Record.{Record}
+use Rattle.ch11_f1.specs.declared.Record.{Record}
 
 -- the words that were on the bus
 abbrev pub words_of : Record → List ℕ

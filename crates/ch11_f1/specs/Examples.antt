@@ -1,6 +1,6 @@
 -- The definitions at a worked body: one message of five words.
 use Rattle.std.specs.Prelude.{◌≡◌, List, [], ◌∷◌, ℕ, Ok, Err, take, refl}
-use Rattle.mil_monitor.specs.declared.Record.{Record}
+use Rattle.ch11_f1.specs.declared.Record.{Record}
 use Rattle.ch11_f1.specs.declared.error.BodyError.TheVariants.{Short, Odd, End}
 use Rattle.ch11_f1.specs.BodyBytes.{head_bytes, record_bytes, body_bytes}
 use Rattle.ch11_f1.specs.BodyReading.{message_at, messages_at, messages_in}

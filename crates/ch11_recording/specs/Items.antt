@@ -1,6 +1,6 @@
 -- What goes into a recording: records of channels, and end marks, behind which no record of their channel comes.
 use Rattle.std.specs.Prelude.{ℕ, suc, ◌==◌, if◌then◌else◌, List, [], ◌∷◌, ◌++◌}
-use Rattle.mil_monitor.specs.declared.Record.{Record}
+use Rattle.ch11_f1.specs.declared.Record.{Record}
 use Rattle.ch11_builder.specs.Packet.{Numbered}
 use Rattle.ch11_builder.specs.Packet as packet
 use Rattle.ch11_recording.specs.declared.item.Item.{Item}

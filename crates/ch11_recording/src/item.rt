@@ -1,5 +1,5 @@
 //! What goes into a recording, item by item.
-use mil_monitor::Record;
+use ch11_f1::Record;
 
 /// What goes into a recording.
 #[derive(Debug, Drop)]

@@ -10,8 +10,8 @@ ghost use Rattle.std.specs.Prelude.{◌≡◌, ◌<◌, ◌^◌, ◌+◌, true, 
 
 use crate::packet_writer::PacketWriter;
 use ch11_builder::{Builder, BuilderError, Pushed, packet_is_read_again, run_gives_the_packets};
+use ch11_f1::Record;
 use ch11_writer::Sink;
-use mil_monitor::Record;
 use std::alloc::Global;
 use std::marker::Model;
 

@@ -6,8 +6,8 @@ ghost use Rattle.ch11_recording.specs.Laws.{RecordingIsRead, RecordsAreKept, End
 ghost use Rattle.std.specs.Prelude.{ℕ, ◌<◌, ◌^◌};
 
 use ch11_builder::{packet_is_read_again, run_gives_the_packets};
+use ch11_f1::Record;
 use ch11_reader::recordings_join;
-use mil_monitor::Record;
 
 /// A recording is read again as the records of its closed packets: for each channel in order and once. Where a channel
 /// has ended, those are all of its records. Conditions: the prologue is a list of sound packets without one of

@@ -1,8 +1,8 @@
 //! A recording as a whole (IRIG 106-17 Chapter 11): the file of a list of items, how it is written, and what it is
 //! read as.
 //!
-//! It may know: the records of the monitor, headers, bodies, the builder, the reader, the writer. Its tests:
-//! `ch11_tests`. Its wrong bodies: `edits/`.
+//! It may know: headers, bodies, the builder, the reader, the writer. Its tests: `ch11_tests`. Its wrong bodies:
+//! `edits/`.
 #![tactic(auto)]
 
 mod item;

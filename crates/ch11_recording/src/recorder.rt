@@ -11,8 +11,8 @@ ghost use Rattle.std.specs.Prelude.{ℕ, List, Option, true, ◌≡◌, ◌<◌,
 use crate::lane::Lane;
 use crate::packet_writer::PacketWriter;
 use ch11_builder::{BuilderError, packet_is_read_again};
+use ch11_f1::Record;
 use ch11_writer::{Sink, WriteFault};
-use mil_monitor::Record;
 use std::alloc::Global;
 use std::marker::Model;
 

@@ -1,13 +1,13 @@
 //! The channels of a recording, for a setup record that describes them.
 
 use bench_names::{Described, Holds, setup_text};
-use bench_requests::Fault;
 use bench_watch::Reopen;
 use ch11_header::Header;
 use ch11_header::kinds::{BUS_MESSAGES, RECORDING_INDEX, TIME_DATA};
 use ch11_reader::CHANNELS;
 use ch11_stream::{Advance, Packets, StreamFault};
 use command_parts::recordings::{Recording, fault_of_reading};
+use command_parts::requests::Fault;
 use std::alloc::{AllocError, Global};
 use std::io::IsTerminal;
 use std::rt::{Clock, Files};

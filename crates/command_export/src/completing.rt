@@ -4,7 +4,6 @@ use crate::channels::described;
 use crate::standing::standing_of;
 use bench_complete::{Additions, CompleteFault, Completion, Places, UtcSecond};
 use bench_files::{Hold, Kind};
-use bench_requests::{Fault, read_whole};
 use bench_settings::DEFAULT_VERSION;
 use ch11_reader::Skip;
 use ch11_stream::Advance;
@@ -14,6 +13,7 @@ use command_parts::options::{
 };
 use command_parts::recordings::{Recording, Source};
 use command_parts::replacing::{begin_to_write, may_write, put_or_give_up};
+use command_parts::requests::{Fault, read_whole};
 use std::alloc::{AllocError, Global};
 use std::io::{self, BufWriter, IsTerminal, Write};
 use std::rt::{Clock, Files};

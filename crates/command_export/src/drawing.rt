@@ -3,12 +3,12 @@
 use bench_draw::{Asked, By, DrawFault, Drawing, draw};
 use bench_files::{Hold, Kind};
 use bench_names::ChannelNames;
-use bench_requests::Fault;
 use clap::{ArgMatches, Command};
 use command_parts::extracting::extract_options;
 use command_parts::looking::{tell_of_unknown, tell_of_unread};
 use command_parts::options::{choice, command_of};
 use command_parts::recordings::{Recording, Source, fault_of_reading};
+use command_parts::requests::Fault;
 use command_parts::selecting::selection_options;
 use command_parts::showing::{Showing, showing_options};
 use std::alloc::{AllocError, Global};

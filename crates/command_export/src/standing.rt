@@ -1,8 +1,8 @@
 //! Recordings whose packets are read where they stand.
 
 use bench_complete::Places;
-use bench_requests::{Fault, open_to_read};
 use command_parts::recordings::Recording;
+use command_parts::requests::{Fault, open_to_read};
 use std::io::{self, IsTerminal, Read, Seek, SeekFrom};
 use std::rt::{Clock, Files};
 

@@ -1,11 +1,11 @@
 //! `bench check`: jobs tried without a recording.
 
 use bench_check::{Bits, Way, check_job};
-use bench_requests::{Fault, jobs_of, read_texts};
 use bench_settings::{DEFAULT_LIMIT, DEFAULT_QUEUE, DEFAULT_VERSION, Settings, judge};
 use clap::{ArgMatches, Command};
 use command_parts::dictionaries::signals_in;
 use command_parts::options::{command_of, file, flag, jobs, words_in};
+use command_parts::requests::{Fault, jobs_of, read_texts};
 use command_parts::streams::{listing, on_stream, printed};
 use job_file::Job;
 use std::alloc::{AllocError, Global};

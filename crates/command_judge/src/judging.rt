@@ -8,9 +8,6 @@ use bench_judge::{
     write_colored, write_verdicts,
 };
 use bench_names::ChannelNames;
-use bench_requests::{
-    Fault, junit_of, read_whole, recording_first, rules_asked, rules_text, verdict_on, write_new,
-};
 use bench_watch::Reopen;
 use ch11_reader::Skip;
 use clap::{ArgMatches, Command};
@@ -20,6 +17,9 @@ use command_parts::looking::tell_of_unknown;
 use command_parts::options::{argument, command_of, file, flag, force, json, optional};
 use command_parts::recordings::{Recording, Source, fault_of_reading};
 use command_parts::replacing::may_write;
+use command_parts::requests::{
+    Fault, junit_of, read_whole, recording_first, rules_asked, rules_text, verdict_on, write_new,
+};
 use command_parts::streams::{listing, on_stream};
 use command_parts::terminals::is_for_people;
 use judge_rules::{Check, Rule};

@@ -6,11 +6,11 @@ use crate::judging::{
 };
 use bench_json::{JsonLines, JsonSource};
 use bench_judge::{Lost, RuleVerdict};
-use bench_requests::{Fault, junit_of, rules_text, verdict_on};
 use ch11_reader::Skip;
 use command_parts::hosts::System;
 use command_parts::looking::tell_of_unknown;
 use command_parts::recordings::{Recording, Source};
+use command_parts::requests::{Fault, junit_of, rules_text, verdict_on};
 use command_parts::streams::{listing, on_stream};
 use judge_rules::{RuleError, RuleFault};
 use signal_dictionary::Signal;

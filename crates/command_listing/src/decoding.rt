@@ -2,11 +2,11 @@
 
 use bench_decode::{Output, Shown, decode, decode_by_time};
 use bench_json::{JsonLines, JsonSource};
-use bench_requests::{Fault, Listing, unless_gone};
 use clap::ArgMatches;
 use command_parts::dictionaries::{selection_by, signals_in};
 use command_parts::looking::{tell_of_loss, tell_of_unknown};
 use command_parts::recordings::{Recording, Source};
+use command_parts::requests::{Fault, Listing, unless_gone};
 use command_parts::selecting::{GivenSelection, given_selection, judge_selection};
 use command_parts::streams::unless_refused;
 use command_parts::terminals::is_for_people;

@@ -3,11 +3,11 @@
 use crate::decoding::{Messages, asks_for_messages, messages_in, show_messages};
 use bench_dump::{dump, dump_skipping, dump_with_times};
 use bench_json::{JsonLines, JsonSource};
-use bench_requests::{Fault, Listing, unless_gone};
 use clap::{ArgMatches, Command};
 use command_parts::looking::{tell_of_loss, tell_of_unknown, tell_of_unread};
 use command_parts::options::{argument, command_of, file, flag, json, time_channel};
 use command_parts::recordings::{Recording, Source, Times};
+use command_parts::requests::{Fault, Listing, unless_gone};
 use command_parts::selecting::selection_options;
 use command_parts::streams::unless_refused;
 use std::alloc::{AllocError, Global};

@@ -3,7 +3,6 @@
 use bench_clock::ReadClock;
 use bench_json::{JsonLines, JsonSource};
 use bench_names::ChannelNames;
-use bench_requests::Fault;
 use bench_select::Selection;
 use bench_signals::{SignalFigures, count_signals, print_signals};
 use bench_stat::{
@@ -15,6 +14,7 @@ use command_parts::dictionaries::{selection_by, signals_in};
 use command_parts::looking::{tell_of_loss, tell_of_unknown, tell_of_unread};
 use command_parts::options::{argument, choice, command_of, file, flag, json, time_channel};
 use command_parts::recordings::{Recording, Source, Times};
+use command_parts::requests::Fault;
 use command_parts::selecting::{
     GivenSelection, given_selection, judge_selection, selection_options,
 };

@@ -6,7 +6,6 @@ use bench_compare::{
     CompareFault, Compared, SideFault, Sides, compare, differing, write_comparison, write_junit,
 };
 use bench_files::Kind;
-use bench_requests::{Fault, write_new};
 use bench_select::{Selection, Stamps};
 use ch11_stream::StreamFault;
 use clap::{ArgMatches, Command};
@@ -15,6 +14,7 @@ use command_parts::looking::tell_of_unknown;
 use command_parts::options::{argument, command_of, file, force, json, number};
 use command_parts::recordings::{Recording, Source, fault_of_reading};
 use command_parts::replacing::may_write;
+use command_parts::requests::{Fault, write_new};
 use command_parts::selecting::{GivenSelection, given_selection, selection_in, selection_options};
 use command_parts::streams::{listing, on_stream, printed};
 use command_parts::terminals::{is_for_people, prints_to_terminal};

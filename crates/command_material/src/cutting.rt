@@ -2,7 +2,6 @@
 
 use bench_cut::{CutFault, cut};
 use bench_files::{Hold, Kind};
-use bench_requests::Fault;
 use bench_select::Selection;
 use bench_watch::Reopen;
 use clap::{ArgMatches, Command};
@@ -11,6 +10,7 @@ use command_parts::looking::tell_of_unknown;
 use command_parts::options::{command_of, flag};
 use command_parts::recordings::{Recording, Source, fault_of_reading};
 use command_parts::replacing::{begin_to_write, is_replaced, put_or_give_up};
+use command_parts::requests::Fault;
 use command_parts::selecting::{selection_in, selection_options};
 use command_parts::streams::on_stream;
 use std::alloc::{AllocError, Global};

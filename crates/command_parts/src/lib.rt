@@ -1,5 +1,5 @@
 //! What the commands of `bench` share: the tables of their options, the choice of messages, recordings that are read
-//! pass by pass, files that take their place once they are whole, and where they print.
+//! pass by pass, files that take their place once they are whole, and where they print; and it passes on their requests.
 //!
 //! It may know: words, requests, files, the packets of a stream with `ch11_check`, times, watched files, rules,
 //! dictionaries of signals, selections, words of a text. It has no tests: each command is tried by `.ci/commands`, and
@@ -18,3 +18,5 @@ pub mod selecting;
 pub mod showing;
 pub mod streams;
 pub mod terminals;
+
+pub use bench_requests as requests;

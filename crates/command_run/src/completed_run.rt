@@ -5,7 +5,6 @@ use crate::recording::{ended, finish};
 use bench_complete::{Additions, CompleteFault, Completion, UtcSecond};
 use bench_files::Hold;
 use bench_report::Report;
-use bench_requests::{Ending, Fault, RunFiles, RunRequest};
 use bench_run::RunError;
 use ch11_writer::MemorySink;
 use clap::ArgMatches;
@@ -15,6 +14,7 @@ use command_export::completing::{
 };
 use command_parts::hosts::{Errors, Host};
 use command_parts::options::{Row, file, flag};
+use command_parts::requests::{Ending, Fault, RunFiles, RunRequest};
 use job_file::{Job, next_record};
 use std::alloc::{AllocError, Global};
 use std::rt::Files;

@@ -2,12 +2,12 @@
 
 use bench_files::leads_to_output;
 use bench_judge::{PassFault, RuleVerdict, write_verdicts};
-use bench_requests::{Fault, RunRequest, read_whole, rules_of, verdict_on};
 use command_judge::judging::{Spelled, fault_of_pass, print_verdicts};
 use command_judge::signal_judging::{AllSpelled, print_all_verdicts, rules_among};
 use command_parts::hosts::System;
 use command_parts::options::{Row, file, value};
 use command_parts::recordings::{Recording, Source};
+use command_parts::requests::{Fault, RunRequest, read_whole, rules_of, verdict_on};
 use judge_rules::Rule;
 use signal_dictionary::Signal;
 use signal_judge::{AllRules, write_all_verdicts};

@@ -1,8 +1,8 @@
 //! The command `bench run`: jobs recorded into a file with the report of the run beside it; also live or at a pace,
 //! completed, judged, and held to be without mistakes.
 //!
-//! It may know: what commands share, requests, files, jobs, the writer, reports, rules, dictionaries of signals,
-//! decoded messages, words of a text, what runs share, mailboxes, runs, `bench_run_command` and `bench_live`; of what a
+//! It may know: what commands share, files, jobs, the writer, reports, rules, dictionaries of signals, decoded
+//! messages, words of a text, what runs share, mailboxes, runs, `bench_run_command` and `bench_live`; of what a
 //! recording comes to `bench_complete`, `bench_judge`, `signal_judge`, `bench_check`, `command_export` and
 //! `command_judge`. It has no tests: the command is tried by `.ci/commands`, and its faults by `.ci/faults`. It has no
 //! wrong bodies.

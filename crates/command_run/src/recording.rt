@@ -11,10 +11,6 @@ use bench_complete::Additions;
 use bench_files::Hold;
 use bench_live::{Show, Showing};
 use bench_report::Report;
-use bench_requests::{
-    Ending, Fault, RunFiles, RunRequest, ending_of_run, ending_of_settings, read_texts, read_whole,
-    settings_of, told_apart,
-};
 use bench_run_command::{Counts, print_counts, refusals};
 use bench_settings::judge;
 use ch11_writer::StdSink;
@@ -22,6 +18,10 @@ use command_export::completing::setup_text;
 use command_judge::checking::strict_verdict;
 use command_parts::dictionaries::signals_in;
 use command_parts::hosts::{Errors, Host};
+use command_parts::requests::{
+    Ending, Fault, RunFiles, RunRequest, ending_of_run, ending_of_settings, read_texts, read_whole,
+    settings_of, told_apart,
+};
 use command_parts::streams::{Printable, on_stream, print_to_output};
 use std::alloc::{AllocError, Global};
 use std::io;

@@ -4,10 +4,10 @@ use crate::completed_run::{Completing, completing_in, completing_options};
 use crate::judged_run::{judge_option, signals_option};
 use crate::live_run::{Going, going_in, going_options};
 use crate::strict_run::strict_option;
-use bench_requests::RunRequest;
 use bench_settings::{DEFAULT_LIMIT, DEFAULT_QUEUE, DEFAULT_VERSION};
 use clap::{ArgMatches, Command};
 use command_parts::options::{Row, command_of, file, flag, force, jobs, number, version, words_in};
+use command_parts::requests::RunRequest;
 use std::alloc::{AllocError, Global};
 
 /// What the help of `bench run` ends with.

@@ -2,9 +2,9 @@
 
 use crate::judged_run::ErrorStream;
 use bench_check::{mistakes_in, print_mistakes};
-use bench_requests::{Fault, RunRequest};
 use command_judge::checking::print_name;
 use command_parts::options::{Row, flag};
+use command_parts::requests::{Fault, RunRequest};
 use command_parts::streams::flushed;
 use job_file::Job;
 use std::alloc::Global;

@@ -2,10 +2,10 @@
 
 use bench_assemble::{AssembleFault, Sizes, assemble_text, print_sizes};
 use bench_files::{Hold, Kind, leads_to_output};
-use bench_requests::{Fault, read_whole, write_new};
 use clap::{ArgMatches, Command};
 use command_parts::options::{argument, command_of, force};
 use command_parts::replacing::may_write;
+use command_parts::requests::{Fault, read_whole, write_new};
 use command_parts::streams::{Printable, on_stream, print_to_output};
 use std::alloc::{AllocError, Global};
 use std::io;

@@ -1,9 +1,9 @@
 //! `bench explain`: what codes mean, and what to do.
 
 use bench_explain::{explain, print_explanation, print_list};
-use bench_requests::Fault;
 use clap::{ArgMatches, Command};
 use command_parts::options::{arguments, command_of, words_in};
+use command_parts::requests::Fault;
 use command_parts::streams::{Printable, on_stream, print_to_output};
 use std::alloc::{AllocError, Global};
 use std::io;

@@ -1,9 +1,9 @@
 //! `bench one`: one message on fresh terminals, printed as a packet.
 
 use bench_one::{OneFault, one, print_bytes};
-use bench_requests::Fault;
 use clap::{ArgMatches, Command};
 use command_parts::options::{argument, channel, command_of, version};
+use command_parts::requests::Fault;
 use command_parts::streams::{Printable, on_stream, print_to_output};
 use std::alloc::{AllocError, Global};
 use std::io;

@@ -2,13 +2,13 @@
 
 use bench_reasons::Explained;
 use bench_report::{Report, ReportError, ReportFault, read_report};
-use bench_requests::{Fault, Listing, jobs_of, read_texts, read_whole, unless_gone};
 use bench_step::{Prompted, step};
 use ch11_check::check;
 use clap::{ArgMatches, Command};
 use command_parts::context::Context;
 use command_parts::options::{argument, arguments, command_of, words_in};
 use command_parts::recordings::answer_of_reading;
+use command_parts::requests::{Fault, Listing, jobs_of, read_texts, read_whole, unless_gone};
 use command_parts::streams::on_stream;
 use job_file::Job;
 use std::alloc::{AllocError, Global};

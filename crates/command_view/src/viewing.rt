@@ -2,7 +2,6 @@
 
 use bench_files::{Hold, Kind};
 use bench_names::ChannelNames;
-use bench_requests::Fault;
 use bench_select::Selection;
 use bench_view::{Asked, Page, page_of, template};
 use clap::{ArgMatches, Command};
@@ -10,6 +9,7 @@ use command_parts::extracting::extract_options;
 use command_parts::looking::{tell_of_unknown, tell_of_unread};
 use command_parts::options::command_of;
 use command_parts::recordings::{Recording, Source};
+use command_parts::requests::Fault;
 use command_parts::selecting::selection_options;
 use command_parts::showing::{Showing, showing_options};
 use signal_dictionary::Signal;

@@ -3,7 +3,7 @@ use Rattle.std.proofs.Common.{◌≡◌, ℕ, ◌+◌, ◌-◌, ◌≤◌, ◌<�
 use Rattle.std.specs.Prelude.{Some, slice_get, reverse}
 use Rattle.std.proofs.lemmas.List.{take-append-drop, map-append, reverse-append}
 use Rattle.mil_bus.specs.declared.talks.Talk.{Talk}
-use Rattle.mil_monitor.specs.declared.Record.{Record}
+use Rattle.ch11_f1.specs.declared.Record.{Record}
 use Rattle.mil_monitor.specs.Observed.{observed}
 use Rattle.frame_tree.specs.Bounds.{IsSound}
 use Rattle.frame_load.specs.Budget.{budget}

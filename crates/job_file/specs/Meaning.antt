@@ -4,7 +4,7 @@ use Rattle.mil_message.specs.World.{World, Point}
 use Rattle.mil_bus.specs.declared.outcomes.Outcome.{Outcome}
 use Rattle.mil_bus.specs.Exchange.{BusState, played}
 use Rattle.mil_bus.specs.Addresses.{fresh_bus}
-use Rattle.mil_monitor.specs.declared.Record.{Record}
+use Rattle.ch11_f1.specs.declared.Record.{Record}
 use Rattle.mil_monitor.specs.Observed.{observed}
 use Rattle.frame_tree.specs.Meaning.{meaning}
 use Rattle.bc_machine.specs.declared.placed.Placed.{Placed}

@@ -2,8 +2,9 @@
 //! after so many messages.
 //!
 //! It may know: words, messages, host actions, what the host of a controller asks for, as values and as text, gaps and
-//! planned faults, selectors of rules, moments, the bus, the monitor, scripts from their text to the loader, the
-//! controller, histories, numbers and words of a text. Its tests: `frame_tests`. Its wrong bodies: `edits/`.
+//! planned faults, selectors of rules, moments, the bus, the monitor, recorded messages, scripts from their text to the
+//! loader, the controller, histories, numbers and words of a text. Its tests: `frame_tests`. Its wrong bodies:
+//! `edits/`.
 #![tactic(auto)]
 
 mod drafts;

@@ -10,7 +10,7 @@ ghost use Rattle.std.specs.Prelude.{◌≡◌, ◌+◌, ◌<◌, ◌≤◌, ◌^
 
 use crate::laws::job_runs;
 use bc_machine::{Machine, Stepped};
-use mil_monitor::Record;
+use ch11_f1::Record;
 
 /// Steps a controller to its next message, and gives the record of it; None where it halts before. It takes no memory.
 ///

@@ -6,7 +6,7 @@ use Rattle.mil_bus.specs.declared.talks.Talk.{Talk}
 use Rattle.mil_bus.specs.declared.counts.Came.{Came}
 use Rattle.mil_bus.specs.Counts.{seen_of}
 use Rattle.mil_bus.specs.BlockStatus.{block_of}
-use Rattle.mil_monitor.specs.declared.Record.{Record}
+use Rattle.ch11_f1.specs.declared.Record.{Record}
 
 -- the gap of a reply in the gap times word: 0 where it did not come, 255 where it is more (own choice)
 abbrev pub gap_half : Option Came → ℕ

@@ -4,7 +4,7 @@ ghost use Rattle.mil_bus.specs.Counts.{seen_of};
 ghost use Rattle.mil_monitor.specs.Observed.{observed, gap_half};
 ghost use Rattle.std.specs.Prelude.{◌≡◌, ◌<◌};
 
-use crate::Record;
+use ch11_f1::Record;
 use mil_bus::{Came, Talk, TalkCounts};
 
 /// The gap of a reply as a record has it, in ticks: 0 where it did not come, 255 where it is more.

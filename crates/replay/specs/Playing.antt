@@ -2,7 +2,7 @@
 use Rattle.std.specs.Prelude.{◌≡◌, ◌≢◌, ℕ, ◌+◌, true, false, ◌⊎◌, List, [], ◌∷◌, ◌++◌, length, map, take, slice_get}
 use Rattle.std.specs.Prelude.{Some, ◌==◌, Bool}
 use Rattle.std.specs.List.{list_any}
-use Rattle.mil_monitor.specs.declared.Record.{Record}
+use Rattle.ch11_f1.specs.declared.Record.{Record}
 use Rattle.bc_machine.specs.Running.{MachineState}
 use Rattle.job_file.specs.Jobs.{JobState}
 use Rattle.ch11_f1.specs.BodyReading.{Message}

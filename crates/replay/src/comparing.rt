@@ -8,8 +8,7 @@ ghost use Rattle.std.specs.Prelude.{◌≡◌, ◌==◌, ◌↔◌, IsTrue};
 
 use bench_report::ChannelReport;
 use byteorder::{ByteOrder, LittleEndian};
-use ch11_f1::Seen;
-use mil_monitor::Record;
+use ch11_f1::{Record, Seen};
 
 /// Whether bytes are the same.
 fn are_same(bytes: &[u8], others: &[u8]) -> bool

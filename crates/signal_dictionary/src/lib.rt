@@ -1,7 +1,7 @@
 //! Dictionaries of signals: which bits of which data words a signal is, what number they spell, and the texts that
 //! say so.
 //!
-//! It may know: words, rules, numbers and words of a text. Its tests: `command_tests`. Its wrong bodies: `edits/`.
+//! It may know: rules, numbers and words of a text. Its tests: `command_tests`. Its wrong bodies: `edits/`.
 #![tactic(auto)]
 
 mod decimals;

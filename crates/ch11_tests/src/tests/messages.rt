@@ -2,7 +2,7 @@
 ghost use Rattle.std.specs.Prelude.{◌≡◌};
 
 use arrayvec::ArrayVec;
-use mil_monitor::Record;
+use ch11_f1::Record;
 
 /// A message of these words, of which there are at most forty, without a bit in its block status word.
 pub(crate) fn message_of(stamp: u64, gaps: u16, words: &[u16]) -> Record

@@ -5,11 +5,11 @@ use crate::tests::equal::{are_bytes, same};
 use crate::tests::messages::message_of;
 use crate::tests::readers::built;
 use ch11_builder::BuilderError;
+use ch11_f1::Record;
 use ch11_header::read_header;
 use ch11_reader::Index;
 use ch11_recording::Recorder;
 use ch11_writer::{FuseSink, MemorySink, WriteFault};
-use mil_monitor::Record;
 use std::alloc::Global;
 use std::process::Abort;
 

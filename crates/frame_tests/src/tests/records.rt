@@ -2,7 +2,7 @@
 
 use crate::tests::equal::{same, same_in};
 use bc_machine::{Machine, NextMessage, Stepped};
-use mil_monitor::Record;
+use ch11_f1::Record;
 use std::process::Abort;
 
 /// A record as it is expected: its stamp, block status and gap times, where they are told, and its words.

@@ -1,7 +1,7 @@
 //! Messages that are not shown, since nothing takes them in time.
 use arrayvec::ArrayVec;
 use bench_live::Show;
-use mil_monitor::Record;
+use ch11_f1::Record;
 use std::test::Fail;
 
 /// Three words to terminal 5, subaddress 1, at 12 s and 0.5 us, answered after 8 us. A command word is address, T/R,
