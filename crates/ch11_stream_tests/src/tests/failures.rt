@@ -26,8 +26,8 @@ fn fault_of_verdicts(rt: &impl Abort, alloc: Global, input: Slow<'_>) -> Option<
     judge(alloc, input, rules.as_slice(), &[]).err()
 }
 
-/// Why a reader's file has no figures and no verdicts, is not checked, and is not searched for a selected message or for
-/// times of day.
+/// Why a reader's file has no figures and no verdicts, is not checked, and is not searched for a selected message or
+/// for times of day.
 fn faults_of(rt: &impl Abort, alloc: Global, input: Slow<'_>) -> [Option<StreamFault>; 5] {
     [
         counted(alloc, input).err(),
