@@ -1,7 +1,8 @@
 -- The run of a job with lines by time and by command, at its beginning, and the job at its end.
-use Rattle.std.proofs.Common.{◌≡◌, ℕ, zero, suc, ◌+◌, ◌-◌, ◌≤◌, true, false, List, [], ◌∷◌, length, map, refl, sym, ap, subst, ◌∙◌, arith, inl, inr, ◌⊎◌}
+use Rattle.std.proofs.Common.{◌≡◌, ℕ, zero, suc, ◌+◌, ◌≤◌, true, false, List, [], length, refl, sym, ap, subst, ◌∙◌, arith, inl, inr, ◌⊎◌}
 use Rattle.std.specs.Prelude.{Bool, cond, max}
 use Rattle.std.specs.List.{list_all}
+use Rattle.std.proofs.lemmas.List.{length-map}
 use Rattle.mil_line.specs.Plans.{Planned}
 use Rattle.mil_line.specs.Ranges.{is_in_range}
 use Rattle.frame_tree.specs.Bounds.{IsSound}
@@ -11,13 +12,12 @@ use Rattle.bc_machine.specs.Posting.{with_room}
 use Rattle.bc_machine.specs.UnderWay.{IsUnderWay}
 use Rattle.job_moments.specs.declared.met.Met.{Met}
 use Rattle.job_moments.specs.Planning.{PlannedFault, PlanState}
-use Rattle.job_moments.specs.Waits.{Waits}
 use Rattle.job_file.specs.declared.timed.TimedAction.{TimedAction}
 use Rattle.job_file.specs.declared.resolving.Run.{Run}
 use Rattle.job_file.specs.ChannelJobs.{ChannelJob}
 use Rattle.job_file.specs.JobRanges.{may_act, IsFitTimed}
 use Rattle.job_file.specs.Jobs.{JobState, own_inserts, job_in}
-use Rattle.job_file.specs.Resolving.{standing, IsAtEnd, IsKept, IsWithin, IsPlannedUpTo, MayPlan}
+use Rattle.job_file.specs.Resolving.{standing, when_of, IsAtEnd, IsKept, IsWithin, IsPlannedUpTo, MayPlan}
 use Rattle.job_file.specs.Timed.{Standing, made_of, at_beginning, found_in, planned_in, run_out, resolved, says_nothing, arranged, faulted, turned, turned_times, most_turns}
 use Rattle.job_file.specs.Machines.{AllRecords, IsOf}
 use Rattle.job_file.specs.Meaning.{bus_of, records, records_in}
@@ -37,19 +37,18 @@ abbrev the_plan : List PlannedFault → List Met → PlanState
 the_plan faults made = record { faults = faults; made = made }
 
 pub kept_at_start : (r : Run) (base : ChannelJob) (timed : Timed) → standing r ≡ at_beginning base timed → IsUnderWay r.machine
-    → r.moments ≡ record { left = map (λ (w : TimedAction). w.moment) r.whens.items; made = [] } → r.faults ≡ record { faults = found_in timed; made = [] } → r.origin ≡ base.start
+    → r.whens.made ≡ [] → r.faults ≡ record { faults = found_in timed; made = [] } → r.origin ≡ base.start
     → list_all (λ (p : PlannedFault). is_in_range p.fault) timed.faults ≡ true → IsKept r
-kept_at_start r base timed stands way moments faults origin ranges =
+kept_at_start r base timed stands way met faults origin ranges =
     let machine : r.machine ≡ (at_beginning base timed).machine = ap (λ (s : Standing). s.machine) stands in
     let none : made_of r.machine ≡ [] = ap made_of machine in
     let number : r.machine.point.number ≡ 0 = ap (λ (m : MachineState). m.point.number) machine in
     let capacity : r.machine.capacity ≡ max (length base.actions) (length base.actions + length timed.whens) = ap (λ (m : MachineState). m.capacity) machine in
     let placed : length r.machine.placed ≡ length base.actions = ap (λ (m : MachineState). length m.placed) machine in
-    let left : length r.whens.items ≡ length timed.whens = ap (λ (s : Standing). length s.left) stands in
+    let left : length r.whens.left ≡ length timed.whens = sym (length-map r.whens.left when_of) ∙ ap (λ (s : Standing). length s.left) stands in
     record {
       under_way = way;
-      moments = ap (λ (w : Waits). w.left) moments;
-      made = ap (λ (w : Waits). w.made) moments ∙ sym none;
+      made = met ∙ sym none;
       met = ap (λ (p : PlanState). p.made) faults ∙ sym none;
       number = ap length none ∙ sym number;
       origin = ap (λ (m : MachineState). m.begun.start) machine ∙ sym origin;

@@ -1,6 +1,6 @@
 -- What is due in front of a message, and is done there.
-use Rattle.std.proofs.Common.{◌≡◌, ℕ, zero, suc, ◌+◌, ◌-◌, ◌<◌, ◌≤◌, zero-add, add-one, true, false, List, [], ◌∷◌, ◌++◌, length, get_or, map, refl, sym, ap, subst, ◌∙◌, append_assoc, arith}
-use Rattle.std.specs.Prelude.{Bool, Option, Some, None, Result, Ok, Err, ◌&&◌, nat_le, slice_get, OnOk, OnErr}
+use Rattle.std.proofs.Common.{◌≡◌, ℕ, zero, suc, ◌+◌, ◌-◌, ◌≤◌, zero-add, add-one, true, false, List, [], ◌∷◌, ◌++◌, length, refl, sym, ap, subst, ◌∙◌, arith}
+use Rattle.std.specs.Prelude.{Bool, Option, Some, None, ◌&&◌, nat_le, slice_get}
 use Rattle.std.specs.List.{list_all, filter_map, cons_option, position, remove}
 use Rattle.std.proofs.lemmas.Bool.{le-leb}
 use Rattle.std.proofs.lemmas.List.{length-append}
@@ -13,10 +13,7 @@ use Rattle.bc_machine.specs.Hosting.{insertion_of}
 use Rattle.bc_machine.specs.Posting.{with_placed, at_next}
 use Rattle.bc_machine.specs.Running.{MachineState}
 use Rattle.job_moments.specs.declared.met.Met.{Met}
-use Rattle.job_moments.specs.declared.moments.Moment.{Moment}
 use Rattle.job_moments.specs.Moments.{is_due}
-use Rattle.job_moments.specs.Waits.{first_due}
-use Rattle.job_moments.proofs.Lists.{position-map}
 use Rattle.job_file.specs.declared.timed.TimedAction.{TimedAction}
 use Rattle.job_file.specs.JobRanges.{is_for, may_act}
 use Rattle.job_file.specs.Jobs.{own_inserts}
@@ -75,11 +72,6 @@ own_more placed one =
 
 -- ---- which is due
 
--- the moments beside the actions find the same place
-pub place_is : (made : List Met) (next : Met) (left : List Moment) (whens : List TimedAction) → left ≡ map (λ (w : TimedAction). w.moment) whens
-    → first_due made next left ≡ position (λ (w : TimedAction). is_due made next w.moment) whens
-place_is made next left whens e = ap (first_due made next) e ∙ position-map (λ (w : TimedAction). w.moment) (is_due made next) whens
-
 -- where no message comes next
 pub none_comes : (s : Standing) → coming_met s.machine ≡ None → due_now s ≡ None
 none_comes s e = ap (first_due_in s.left (made_of s.machine)) e
@@ -94,11 +86,6 @@ done_none s e = ap (λ o. done_at o s) e
 -- a controller and what is still to come
 abbrev pub stands : List TimedAction → MachineState → Standing
 stands left m = record { left = left; machine = m }
-
-pub there_is : (ws : List TimedAction) (i : ℕ) (w : TimedAction) → i < length ws → w ≡ get_or ws i w → slice_get ws i ≡ Some w
-there_is [] i w lt e = absurd (omega (arith, lt))
-there_is (v ∷ vs) zero w lt e = ap (λ (u : TimedAction). Some u) (sym e)
-there_is (v ∷ vs) (suc i) w lt e = there_is vs i w (omega (arith, lt)) e
 
 -- where one was done
 abbrev pub with_done : Standing → ℕ → TimedAction → Standing

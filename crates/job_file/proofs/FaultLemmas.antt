@@ -1,6 +1,6 @@
 -- Faults that are planned as a controller goes on.
-use Rattle.std.proofs.Common.{◌≡◌, ℕ, zero, suc, ◌+◌, ◌<◌, ◌≤◌, true, false, List, [], ◌∷◌, ◌++◌, length, get_or, map, take, All, refl, sym, ap, subst, ◌∙◌, append_assoc, arith, inl, inr, ◌⊎◌}
-use Rattle.std.specs.Prelude.{Bool, Option, Some, None, ◌&&◌, ◌==◌, nat_le, cond}
+use Rattle.std.proofs.Common.{◌≡◌, ℕ, zero, suc, ◌+◌, ◌<◌, ◌≤◌, true, false, List, [], ◌∷◌, ◌++◌, length, map, take, refl, sym, ap, ◌∙◌, append_assoc, arith, inl, inr, ◌⊎◌}
+use Rattle.std.specs.Prelude.{Bool, Some, None, ◌&&◌, ◌==◌, nat_le, cond}
 use Rattle.std.specs.List.{list_all, filter_map, cons_option}
 use Rattle.std.proofs.lemmas.Bool.{le-leb}
 use Rattle.std.proofs.lemmas.Bool.Decides.{nat_tests}
@@ -13,7 +13,7 @@ use Rattle.bc_machine.specs.Planning.{next_number, with_fault, with_plan}
 use Rattle.bc_machine.specs.Running.{MachineState}
 use Rattle.job_moments.specs.declared.met.Met.{Met}
 use Rattle.job_moments.specs.Planning.{PlannedFault, is_occasion, fault_at, faults_at}
-use Rattle.job_file.specs.Resolving.{IsPlannedUpTo, number_behind}
+use Rattle.job_file.specs.Resolving.{IsPlannedUpTo}
 use Rattle.job_file.specs.Timed.{made_of, coming_met, faults_in, with_faults, faulted}
 
 -- ---- one behind the other

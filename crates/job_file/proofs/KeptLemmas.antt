@@ -1,8 +1,8 @@
 -- What a run of a job with lines by time and by command keeps.
-use Rattle.std.proofs.Common.{◌≡◌, ℕ, ◌+◌, ◌<◌, ◌≤◌, List, [], ◌∷◌, ◌++◌, length, map, refl, sym, ap, subst, ◌∙◌, arith, inl, inr, ◌⊎◌, Vec, Global}
-use Rattle.std.specs.Prelude.{Option, Some, None, Result, Ok, Err, OnOk, OnErr, IfSome, max}
+use Rattle.std.proofs.Common.{◌≡◌, ℕ, ◌+◌, ◌<◌, ◌≤◌, List, [], ◌∷◌, ◌++◌, length, sym, ap, subst, ◌∙◌, arith, inl, inr}
+use Rattle.std.specs.Prelude.{Option, Some, None, Result, Ok, Err, OnOk, OnErr, IfSome}
 use Rattle.std.specs.List.{remove, list_all}
-use Rattle.std.proofs.lemmas.List.{length-append, length-map}
+use Rattle.std.proofs.lemmas.List.{length-append}
 use Rattle.std.proofs.lemmas.List.Edits.{length-remove}
 use Rattle.mil_line.specs.declared.faults.Fault.{Fault}
 use Rattle.mil_line.specs.Ranges.{is_in_range}
@@ -11,19 +11,13 @@ use Rattle.bc_machine.specs.Posting.{with_placed, at_next}
 use Rattle.bc_machine.specs.Running.{MachineState, stepped}
 use Rattle.bc_machine.specs.UnderWay.{IsUnderWay}
 use Rattle.job_moments.specs.declared.met.Met.{Met}
-use Rattle.job_moments.specs.declared.moments.Moment.{Moment}
 use Rattle.job_moments.specs.Planning.{PlannedFault, PlanState}
-use Rattle.job_moments.specs.Waits.{Waits}
+use Rattle.job_moments.specs.Waits.{Awaited, Waits}
 use Rattle.mil_bus.specs.Exchange.{BusState}
-use Rattle.job_moments.proofs.Lists.{map-remove}
-use Rattle.job_file.specs.declared.timed.TimedAction.{TimedAction}
 use Rattle.job_file.specs.declared.resolving.Run.{Run}
 use Rattle.job_file.specs.Resolving.{IsKept, IsPlannedUpTo, MayPlan, HasPlanned, number_behind, made_behind}
 use Rattle.job_file.specs.Timed.{made_of, coming_met, with_faults}
 use Rattle.job_file.proofs.TurnLemmas.{IsBehind, same_stepped}
-
-abbrev moment_of : TimedAction → Moment
-moment_of w = w.moment
 
 -- where there is room for it, an action is placed
 pub placed_is : {X Y : Type 0} (r : Result X Y) (m n : MachineState) (a : HostAction) → OnOk r (n ≡ with_placed m (m.placed ++ at_next m a ∷ []))
@@ -32,19 +26,22 @@ placed_is (Ok x) m n a is full room = is
 placed_is (Err y) m n a is full room = absurd (omega (arith, full, room))
 
 -- where one was done
-pub kept_done : (r n : Run) (place : ℕ) (w : TimedAction) → IsKept r → place < length r.whens.items
-    → n.machine ≡ with_placed r.machine (r.machine.placed ++ at_next r.machine w.action ∷ []) → IsUnderWay n.machine
-    → n.moments ≡ record { left = remove r.moments.left place; made = r.moments.made } → n.whens.items ≡ remove r.whens.items place → n.faults ≡ r.faults → n.origin ≡ r.origin → IsKept n
-kept_done r n place w k within machine way moments whens faults origin =
+pub kept_done : (r n : Run) (place : ℕ) (action : HostAction) → IsKept r → place < length r.whens.left
+    → n.machine ≡ with_placed r.machine (r.machine.placed ++ at_next r.machine action ∷ []) → IsUnderWay n.machine
+    → n.whens.left ≡ remove r.whens.left place → n.whens.made ≡ r.whens.made → n.faults ≡ r.faults
+    → n.origin ≡ r.origin → IsKept n
+kept_done r n place action k within machine way left met faults origin =
     let made : made_of n.machine ≡ made_of r.machine = ap made_of machine in
     let number : n.machine.point.number ≡ r.machine.point.number = ap (λ (m : MachineState). m.point.number) machine in
     let capacity : n.machine.capacity ≡ r.machine.capacity = ap (λ (m : MachineState). m.capacity) machine in
-    let placed : length n.machine.placed ≡ length r.machine.placed + 1 = ap (λ (m : MachineState). length m.placed) machine ∙ length-append r.machine.placed (at_next r.machine w.action ∷ []) in
-    let fewer : length n.whens.items + 1 ≡ length r.whens.items = ap (λ (ws : List TimedAction). length ws + 1) whens ∙ length-remove r.whens.items place within in
+    let placed : length n.machine.placed ≡ length r.machine.placed + 1 =
+    ap (λ (m : MachineState). length m.placed) machine
+    ∙ length-append r.machine.placed (at_next r.machine action ∷ []) in
+    let fewer : length n.whens.left + 1 ≡ length r.whens.left =
+    ap (λ (ls : List (Awaited HostAction)). length ls + 1) left ∙ length-remove r.whens.left place within in
     record {
       under_way = way;
-      moments = ap (λ (v : Waits). v.left) moments ∙ ap (λ (ms : List Moment). remove ms place) k.moments ∙ sym (map-remove moment_of r.whens.items place) ∙ ap (map moment_of) (sym whens);
-      made = ap (λ (v : Waits). v.made) moments ∙ k.made ∙ sym made;
+      made = met ∙ k.made ∙ sym made;
       met = ap (λ (v : PlanState). v.made) faults ∙ k.met ∙ sym made;
       number = ap length made ∙ k.number ∙ sym number;
       origin = ap (λ (m : MachineState). m.begun.start) machine ∙ k.origin ∙ sym origin;
@@ -52,19 +49,33 @@ kept_done r n place w k within machine way moments whens faults origin =
       ranges = ap (λ (v : PlanState). list_all (λ (p : PlannedFault). is_in_range p.fault) v.faults) faults ∙ k.ranges;
     }
 
+-- where none was
+pub kept_left : (r : Run) (w : Waits HostAction) → IsKept r → w.left ≡ r.whens.left → w.made ≡ r.whens.made
+    → IsKept (record r { whens = w })
+kept_left r w k left met =
+    let same : length w.left ≡ length r.whens.left = ap length left in
+    record {
+      under_way = k.under_way;
+      made = met ∙ k.made;
+      met = k.met;
+      number = k.number;
+      origin = k.origin;
+      room = omega (arith, same, k.room);
+      ranges = k.ranges;
+    }
+
 -- where faults were planned
 pub kept_planned : (r n : Run) (due : List Fault) → IsKept r → n.machine ≡ with_faults r.machine due → IsUnderWay n.machine
-    → n.moments ≡ r.moments → n.whens ≡ r.whens → n.faults ≡ r.faults → n.origin ≡ r.origin → IsKept n
-kept_planned r n due k machine way moments whens faults origin =
+    → n.whens ≡ r.whens → n.faults ≡ r.faults → n.origin ≡ r.origin → IsKept n
+kept_planned r n due k machine way whens faults origin =
     let made : made_of n.machine ≡ made_of r.machine = ap made_of machine in
     let number : n.machine.point.number ≡ r.machine.point.number = ap (λ (m : MachineState). m.point.number) machine in
     let capacity : n.machine.capacity ≡ r.machine.capacity = ap (λ (m : MachineState). m.capacity) machine in
     let placed : length n.machine.placed ≡ length r.machine.placed = ap (λ (m : MachineState). length m.placed) machine in
-    let same : length n.whens.items ≡ length r.whens.items = ap (λ (v : Vec TimedAction Global). length v.items) whens in
+    let same : length n.whens.left ≡ length r.whens.left = ap (λ (v : Waits HostAction). length v.left) whens in
     record {
       under_way = way;
-      moments = ap (λ (v : Waits). v.left) moments ∙ k.moments ∙ ap (λ (v : Vec TimedAction Global). map moment_of v.items) (sym whens);
-      made = ap (λ (v : Waits). v.made) moments ∙ k.made ∙ sym made;
+      made = ap (λ (v : Waits HostAction). v.made) whens ∙ k.made ∙ sym made;
       met = ap (λ (v : PlanState). v.made) faults ∙ k.met ∙ sym made;
       number = ap length made ∙ k.number ∙ sym number;
       origin = ap (λ (m : MachineState). m.begun.start) machine ∙ k.origin ∙ sym origin;
@@ -78,17 +89,16 @@ longer (Some met) made number e = length-append made (met ∷ []) ∙ ap (λ n. 
 
 -- behind a step
 pub kept_stepped : (r n : Run) (next : Option Met) → IsKept r → n.machine ≡ stepped r.machine → IsUnderWay n.machine → IsBehind next r.machine n.machine
-    → n.moments ≡ record { left = r.moments.left; made = made_behind next r.moments.made } → n.whens ≡ r.whens
+    → n.whens ≡ record { left = r.whens.left; made = made_behind next r.whens.made }
     → n.faults ≡ record { faults = r.faults.faults; made = made_behind next r.faults.made } → n.origin ≡ r.origin → IsKept n
-kept_stepped r n next k machine way behind moments whens faults origin =
+kept_stepped r n next k machine way behind whens faults origin =
     let same = same_stepped r.machine in
     let capacity : n.machine.capacity ≡ r.machine.capacity = ap (λ (m : MachineState). m.capacity) machine ∙ same.capacity in
     let placed : length n.machine.placed ≡ length r.machine.placed = ap (λ (m : MachineState). length m.placed) machine ∙ ap length same.placed in
-    let left : length n.whens.items ≡ length r.whens.items = ap (λ (v : Vec TimedAction Global). length v.items) whens in
+    let left : length n.whens.left ≡ length r.whens.left = ap (λ (v : Waits HostAction). length v.left) whens in
     record {
       under_way = way;
-      moments = ap (λ (v : Waits). v.left) moments ∙ k.moments ∙ ap (λ (v : Vec TimedAction Global). map moment_of v.items) (sym whens);
-      made = ap (λ (v : Waits). v.made) moments ∙ ap (made_behind next) k.made ∙ sym behind.made;
+      made = ap (λ (v : Waits HostAction). v.made) whens ∙ ap (made_behind next) k.made ∙ sym behind.made;
       met = ap (λ (v : PlanState). v.made) faults ∙ ap (made_behind next) k.met ∙ sym behind.made;
       number = ap length behind.made ∙ longer next (made_of r.machine) r.machine.point.number k.number ∙ sym behind.number;
       origin = ap (λ (m : MachineState). m.begun.start) machine ∙ ap (λ (v : BusState). v.start) same.begun ∙ k.origin ∙ sym origin;

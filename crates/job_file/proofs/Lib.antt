@@ -13,6 +13,7 @@ pub mod TextLemmas
 pub mod FirstFaults
 pub mod Fewness
 pub mod DueLemmas
+pub mod TakenLemmas
 pub mod FaultLemmas
 pub mod TurnLemmas
 pub mod RunLemmas

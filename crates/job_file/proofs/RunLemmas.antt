@@ -1,15 +1,14 @@
 -- The run of a job with lines by time and by command, to its end.
-use Rattle.std.proofs.Common.{◌≡◌, ℕ, zero, suc, ◌+◌, ◌-◌, ◌<◌, ◌≤◌, true, false, List, [], ◌∷◌, ◌++◌, length, map, refl, sym, ap, subst, ◌∙◌, zero-add, arith, inl, inr, ◌⊎◌}
-use Rattle.std.specs.Prelude.{Bool, Option, Some, None, Result, Ok, Err, slice_get, cond, max, IfOk}
+use Rattle.std.proofs.Common.{◌≡◌, ℕ, zero, suc, ◌+◌, ◌-◌, ◌≤◌, List, sym, ap, subst, ◌∙◌, zero-add, arith}
+use Rattle.std.specs.Prelude.{Option, None}
 use Rattle.std.specs.Option.{option_map}
 use Rattle.mil_bus.specs.declared.talks.Talk.{Talk}
-use Rattle.frame_code.specs.Table.{halted}
 use Rattle.bc_machine.specs.NextMessage.{coming_talk, talk_behind, talk_of_operation}
-use Rattle.bc_machine.specs.Running.{MachineState, HasEnded, waiting, stepped, stepped_with, moved_by}
+use Rattle.bc_machine.specs.Running.{MachineState, HasEnded, stepped, stepped_with, moved_by}
 use Rattle.job_moments.specs.Planning.{PlannedFault}
 use Rattle.job_file.specs.ChannelJobs.{ChannelJob}
-use Rattle.job_file.specs.Resolving.{IsAtEnd, turns_left}
-use Rattle.job_file.specs.Timed.{Standing, met_of, made_of, coming_met, due_now, done_times, arranged, faulted, turned, turned_times, found_in, at_beginning, most_turns, run_out}
+use Rattle.job_file.specs.Resolving.{IsAtEnd}
+use Rattle.job_file.specs.Timed.{Standing, met_of, coming_met, arranged, faulted, turned, turned_times, found_in, at_beginning, most_turns, run_out}
 use Rattle.job_file.specs.TimedLines.{Timed}
 use Rattle.job_file.proofs.Fewness.{halt_there}
 use Rattle.job_file.proofs.DueLemmas.{none_comes, all_done, stands}

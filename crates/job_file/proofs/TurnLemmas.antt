@@ -1,8 +1,8 @@
 -- One turn of a run of a job with lines by time and by command.
-use Rattle.std.proofs.Common.{◌≡◌, ◌≢◌, ℕ, zero, suc, ◌+◌, ◌-◌, ◌<◌, ◌≤◌, true, false, List, [], ◌∷◌, ◌++◌, length, map, refl, sym, ap, subst, ◌∙◌, append_assoc, arith, inl, inr, ◌⊎◌}
-use Rattle.std.specs.Prelude.{Option, Some, None, reverse, All, slice_get}
+use Rattle.std.proofs.Common.{◌≡◌, ◌≢◌, ℕ, zero, suc, ◌+◌, ◌<◌, List, [], ◌∷◌, ◌++◌, length, map, refl, sym, ap, subst, ◌∙◌, arith, ◌⊎◌}
+use Rattle.std.specs.Prelude.{Option, Some, None, reverse, slice_get}
 use Rattle.std.specs.Option.{option_map}
-use Rattle.std.proofs.lemmas.List.{map-append, reverse-append, append-nil, length-append}
+use Rattle.std.proofs.lemmas.List.{map-append, reverse-append}
 use Rattle.mil_line.specs.declared.faults.Fault.{Fault}
 use Rattle.mil_line.specs.Plans.{Planned}
 use Rattle.mil_bus.specs.declared.outcomes.Outcome.{Outcome}
@@ -11,25 +11,21 @@ use Rattle.mil_bus.specs.Exchange.{BusState}
 use Rattle.frame_code.specs.Table.{Code, Running, Turn, goes_on, halted, stuck}
 use Rattle.frame_load.specs.Budget.{budget}
 use Rattle.controller_host.specs.Values.{InsertionValue}
-use Rattle.bc_machine.specs.declared.placed.Placed.{Placed}
 use Rattle.bc_machine.specs.declared.Stepped.{Stepped}
 use Rattle.bc_machine.specs.declared.Stepped.TheVariants.{Ran, Sent, Inserted, Halted}
 use Rattle.bc_machine.specs.Controller.{BusRun}
-use Rattle.bc_machine.specs.Coming.{IsStill}
-use Rattle.bc_machine.specs.NextMessage.{coming_talk, in_advance, told_next, Makes, IsMade, NextMessageIsSent, FaultsAreNotTold}
-use Rattle.bc_machine.specs.Planning.{next_number, with_plan}
-use Rattle.bc_machine.specs.Running.{MachineState, HasEnded, moved_by, turn_of, waiting, stepped, stepped_with}
+use Rattle.bc_machine.specs.NextMessage.{coming_talk, in_advance, Makes, NextMessageIsSent, FaultsAreNotTold}
+use Rattle.bc_machine.specs.Running.{MachineState, moved_by, turn_of, waiting, stepped, stepped_with}
 use Rattle.bc_machine.specs.UnderWay.{IsUnderWay, TellsStep}
 use Rattle.job_moments.specs.declared.met.Met.{Met}
-use Rattle.job_moments.specs.Planning.{PlannedFault, faults_at}
+use Rattle.job_moments.specs.Planning.{PlannedFault}
 use Rattle.job_file.specs.declared.timed.TimedAction.{TimedAction}
-use Rattle.job_file.specs.declared.resolving.Run.{Run}
 use Rattle.std.specs.List.{list_all}
 use Rattle.job_file.specs.JobRanges.{is_for, may_act}
 use Rattle.job_file.specs.Jobs.{own_inserts}
 use Rattle.job_file.specs.TimedLines.{timed_inserts}
-use Rattle.job_file.specs.Resolving.{standing, IsWithin, IsPlannedUpTo, number_behind, made_behind, MayPlan, HasPlanned, turns_left}
-use Rattle.job_file.specs.Timed.{Standing, met_of, made_of, coming_met, due_now, done_at, done_times, arranged, faults_in, with_faults, faulted, turned, turned_times, with_action_now}
+use Rattle.job_file.specs.Resolving.{IsWithin, IsPlannedUpTo, number_behind, made_behind, turns_left}
+use Rattle.job_file.specs.Timed.{Standing, met_of, made_of, coming_met, due_now, done_at, done_times, arranged, with_faults, faulted, turned, with_action_now}
 use Rattle.job_file.proofs.DueLemmas.{stands}
 use Rattle.job_file.proofs.Fewness.{few}
 

@@ -9,6 +9,8 @@ use Rattle.bc_machine.specs.Running.{MachineState, HasEnded}
 use Rattle.bc_machine.specs.UnderWay.{IsUnderWay}
 use Rattle.job_moments.specs.declared.met.Met.{Met}
 use Rattle.job_moments.specs.Planning.{PlannedFault}
+use Rattle.job_moments.specs.Waits.{Awaited, Waits}
+use Rattle.bc_machine.specs.declared.placed.HostAction.{HostAction}
 use Rattle.job_file.specs.declared.timed.TimedAction.{TimedAction}
 use Rattle.job_file.specs.declared.resolving.Run.{Run}
 use Rattle.job_file.specs.JobRanges.{is_for, may_act}
@@ -16,19 +18,25 @@ use Rattle.job_file.specs.Jobs.{own_inserts}
 use Rattle.job_file.specs.Timed.{Standing, made_of, coming_met, turned_times}
 use Rattle.job_file.specs.TimedLines.{timed_inserts}
 
+-- an action that is still to come, as the text has it
+abbrev pub when_of : Awaited HostAction → TimedAction
+when_of a = record { moment = a.moment; action = a.payload }
+
+abbrev pub whens_left : Waits HostAction → List TimedAction
+whens_left w = map when_of w.left
+
 -- where it stands
 abbrev pub standing : Run → Standing
-standing r = record { left = r.whens.items; machine = r.machine }
+standing r = record { left = whens_left r.whens; machine = r.machine }
 
--- the moments are those of the actions that are still to come, and there is room for these; all messages were met
+-- there is room for the actions that are still to come; all messages were met
 pub record IsKept (r : Run) : Type 0 where
   pub under_way : IsUnderWay r.machine
-  pub moments : r.moments.left ≡ map (λ (w : TimedAction). w.moment) r.whens.items
-  pub made : r.moments.made ≡ made_of r.machine
+  pub made : r.whens.made ≡ made_of r.machine
   pub met : r.faults.made ≡ made_of r.machine
   pub number : length (made_of r.machine) ≡ r.machine.point.number
   pub origin : r.machine.begun.start ≡ r.origin
-  pub room : length r.machine.placed + length r.whens.items ≤ r.machine.capacity
+  pub room : length r.machine.placed + length r.whens.left ≤ r.machine.capacity
   pub ranges : list_all (λ (p : PlannedFault). is_in_range p.fault) r.faults.faults ≡ true
 
 -- of a job with these terminals: each action is of one of them, and at most so many messages are inserted

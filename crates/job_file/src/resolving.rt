@@ -6,7 +6,7 @@ ghost use Rattle.frame_asm.specs.Shapes.{code_of_tree};
 ghost use Rattle.frame_load.specs.Budget.{worst_messages};
 ghost use Rattle.job_file.specs.JobRanges.{IsFitTimed};
 ghost use Rattle.job_file.specs.Jobs.{own_inserts, tree_in, job_in};
-ghost use Rattle.job_file.specs.Resolving.{standing, turns_left, made_behind, IsKept, IsWithin, IsAtEnd};
+ghost use Rattle.job_file.specs.Resolving.{standing, turns_left, made_behind, whens_left, IsKept, IsWithin, IsAtEnd};
 ghost use Rattle.job_file.specs.Resolving.{MayPlan, HasPlanned};
 ghost use Rattle.job_file.specs.Timed.{at_beginning, arranged, coming_met, done_at, due_now, faulted, found_in};
 ghost use Rattle.job_file.specs.Meaning.{records, records_in};
@@ -23,7 +23,8 @@ use crate::jobs::Job;
 use crate::laws::job_runs;
 use crate::timed::{TimedAction, TimedLines};
 use bc_machine::{
-    Actions, BusSetting, Ended, Machine, Stepped, next_message_is_sent, next_message_stays,
+    Actions, BusSetting, Ended, HostAction, Machine, Stepped, next_message_is_sent,
+    next_message_stays,
 };
 use frame_load::loadable_runs;
 use job_moments::{Met, Occasions, Waiting};
@@ -34,9 +35,8 @@ use std::alloc::{AllocError, Global};
 #[derive(Drop)]
 struct Run {
     machine: Machine,
-    /// When each of the actions that are still to come is due.
-    moments: Waiting,
-    whens: Vec<TimedAction>,
+    /// The actions that are still to come, and when each is due.
+    whens: Waiting<HostAction>,
     faults: Occasions,
     /// The job's start tick.
     origin: u64,
@@ -88,36 +88,6 @@ impl Run {
         }
     }
 
-    /// Places the action of a place at the next number, of those that are still to come.
-    fn do_at(&mut self, place: usize)
-        requires kept { IsKept self.old }
-        requires there { place < length self.old.whens.items }
-        requires few { self.old.machine.point.number < 1000000 }
-        ensures done { standing self.new ≡ done_at (Some place) (standing self.old) }
-        ensures faults { self.new.faults ≡ self.old.faults }
-        ensures kept { IsKept self.new }
-        ensures within { (addresses : List ℕ) (most : ℕ) → IsWithin addresses most (standing self.old)
-            → IsWithin addresses most (standing self.new) }
-    {
-        self.moments.done(place);
-        let when = self.whens.remove(place);
-        // There is room for each of them.
-        let _ = self.machine.place(when.action);
-    }
-
-    /// The place of the first action that is due in front of the next message.
-    fn first_due(&self) -> Option<usize>
-        requires { IsKept self.now }
-        ensures due { result ≡ due_now (standing self.now) }
-        ensures there { IfSome result (λ place. place < length self.now.whens.items) }
-        ensures few { IfSome result (λ _. self.now.machine.point.number < 1000000) }
-    {
-        match self.next() {
-            Some(next) => self.moments.first_due(&next),
-            None => None,
-        }
-    }
-
     /// Places the first action that is due at the next number; whether there was one.
     fn do_first(&mut self) -> bool
         requires { IsKept self.old }
@@ -128,9 +98,13 @@ impl Run {
         ensures within { (addresses : List ℕ) (most : ℕ) → IsWithin addresses most (standing self.old)
             → IsWithin addresses most (standing self.new) }
     {
-        match self.first_due() {
-            Some(place) => {
-                self.do_at(place);
+        let Some(next) = self.next() else {
+            return false;
+        };
+        match self.whens.take_due(&next) {
+            Some(action) => {
+                // There is room for each of them.
+                let _ = self.machine.place(action);
                 true
             }
             None => false,
@@ -177,22 +151,21 @@ impl Run {
 
     /// The message that was sent, if one was, counts for what is still to come.
     fn meet(&mut self, next: Option<Met>)
-        requires moments { IfSome next (λ _. length self.old.moments.made < 1000000) }
+        requires whens { IfSome next (λ _. length self.old.whens.made < 1000000) }
         requires faults { IfSome next (λ _. length self.old.faults.made < 1000000) }
-        ensures moments { self.new.moments ≡ record {
-          left = self.old.moments.left;
-          made = made_behind next self.old.moments.made;
+        ensures whens { self.new.whens ≡ record {
+          left = self.old.whens.left;
+          made = made_behind next self.old.whens.made;
         } }
         ensures faults { self.new.faults ≡ record {
           faults = self.old.faults.faults;
           made = made_behind next self.old.faults.made;
         } }
         ensures machine { self.new.machine ≡ self.old.machine }
-        ensures whens { self.new.whens ≡ self.old.whens }
         ensures origin { self.new.origin ≡ self.old.origin }
     {
         if let Some(met) = next {
-            self.moments.meet(&met);
+            self.whens.meet(&met);
             self.faults.meet(&met);
         }
     }
@@ -202,7 +175,7 @@ impl Run {
         requires kept { IsKept self.old }
         requires planned { HasPlanned self.old }
         ensures stepped { self.new.machine ≡ stepped self.old.machine }
-        ensures whens { self.new.whens ≡ self.old.whens }
+        ensures whens { self.new.whens.left ≡ self.old.whens.left }
         ensures faults { self.new.faults.faults ≡ self.old.faults.faults }
         ensures kept { IsKept self.new }
         ensures planned { MayPlan self.new }
@@ -256,15 +229,16 @@ impl Run {
     }
 }
 
-/// The moments of these actions.
-fn moments_of(alloc: Global, whens: &[TimedAction]) -> Result<Waiting, AllocError>
-    ensures { IfOk result (λ m. m ≡ record { left = map (λ w. w.moment) whens.now; made = [] }) }
+/// These actions as they are still to come, each with its moment. It fails for want of memory alone.
+fn awaiting(alloc: Global, whens: Vec<TimedAction>) -> Result<Waiting<HostAction>, AllocError>
+    ensures whens { IfOk result (λ w. whens_left w ≡ whens.items) }
+    ensures made { IfOk result (λ w. w.made ≡ []) }
 {
-    let mut moments = Waiting::none(alloc);
+    let mut waiting = Waiting::none(alloc);
     for when in whens {
-        moments.push(when.moment)?;
+        waiting.push(when.moment, when.action)?;
     }
-    Ok(moments)
+    Ok(waiting)
 }
 
 /// These actions, and others behind them.
@@ -317,8 +291,7 @@ impl Run {
         machine.room(count)?;
         Ok(Run {
             machine,
-            moments: moments_of(alloc, &whens)?,
-            whens,
+            whens: awaiting(alloc, whens)?,
             faults,
             origin: base.start(),
         })

@@ -1,3 +1,8 @@
+pub mod Chunking
+pub mod Counters
 pub mod Lists
-pub mod Lines
-pub mod Rules
+pub mod Planned
+pub mod Selectors
+pub mod Sleeping
+pub mod Taking
+pub mod Turning

@@ -1,27 +1,21 @@
 -- When planned faults are due (own choice): by number, at the first message that starts at a time or later, by place
 -- among the messages that a selector is about, or at each of these in a time. Of those that are due at one message the
 -- first four of the text count.
-use Rattle.std.specs.Prelude.{◌≡◌, ℕ, ◌+◌, ◌-◌, ◌%◌, ◌==◌, ◌&&◌, ◌≤◌, ◌<◌, ⊤, nat_le, Bool, not, if◌then◌else◌}
-use Rattle.std.specs.Prelude.{List, All, length, take, map, Option, Some, None}
+use Rattle.std.specs.Prelude.{◌≡◌, ℕ, ◌+◌, ◌-◌, ◌%◌, ◌==◌, ◌&&◌, ◌≤◌, ◌<◌, ⊤, nat_le, Bool, false, not, if◌then◌else◌}
+use Rattle.std.specs.Prelude.{List, length, take, Option, Some, None}
+use Rattle.judge_rules.specs.declared.rules.Selector.{Selector}
 use Rattle.std.specs.List.{filter_map, list_any}
 use Rattle.mil_line.specs.declared.faults.Fault.{Fault}
 use Rattle.job_moments.specs.declared.met.Met.{Met}
 use Rattle.job_moments.specs.declared.moments.Moment.TheVariants.{Time, Nth}
 use Rattle.job_moments.specs.declared.occasions.Occasion.{Occasion}
 use Rattle.job_moments.specs.declared.occasions.Occasion.TheVariants.{Numbers, Once, Places, Window}
-use Rattle.job_moments.specs.declared.occasions.Tally.{Tally}
 use Rattle.job_moments.specs.declared.occasions.Turns.{Turns}
-use Rattle.job_moments.specs.declared.planning.Rule.{Rule}
-use Rattle.job_moments.specs.declared.planning.Occasions.TheInside.{Inside}
-use Rattle.job_moments.specs.Moments.{is_about, count_of, is_due}
+use Rattle.job_moments.specs.Moments.{counted_for, is_about, count_of, is_due, starts_by}
 
 -- FIRST, FIRST + STEP and so on, up to LAST
 abbrev pub is_turn : Turns → ℕ → Bool
 is_turn t place = nat_le t.first place && nat_le place t.last && (place - t.first) % t.step == 0
-
--- whether a message starts at a time or later
-abbrev pub starts_by : ℕ → Met → Bool
-starts_by ticks m = nat_le ticks m.start
 
 -- at the message that comes next, behind these
 abbrev pub is_occasion : List Met → Met → Occasion → Bool
@@ -48,15 +42,6 @@ fault_at made next p = if is_occasion made next p.occasion then Some p.fault els
 abbrev pub faults_at : List Met → Met → List PlannedFault → List Fault
 faults_at made next faults = take 4 (filter_map (fault_at made next) faults)
 
-abbrev pub planned_of : Rule → PlannedFault
-planned_of r = record { occasion = r.occasion; fault = r.fault }
-
-abbrev pub plans_of : List Rule → List PlannedFault
-plans_of rules = map planned_of rules
-
-abbrev pub plan_in : Inside → PlanState
-plan_in p = record { faults = plans_of p.rules.items; made = p.made }
-
 -- turns are some places apart
 abbrev pub AreApart : Turns → Type 0
 AreApart t = 1 ≤ t.step
@@ -67,24 +52,14 @@ MayStand (Once moment) = ⊤
 MayStand (Places selector turns) = AreApart turns
 MayStand (Window selector from to) = ⊤
 
--- what was counted of the messages made: how many they are, or of those that the selector is about; for a time whether
--- it was met
-abbrev pub CountsFor : List Met → Occasion → Tally → Type 0
-CountsFor made (Numbers turns) t = t.count ≡ length made
-CountsFor made (Once (Time ticks)) t = (t.count ≡ 0) × (t.is_over ≡ list_any (starts_by ticks) made)
-CountsFor made (Once (Nth selector place)) t = t.count ≡ count_of selector made
-CountsFor made (Places selector turns) t = t.count ≡ count_of selector made
-CountsFor made (Window selector from to) t = t.count ≡ 0
+-- which messages count for an occasion, if any do
+abbrev pub counted_of : Occasion → Option Selector
+counted_of (Numbers turns) = None
+counted_of (Once moment) = counted_for moment
+counted_of (Places selector turns) = Some selector
+counted_of (Window selector from to) = None
 
--- a rule has counted the messages made
-pub record KnowsOf (made : List Met) (r : Rule) : Type 0 where
-  pub counts : CountsFor made r.occasion r.tally
-  pub stands : MayStand r.occasion
-
--- it may count one message more
-pub record MayMeet (r : Rule) : Type 0 where
-  pub few : r.tally.count < 1000000
-  pub stands : MayStand r.occasion
-
-abbrev pub AllKnow : Inside → Type 0
-AllKnow p = All (KnowsOf p.made) p.rules.items
+-- a place at or behind another, in front of which no turn comes; None where none comes any more
+abbrev pub IsNextTurn : Turns → ℕ → Option ℕ → Type 0
+IsNextTurn t place None = (k : ℕ) → place ≤ k → is_turn t k ≡ false
+IsNextTurn t place (Some next) = (place ≤ next) × ((k : ℕ) → place ≤ k → k < next → is_turn t k ≡ false)

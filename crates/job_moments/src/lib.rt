@@ -5,10 +5,13 @@
 //! wrong bodies: `edits/`.
 #![tactic(auto)]
 
+mod chunks;
+mod counts;
 mod met;
 mod moments;
 mod occasions;
 mod planning;
+mod quiet;
 mod waiting;
 
 pub use met::Met;

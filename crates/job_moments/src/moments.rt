@@ -1,8 +1,12 @@
 //! A moment by time or by command.
-ghost use Rattle.job_moments.specs.Moments.{is_about, is_due, before};
-ghost use Rattle.std.specs.Prelude.{◌≡◌, List, length, ◌<◌, ◌+◌, ◌++◌, ◌∷◌, []};
+ghost use Rattle.job_moments.specs.Counting.{HasCounter};
+ghost use Rattle.job_moments.specs.Moments.{counted_for, is_due};
+ghost use Rattle.job_moments.specs.Quiet.{IsPart, Sleeps};
+ghost use Rattle.std.specs.Prelude.{◌≡◌, ◌<◌, ◌≤◌, length};
 
+use crate::counts::Counts;
 use crate::met::Met;
+use crate::quiet::Quiet;
 use judge_rules::Selector;
 
 /// When something is due.
@@ -17,29 +21,45 @@ pub enum Moment {
 }
 
 impl Moment {
-    /// Whether it is due in front of a message, where so many that its selector is about were made before.
-    pub(crate) fn is_due(self, count: u32, next: &Met) -> bool
-        requires { count < 1000000 }
-        ensures { (made : List Met) → count ≡ before made self → result ≡ is_due made next.now self }
+    /// The selector whose messages count for it, if any do.
+    pub(crate) fn selector(self) -> Option<Selector>
+        ensures { result ≡ counted_for self }
     {
         match self {
-            Moment::Time(ticks) => ticks <= next.start,
-            Moment::Nth { selector, place } => next.is_of(selector) && count + 1 == place,
+            Moment::Time(_) => None,
+            Moment::Nth { selector, .. } => Some(selector),
         }
     }
 
-    /// How many of the messages made its selector is about, with one message more.
-    pub(crate) fn counted(self, count: u32, met: &Met) -> u32
-        requires { count < 1000000 }
-        ensures { (made : List Met) → count ≡ before made self → result ≡ before (made ++ met.now ∷ []) self }
+    /// Whether it is due in front of a message, where its counter has a place.
+    pub(crate) fn is_due(self, counter: usize, counts: &Counts, next: &Met) -> bool
+        requires few { length counts.now.made < 1000000 }
+        requires counter { HasCounter counts.now.selectors counter (counted_for self) }
+        ensures { result ≡ is_due counts.now.made next.now self }
     {
         match self {
-            Moment::Time(_) => count,
-            Moment::Nth { selector, .. } => {
-                if met.is_of(selector) {
-                    count + 1
+            Moment::Time(ticks) => ticks <= next.start,
+            Moment::Nth { selector, place } => {
+                next.is_of(selector) && counts.count(counter) + 1 == place
+            }
+        }
+    }
+
+    /// Those of some messages in front of which it can't be due, where its counter has a place.
+    pub(crate) fn narrowed(self, quiet: Quiet, counter: usize, counts: &Counts) -> Quiet
+        requires few { length counts.now.made ≤ 1000000 }
+        requires counter { HasCounter counts.now.selectors counter (counted_for self) }
+        ensures part { IsPart result quiet }
+        ensures sleeps { Sleeps result counts.now.made (λ made next. is_due made next self) }
+    {
+        match self {
+            Moment::Time(ticks) => quiet.starting_before(ticks),
+            Moment::Nth { place, .. } => {
+                let count = counts.count(counter);
+                if place <= count {
+                    quiet
                 } else {
-                    count
+                    quiet.before_place(place, count, counts.number())
                 }
             }
         }

@@ -1,9 +1,13 @@
 //! When a planned fault is due.
-ghost use Rattle.job_moments.specs.Planning.{is_turn, is_occasion, AreApart, MayStand, CountsFor};
-ghost use Rattle.std.specs.Prelude.{◌≡◌, ◌<◌, ◌+◌, ◌++◌, ◌∷◌, [], List, false};
+ghost use Rattle.job_moments.specs.Counting.{HasCounter};
+ghost use Rattle.job_moments.specs.Planning.{counted_of, is_turn, is_occasion, AreApart, IsNextTurn, MayStand};
+ghost use Rattle.job_moments.specs.Quiet.{IsPart, Sleeps};
+ghost use Rattle.std.specs.Prelude.{◌≡◌, ◌+◌, ◌<◌, ◌≤◌, ℕ, false, length};
 
+use crate::counts::Counts;
 use crate::met::Met;
 use crate::moments::Moment;
+use crate::quiet::Quiet;
 use judge_rules::Selector;
 
 /// Places from `first` to `last`, both 1 to 1,000,000, of which each is `step` (1 to 1,000,000) behind the one before.
@@ -21,6 +25,38 @@ impl Turns {
         ensures { result ≡ is_turn self place }
     {
         self.first <= place && place <= self.last && (place - self.first) % self.step == 0
+    }
+
+    /// A place at or behind another, in front of which none of them comes; None where none of them comes any more.
+    pub(crate) fn next(self, place: u32) -> Option<u32>
+        requires { AreApart self }
+        ensures { IsNextTurn self place result }
+    {
+        if place <= self.first {
+            return Some(self.first);
+        }
+        if self.last < place {
+            return None;
+        }
+        match (place - self.first) % self.step {
+            0 => Some(place),
+            over => Some(place.saturating_add(self.step - over)),
+        }
+    }
+}
+
+/// Those of some messages at which none of these places can have come, where so many of those that count were made, and
+/// so many messages in all.
+fn before_turn(quiet: Quiet, turns: Turns, count: u32, number: u32) -> Quiet
+    requires few { count ≤ 1000000 }
+    requires apart { AreApart turns }
+    ensures part { IsPart result quiet }
+    ensures turns { (place : ℕ) → count < place → place + number < result.wake + count + 1
+        → is_turn turns place ≡ false }
+{
+    match turns.next(count + 1) {
+        Some(place) => quiet.before_place(place, count, number),
+        None => quiet,
     }
 }
 
@@ -46,54 +82,33 @@ pub enum Occasion {
     },
 }
 
-/// What was counted of the messages made.
-#[derive(Clone, Copy)]
-pub(crate) struct Tally {
-    /// How many there were, or of those that a selector is about.
-    count: u32,
-    /// Whether a time was met.
-    is_over: bool,
-}
-
-impl Tally {
-    /// Before any message.
-    pub(crate) fn none() -> Tally
-        ensures count { result.count ≡ 0 }
-        ensures is_over { result.is_over ≡ false }
-    {
-        Tally {
-            count: 0,
-            is_over: false,
-        }
-    }
-
-    /// With one message more.
-    fn more(self) -> Tally
-        requires { self.count < 1000000 }
-        ensures { result.count ≡ self.count + 1 }
-    {
-        Tally {
-            count: self.count + 1,
-            is_over: self.is_over,
-        }
-    }
-}
-
 impl Occasion {
-    /// Whether the message that comes next, behind those that were counted, is one of them.
-    pub(crate) fn is_next(self, tally: Tally, next: &Met) -> bool
-        requires few { tally.count < 1000000 }
-        requires stands { MayStand self }
-        ensures { (made : List Met) → CountsFor made self tally → result ≡ is_occasion made next.now self }
+    /// The selector whose messages count for it, if any do.
+    pub(crate) fn selector(self) -> Option<Selector>
+        ensures { result ≡ counted_of self }
     {
         match self {
-            Occasion::Numbers(turns) => turns.has(tally.count + 1),
-            Occasion::Once(Moment::Time(ticks)) => ticks <= next.start && !tally.is_over,
+            Occasion::Once(moment) => moment.selector(),
+            Occasion::Places { selector, .. } => Some(selector),
+            Occasion::Numbers(_) | Occasion::Window { .. } => None,
+        }
+    }
+
+    /// Whether the message that comes next is one of them, where its counter has a place.
+    pub(crate) fn is_next(self, counter: usize, counts: &Counts, next: &Met) -> bool
+        requires few { length counts.now.made < 1000000 }
+        requires stands { MayStand self }
+        requires counter { HasCounter counts.now.selectors counter (counted_of self) }
+        ensures { result ≡ is_occasion counts.now.made next.now self }
+    {
+        match self {
+            Occasion::Numbers(turns) => turns.has(counts.number() + 1),
+            Occasion::Once(Moment::Time(ticks)) => ticks <= next.start && !counts.has_met(ticks),
             Occasion::Once(Moment::Nth { selector, place }) => {
-                next.is_of(selector) && tally.count + 1 == place
+                next.is_of(selector) && counts.count(counter) + 1 == place
             }
             Occasion::Places { selector, turns } => {
-                next.is_of(selector) && turns.has(tally.count + 1)
+                next.is_of(selector) && turns.has(counts.count(counter) + 1)
             }
             Occasion::Window { selector, from, to } => {
                 next.is_of(selector) && from <= next.start && next.start <= to
@@ -101,25 +116,37 @@ impl Occasion {
         }
     }
 
-    /// What was counted, with one message more.
-    pub(crate) fn counted(self, tally: Tally, met: &Met) -> Tally
-        requires { tally.count < 1000000 }
-        ensures { (made : List Met) → CountsFor made self tally → CountsFor (made ++ met.now ∷ []) self result }
+    /// Those of some messages in front of which none of them comes, where its counter has a place. Of a window those
+    /// behind it, where a start, that of the last message, lies behind it.
+    pub(crate) fn narrowed(self, quiet: Quiet, counter: usize, counts: &Counts, start: u64) -> Quiet
+        requires few { length counts.now.made ≤ 1000000 }
+        requires stands { MayStand self }
+        requires counter { HasCounter counts.now.selectors counter (counted_of self) }
+        ensures part { IsPart result quiet }
+        ensures sleeps { Sleeps result counts.now.made (λ made next. is_occasion made next self) }
     {
         match self {
-            Occasion::Numbers(_) => tally.more(),
-            Occasion::Once(Moment::Time(ticks)) => Tally {
-                count: tally.count,
-                is_over: tally.is_over || ticks <= met.start,
-            },
-            Occasion::Once(Moment::Nth { selector, .. }) | Occasion::Places { selector, .. } => {
-                if met.is_of(selector) {
-                    tally.more()
+            Occasion::Numbers(turns) => before_turn(quiet, turns, counts.number(), counts.number()),
+            Occasion::Once(Moment::Time(ticks)) => {
+                if counts.has_met(ticks) {
+                    quiet
                 } else {
-                    tally
+                    quiet.starting_before(ticks)
                 }
             }
-            Occasion::Window { .. } => tally,
+            Occasion::Once(Moment::Nth { selector, place }) => {
+                Moment::Nth { selector, place }.narrowed(quiet, counter, counts)
+            }
+            Occasion::Places { turns, .. } => {
+                before_turn(quiet, turns, counts.count(counter), counts.number())
+            }
+            Occasion::Window { from, to, .. } => {
+                if to < start {
+                    quiet.starting_from(to + 1)
+                } else {
+                    quiet.starting_before(from)
+                }
+            }
         }
     }
 }

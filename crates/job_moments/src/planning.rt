@@ -1,94 +1,164 @@
 //! Which planned faults are due at a message.
-ghost use Rattle.job_moments.specs.Planning.{PlannedFault, faults_at, is_occasion, planned_of, plans_of};
-ghost use Rattle.job_moments.specs.Planning.{KnowsOf, MayMeet, MayStand};
-ghost use Rattle.std.specs.Prelude.{◌≡◌, ◌<◌, ◌++◌, ◌∷◌, [], All, List, length, OnOk, OnErr};
+ghost use Rattle.job_moments.specs.Chunks.{lines_in, lines_of};
+ghost use Rattle.job_moments.specs.Planning.{faults_at, is_occasion, MayStand, PlannedFault};
+ghost use Rattle.job_moments.specs.Quiet.{IsPart, Sleeps};
+ghost use Rattle.job_moments.specs.Rules.{occasion_of, planned_of, plans_of, HasItsCounter, KnowsChunk};
+ghost use Rattle.std.specs.Prelude.{◌≡◌, ◌<◌, ◌≤◌, ◌++◌, ◌∷◌, [], All, List, length, OnOk, OnErr};
 
+use crate::chunks::{Chunk, put};
+use crate::counts::Counts;
 use crate::met::Met;
-use crate::occasions::{Occasion, Tally};
+use crate::occasions::Occasion;
+use crate::quiet::Quiet;
 use arrayvec::ArrayVec;
-use history::History;
 use mil_line::Fault;
 use std::alloc::{AllocError, Global};
 use std::marker::Model;
 
-/// A planned fault, and what was counted of the messages made.
+/// A planned fault, and the place of the counter of its occasion.
 #[derive(Drop)]
 struct Rule {
     occasion: Occasion,
+    counter: usize,
     fault: Fault,
-    tally: Tally,
 }
 
 impl Rule {
     /// Whether it is due at the message that comes next.
-    fn is_due(&self, next: &Met) -> bool
-        requires { MayMeet self.now }
-        ensures { (made : List Met) → KnowsOf made self.now → result ≡ is_occasion made next.now self.now.occasion }
+    fn is_due(&self, counts: &Counts, next: &Met) -> bool
+        requires few { length counts.now.made < 1000000 }
+        requires counter { HasItsCounter counts.now.selectors self.now }
+        ensures { result ≡ is_occasion counts.now.made next.now self.now.occasion }
     {
-        self.occasion.is_next(self.tally, next)
+        self.occasion.is_next(self.counter, counts, next)
     }
 
-    /// Counts one message more.
-    fn meet(&mut self, met: &Met)
-        requires { MayMeet self.old }
-        ensures planned { planned_of self.new ≡ planned_of self.old }
-        ensures counted { (made : List Met) → KnowsOf made self.old → KnowsOf (made ++ met.now ∷ []) self.new }
+    /// Those of some messages at which it can't be due, behind the last that was made, of which this is the start.
+    fn narrowed(&self, quiet: Quiet, counts: &Counts, start: u64) -> Quiet
+        requires few { length counts.now.made ≤ 1000000 }
+        requires counter { HasItsCounter counts.now.selectors self.now }
+        ensures part { IsPart result quiet }
+        ensures sleeps { Sleeps result counts.now.made (occasion_of self.now) }
     {
-        self.tally = self.occasion.counted(self.tally, met);
-    }
-}
-
-/// Counts one message more in each rule.
-fn count(rules: &mut [Rule], met: &Met)
-    requires { All MayMeet rules.old }
-    ensures plans { plans_of rules.new ≡ plans_of rules.old }
-    ensures known { (made : List Met) → All (KnowsOf made) rules.old → All (KnowsOf (made ++ met.now ∷ [])) rules.new }
-{
-    for rule in rules.iter_mut() {
-        rule.meet(met);
+        self.occasion.narrowed(quiet, self.counter, counts, start)
     }
 }
 
 /// Adds the fault of one rule more, where it is due at the message that comes next and fewer than four are before it.
-fn add(faults: &mut ArrayVec<Fault, 4>, rule: &Rule, next: &Met)
-    requires { MayMeet rule.now }
-    ensures { (made : List Met) (before : List PlannedFault) → KnowsOf made rule.now
-        → faults.old.items ≡ faults_at made next.now before
-        → faults.new.items ≡ faults_at made next.now (before ++ planned_of rule.now ∷ []) }
+fn add(faults: &mut ArrayVec<Fault, 4>, rule: &Rule, counts: &Counts, next: &Met)
+    requires few { length counts.now.made < 1000000 }
+    requires counter { HasItsCounter counts.now.selectors rule.now }
+    ensures { (before : List PlannedFault) → faults.old.items ≡ faults_at counts.now.made next.now before
+        → faults.new.items ≡ faults_at counts.now.made next.now (before ++ planned_of rule.now ∷ []) }
 {
-    if !faults.is_full() && rule.is_due(next) {
+    if !faults.is_full() && rule.is_due(counts, next) {
         faults.push(rule.fault);
     }
 }
 
+/// Adds the faults of these rules that are due at the message that comes next, as long as fewer than four are there.
+fn add_all(faults: &mut ArrayVec<Fault, 4>, rules: &[Rule], counts: &Counts, next: &Met)
+    requires few { length counts.now.made < 1000000 }
+    requires counters { All (HasItsCounter counts.now.selectors) rules.now }
+    ensures { (before : List PlannedFault) → faults.old.items ≡ faults_at counts.now.made next.now before
+        → faults.new.items ≡ faults_at counts.now.made next.now (before ++ plans_of rules.now) }
+{
+    for rule in rules {
+        add(faults, rule, counts, next);
+    }
+}
+
+/// Adds the faults of a chunk that are due at the message that comes next, as long as fewer than four are there.
+fn add_chunk(
+    faults: &mut ArrayVec<Fault, 4>,
+    chunk: &Chunk<Rule>,
+    counts: &Counts,
+    next: &Met,
+)
+    requires few { length counts.now.made < 1000000 }
+    requires known { KnowsChunk counts.now chunk.now }
+    ensures { (before : List PlannedFault) → faults.old.items ≡ faults_at counts.now.made next.now before
+        → faults.new.items ≡ faults_at counts.now.made next.now (before ++ plans_of (lines_in chunk.now)) }
+{
+    if !chunk.quiet.has(counts.number(), next) {
+        add_all(faults, &chunk.lines, counts, next);
+    }
+}
+
 /// The faults of the first four rules that are due at the message that comes next.
-fn due(rules: &[Rule], next: &Met) -> ArrayVec<Fault, 4>
-    requires { All MayMeet rules.now }
-    ensures { (made : List Met) → All (KnowsOf made) rules.now
-        → result.items ≡ faults_at made next.now (plans_of rules.now) }
+fn due(chunks: &[Chunk<Rule>], counts: &Counts, next: &Met) -> ArrayVec<Fault, 4>
+    requires few { length counts.now.made < 1000000 }
+    requires known { All (KnowsChunk counts.now) chunks.now }
+    ensures { result.items ≡ faults_at counts.now.made next.now (plans_of (lines_of chunks.now)) }
 {
     let mut faults = ArrayVec::new();
-    for rule in rules.iter() {
-        add(&mut faults, rule, next);
+    for chunk in chunks {
+        add_chunk(&mut faults, chunk, counts, next);
     }
     faults
 }
 
-/// The planned faults of a job, in the order of its text, and the messages that were made.
+/// Messages at which none of these rules is due, behind the last that was made, of which this is the start.
+fn quiet_of(rules: &[Rule], counts: &Counts, start: u64) -> Quiet
+    requires few { length counts.now.made ≤ 1000000 }
+    requires counters { All (HasItsCounter counts.now.selectors) rules.now }
+    ensures { All (λ rule. Sleeps result counts.now.made (occasion_of rule)) rules.now }
+{
+    let mut quiet = Quiet::all();
+    for rule in rules {
+        quiet = rule.narrowed(quiet, counts, start);
+    }
+    quiet
+}
+
+/// Behind one message more a chunk learns at which messages none of its rules will be due, where it doesn't know it of
+/// those that are like the last.
+fn learn(chunk: &mut Chunk<Rule>, counts: &Counts, last: &Met)
+    requires few { length counts.now.made ≤ 1000000 }
+    requires known { KnowsChunk counts.now chunk.old }
+    ensures lines { lines_in chunk.new ≡ lines_in chunk.old }
+    ensures known { KnowsChunk counts.now chunk.new }
+{
+    if !chunk.quiet.has(counts.number(), last) {
+        chunk.quiet = quiet_of(&chunk.lines, counts, last.start);
+    }
+}
+
+/// Behind one message more each of these chunks learns at which messages none of its rules will be due.
+fn learn_all(chunks: &mut [Chunk<Rule>], counts: &Counts, last: &Met)
+    requires few { length counts.now.made ≤ 1000000 }
+    requires known { All (KnowsChunk counts.now) chunks.old }
+    ensures lines { lines_of chunks.new ≡ lines_of chunks.old }
+    ensures known { All (KnowsChunk counts.now) chunks.new }
+{
+    for chunk in chunks.iter_mut() {
+        learn(chunk, counts, last);
+    }
+}
+
+/// The planned faults of a job, in the order of its text, and the messages that were made. The rules stand in chunks of
+/// at most 64, of which each knows at which messages none of its rules is due: so a message costs as much as there are
+/// chunks, and selectors that are counted.
 #[derive(Drop)]
 pub struct Occasions {
-    rules: Vec<Rule>,
-    made: History<Met>,
+    chunks: Vec<Chunk<Rule>>,
+    /// How many rules they have.
+    number: usize,
+    counts: Counts,
+    alloc: Global,
 }
 
 impl Model for Occasions {
-    ghost use Rattle.job_moments.specs.Planning.{PlanState, plan_in, AllKnow};
+    ghost use Rattle.job_moments.specs.Planning.{PlanState};
 
     ghost Value = { PlanState };
 
-    ghost view = { plan_in };
+    ghost use Rattle.job_moments.specs.Chunks.{lines_of};
+    ghost use Rattle.job_moments.specs.Rules.{plans_of, AllKnow};
 
-    ghost invariant = { AllKnow };
+    ghost view = { λ p. record { faults = plans_of (lines_of p.chunks.items); made = p.counts.made } };
+
+    ghost invariant = { λ p. AllKnow p.chunks.items p.counts p.number };
 }
 
 impl Occasions {
@@ -97,8 +167,10 @@ impl Occasions {
         ensures { result ≡ record { faults = []; made = [] } }
     {
         Occasions {
-            rules: Vec::new(alloc),
-            made: History::none(),
+            chunks: Vec::new(alloc),
+            number: 0,
+            counts: Counts::none(alloc),
+            alloc,
         }
     }
 
@@ -113,22 +185,26 @@ impl Occasions {
         }) }
         ensures same { OnErr result (self.new ≡ self.old) }
     {
+        // So many as a `usize` counts have no room in memory.
+        let Some(number) = self.number.checked_add(1) else {
+            return Err(AllocError);
+        };
+        let counter = self.counts.counter_of(occasion.selector())?;
         let rule = Rule {
             occasion,
+            counter,
             fault,
-            tally: Tally::none(),
         };
-        match self.rules.push(rule) {
-            Ok(()) => Ok(()),
-            Err(_) => Err(AllocError),
-        }
+        put(&mut self.chunks, rule, self.alloc)?;
+        self.number = number;
+        Ok(())
     }
 
     /// How many planned faults there are.
     pub fn len(&self) -> usize
         ensures { result ≡ length self.now.faults }
     {
-        self.rules.len()
+        self.number
     }
 
     /// The faults of a message: the first four, in the order of the text, of those that are due at it.
@@ -136,7 +212,7 @@ impl Occasions {
         requires { length self.now.made < 1000000 }
         ensures { result.items ≡ faults_at self.now.made next.now self.now.faults }
     {
-        due(&self.rules, next)
+        due(&self.chunks, &self.counts, next)
     }
 
     /// One message more was made.
@@ -144,7 +220,7 @@ impl Occasions {
         requires { length self.old.made < 1000000 }
         ensures { self.new ≡ record { faults = self.old.faults; made = self.old.made ++ met.now ∷ [] } }
     {
-        count(&mut self.rules, met);
-        self.made = self.made.put_behind(met);
+        self.counts.meet(met);
+        learn_all(&mut self.chunks, &self.counts, met);
     }
 }

@@ -1,113 +1,193 @@
 //! Moments that are still to come.
-ghost use Rattle.job_moments.specs.Waits.{first_due, moments_of, HasCounted, MayCount};
-ghost use Rattle.std.specs.Prelude.{◌≡◌, ◌<◌, ◌++◌, ◌∷◌, [], All, List, length, remove, OnOk, OnErr, IfSome};
+ghost use Rattle.job_moments.specs.Awaiting.{due_of, HasItsCounter, IsFirst, KnowsChunk, Picks};
+ghost use Rattle.job_moments.specs.Chunks.{lines_in, lines_of};
+ghost use Rattle.job_moments.specs.Moments.{is_due};
+ghost use Rattle.job_moments.specs.Quiet.{IsPart, Sleeps};
+ghost use Rattle.job_moments.specs.Waits.{Taken};
+ghost use Rattle.std.specs.Prelude.{◌≡◌, ◌<◌, ◌≤◌, ◌++◌, ◌∷◌, [], All, length, OnOk, OnErr};
 
+use crate::chunks::{Chunk, put};
+use crate::counts::Counts;
 use crate::met::Met;
 use crate::moments::Moment;
-use history::History;
+use crate::quiet::Quiet;
 use std::alloc::{AllocError, Global};
 use std::marker::Model;
 
-/// A moment, and how many of the messages made count for it.
+/// A moment with the place of its counter, and what is due at it.
 #[derive(Drop)]
-struct Line {
+struct Line<T: Drop> {
     moment: Moment,
-    count: u32,
+    counter: usize,
+    payload: T,
 }
 
-impl Line {
-    /// Counts one message more.
-    fn meet(&mut self, met: &Met)
-        requires { self.old.count < 1000000 }
-        ensures moment { self.new.moment ≡ self.old.moment }
-        ensures counted { (made : List Met) → HasCounted made self.old → HasCounted (made ++ met.now ∷ []) self.new }
+impl<T: Drop> Line<T> {
+    /// Whether it is due in front of a message.
+    fn is_due(&self, counts: &Counts, next: &Met) -> bool
+        requires few { length counts.now.made < 1000000 }
+        requires counter { HasItsCounter counts.now.selectors self.now }
+        ensures { result ≡ is_due counts.now.made next.now self.now.moment }
     {
-        self.count = self.moment.counted(self.count, met);
+        self.moment.is_due(self.counter, counts, next)
     }
-}
 
-/// Counts one message more in each line.
-fn count(lines: &mut [Line], met: &Met)
-    requires { All MayCount lines.old }
-    ensures moments { moments_of lines.new ≡ moments_of lines.old }
-    ensures counted { (made : List Met) → All (HasCounted made) lines.old
-        → All (HasCounted (made ++ met.now ∷ [])) lines.new }
-{
-    for line in lines.iter_mut() {
-        line.meet(met);
+    /// Those of some messages in front of which it can't be due.
+    fn narrowed(&self, quiet: Quiet, counts: &Counts) -> Quiet
+        requires few { length counts.now.made ≤ 1000000 }
+        requires counter { HasItsCounter counts.now.selectors self.now }
+        ensures part { IsPart result quiet }
+        ensures sleeps { Sleeps result counts.now.made (due_of self.now) }
+    {
+        self.moment.narrowed(quiet, self.counter, counts)
     }
 }
 
 /// The place of the first line that is due in front of a message.
-fn first_of(lines: &[Line], next: &Met) -> Option<usize>
-    requires { All MayCount lines.now }
-    ensures { (made : List Met) → All (HasCounted made) lines.now
-        → result ≡ first_due made next.now (moments_of lines.now) }
+fn first_of<T: Drop>(lines: &[Line<T>], counts: &Counts, next: &Met) -> Option<usize>
+    requires few { length counts.now.made < 1000000 }
+    requires counters { All (HasItsCounter counts.now.selectors) lines.now }
+    ensures { IsFirst counts.now.made next.now lines.now result }
 {
     for (place, line) in lines.iter().enumerate() {
-        if line.moment.is_due(line.count, next) {
+        if line.is_due(counts, next) {
             return Some(place);
         }
     }
     None
 }
 
-/// Moments that are still to come, in the order of the text, and the messages that were made.
+/// Messages in front of which none of these lines is due.
+fn quiet_of<T: Drop>(lines: &[Line<T>], counts: &Counts) -> Quiet
+    requires few { length counts.now.made ≤ 1000000 }
+    requires counters { All (HasItsCounter counts.now.selectors) lines.now }
+    ensures { All (λ line. Sleeps result counts.now.made (due_of line)) lines.now }
+{
+    let mut quiet = Quiet::all();
+    for line in lines {
+        quiet = line.narrowed(quiet, counts);
+    }
+    quiet
+}
+
+/// Takes out the first line of a chunk that is due in front of a message, and gives what is due. Where none is, the
+/// chunk learns in front of which messages none will be.
+fn take_one<T: Drop>(chunk: &mut Chunk<Line<T>>, counts: &Counts, next: &Met) -> Option<T>
+    requires few { length counts.now.made < 1000000 }
+    requires known { KnowsChunk counts.now chunk.old }
+    ensures taken { Picks counts.now.made next.now (lines_in chunk.old) (lines_in chunk.new) result }
+    ensures known { KnowsChunk counts.now chunk.new }
+{
+    if chunk.quiet.has(counts.number(), next) {
+        return None;
+    }
+    match first_of(&chunk.lines, counts, next) {
+        Some(place) => Some(chunk.lines.remove(place).payload),
+        None => {
+            chunk.quiet = quiet_of(&chunk.lines, counts);
+            None
+        }
+    }
+}
+
+/// Takes out the first line of these chunks that is due in front of a message, and gives what is due.
+fn take_first<T: Drop>(chunks: &mut [Chunk<Line<T>>], counts: &Counts, next: &Met) -> Option<T>
+    requires few { length counts.now.made < 1000000 }
+    requires known { All (KnowsChunk counts.now) chunks.old }
+    ensures taken { Picks counts.now.made next.now (lines_of chunks.old) (lines_of chunks.new) result }
+    ensures known { All (KnowsChunk counts.now) chunks.new }
+{
+    for chunk in chunks.iter_mut() {
+        let payload = take_one(chunk, counts, next);
+        if payload.is_some() {
+            return payload;
+        }
+    }
+    None
+}
+
+/// Moments that are still to come, each with what is due at it, in the order of the text, and the messages that were
+/// made. The lines stand in chunks of at most 64, of which each knows in front of which messages none of its lines is
+/// due: so a message costs as much as there are chunks, and selectors that are counted.
 #[derive(Drop)]
-pub struct Waiting {
-    lines: Vec<Line>,
-    made: History<Met>,
+pub struct Waiting<T: Drop> {
+    chunks: Vec<Chunk<Line<T>>>,
+    /// How many lines they have.
+    number: usize,
+    counts: Counts,
+    alloc: Global,
 }
 
-impl Model for Waiting {
-    ghost use Rattle.job_moments.specs.Waits.{Waits, waits_in, HaveCounted};
+impl<T: Drop> Model for Waiting<T> {
+    ghost use Rattle.job_moments.specs.Waits.{Waits};
 
-    ghost Value = { Waits };
+    ghost Value = { Waits T };
 
-    ghost view = { waits_in };
+    ghost use Rattle.job_moments.specs.Awaiting.{awaited_of, AllKnow};
+    ghost use Rattle.job_moments.specs.Chunks.{lines_of};
 
-    ghost invariant = { HaveCounted };
+    ghost view = { λ w. record { left = awaited_of (lines_of w.chunks.items); made = w.counts.made } };
+
+    ghost invariant = { λ w. AllKnow w.chunks.items w.counts w.number };
 }
 
-impl Waiting {
+impl<T: Drop> Waiting<T> {
     /// No moment, before any message. It takes no memory.
-    pub fn none(alloc: Global) -> Waiting
+    pub fn none(alloc: Global) -> Waiting<T>
         ensures { result ≡ record { left = []; made = [] } }
     {
         Waiting {
-            lines: Vec::new(alloc),
-            made: History::none(),
+            chunks: Vec::new(alloc),
+            number: 0,
+            counts: Counts::none(alloc),
+            alloc,
         }
     }
 
-    /// One moment more, behind the others, before any message is made. It fails for want of memory alone, and then
-    /// nothing changes.
-    pub fn push(&mut self, moment: Moment) -> Result<(), AllocError>
+    /// One moment more with what is due at it, behind the others, before any message is made. It fails for want of
+    /// memory alone, and then nothing changes.
+    pub fn push(&mut self, moment: Moment, payload: T) -> Result<(), AllocError>
         requires { self.old.made ≡ [] }
-        ensures pushed { OnOk result (self.new ≡ record { left = self.old.left ++ moment ∷ []; made = [] }) }
+        ensures pushed { OnOk result (self.new ≡ record {
+          left = self.old.left ++ record { moment = moment; payload = payload } ∷ [];
+          made = [];
+        }) }
         ensures same { OnErr result (self.new ≡ self.old) }
     {
-        match self.lines.push(Line { moment, count: 0 }) {
-            Ok(()) => Ok(()),
-            Err(_) => Err(AllocError),
+        // So many as a `usize` counts have no room in memory.
+        let Some(number) = self.number.checked_add(1) else {
+            return Err(AllocError);
+        };
+        let counter = self.counts.counter_of(moment.selector())?;
+        let line = Line {
+            moment,
+            counter,
+            payload,
+        };
+        put(&mut self.chunks, line, self.alloc)?;
+        self.number = number;
+        Ok(())
+    }
+
+    /// How many moments are still to come.
+    pub fn len(&self) -> usize
+        ensures { result ≡ length self.now.left }
+    {
+        self.number
+    }
+
+    /// Takes out the first moment, in the order of the text, that is due in front of a message, and gives what is due
+    /// at it; where none is, it gives `None`, and nothing changes.
+    pub fn take_due(&mut self, next: &Met) -> Option<T>
+        requires { length self.old.made < 1000000 }
+        ensures taken { Taken self.old.made next.now self.old.left self.new.left result }
+        ensures made { self.new.made ≡ self.old.made }
+    {
+        let payload = take_first(&mut self.chunks, &self.counts, next);
+        if payload.is_some() {
+            self.number -= 1;
         }
-    }
-
-    /// The place of the first moment, in the order of the text, that is due in front of a message.
-    pub fn first_due(&self, next: &Met) -> Option<usize>
-        requires { length self.now.made < 1000000 }
-        ensures place { result ≡ first_due self.now.made next.now self.now.left }
-        ensures there { IfSome result (λ place. place < length self.now.left) }
-    {
-        first_of(&self.lines, next)
-    }
-
-    /// Leaves out the moment of a place: what it stands for was done.
-    pub fn done(&mut self, place: usize)
-        requires { place < length self.old.left }
-        ensures { self.new ≡ record { left = remove self.old.left place; made = self.old.made } }
-    {
-        let _ = self.lines.remove(place);
+        payload
     }
 
     /// One message more was made.
@@ -115,7 +195,6 @@ impl Waiting {
         requires { length self.old.made < 1000000 }
         ensures { self.new ≡ record { left = self.old.left; made = self.old.made ++ met.now ∷ [] } }
     {
-        count(&mut self.lines, met);
-        self.made = self.made.put_behind(met);
+        self.counts.meet(met);
     }
 }

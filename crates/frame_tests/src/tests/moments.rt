@@ -43,28 +43,24 @@ fn turns(first: u32, last: u32, step: u32) -> Turns
     Turns { first, last, step }
 }
 
-/// One moment more.
-fn wait(rt: &impl Abort, waiting: &mut Waiting, moment: Moment)
+/// One moment more, with a number.
+fn wait(rt: &impl Abort, waiting: &mut Waiting<u32>, moment: Moment, number: u32)
     requires { waiting.old.made ≡ [] }
     ensures { waiting.new.made ≡ [] }
 {
-    waiting.push(moment).expect(rt, "memory");
+    waiting.push(moment, number).expect(rt, "memory");
 }
 
-/// This moment is the first that is due in front of a message, and then it is done; or none is.
-fn is_due(rt: &impl Abort, waiting: &mut Waiting, next: &Met, wanted: Option<usize>)
+/// The moment of this number is the first that is due in front of a message, and comes no more; or none is.
+fn is_due(rt: &impl Abort, waiting: &mut Waiting<u32>, next: &Met, wanted: Option<u32>)
     requires { length waiting.old.made < 10 }
     ensures { length waiting.new.made ≡ length waiting.old.made }
 {
-    let found = waiting.first_due(next);
-    same(rt, &found, &wanted);
-    if let Some(place) = found {
-        waiting.done(place);
-    }
+    same(rt, &waiting.take_due(next), &wanted);
 }
 
 /// A message is made.
-fn is_made(waiting: &mut Waiting, met: &Met)
+fn is_made(waiting: &mut Waiting<u32>, met: &Met)
     requires { length waiting.old.made < 10 }
     ensures { length waiting.new.made ≡ length waiting.old.made + 1 }
 {
@@ -129,10 +125,10 @@ fn moments_in_front_of_messages(rt: HostRuntime) {
         place: 1,
     };
     let mut waiting = Waiting::none(rt.alloc());
-    wait(&rt, &mut waiting, Moment::Time(1500));
-    wait(&rt, &mut waiting, second);
-    wait(&rt, &mut waiting, first);
-    wait(&rt, &mut waiting, Moment::Time(2000));
+    wait(&rt, &mut waiting, Moment::Time(1500), 0);
+    wait(&rt, &mut waiting, second, 1);
+    wait(&rt, &mut waiting, first, 2);
+    wait(&rt, &mut waiting, Moment::Time(2000), 3);
     let made = MESSAGES.map(|(start, command)| one(start, command));
     is_due(&rt, &mut waiting, &made[0], Some(2));
     is_due(&rt, &mut waiting, &made[0], None);
@@ -140,8 +136,8 @@ fn moments_in_front_of_messages(rt: HostRuntime) {
     is_due(&rt, &mut waiting, &made[1], None);
     is_made(&mut waiting, &made[1]);
     is_due(&rt, &mut waiting, &made[2], Some(0));
-    is_due(&rt, &mut waiting, &made[2], Some(0));
-    is_due(&rt, &mut waiting, &made[2], Some(0));
+    is_due(&rt, &mut waiting, &made[2], Some(1));
+    is_due(&rt, &mut waiting, &made[2], Some(3));
     is_due(&rt, &mut waiting, &made[2], None);
 }
 

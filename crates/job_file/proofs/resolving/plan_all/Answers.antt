@@ -1,9 +1,8 @@
-use Rattle.std.proofs.Common.{◌≡◌, ◌<◌, ◌+◌, length, take, ap, arith}
+use Rattle.std.proofs.Common.{◌<◌, length, take, ap, arith}
 use Rattle.std.proofs.lemmas.List.{length-take}
 use Rattle.bc_machine.specs.Planning.{next_number}
 use Rattle.bc_machine.specs.Running.{MachineState}
 use Rattle.mil_line.specs.Plans.{faults_of}
-use Rattle.job_file.specs.Timed.{with_faults}
 use Rattle.job_file.proofs.FaultLemmas.{planned_here}
 use Rattle.job_file.proofs.resolving.plan_all.Goals as goal
 

@@ -1,4 +1,4 @@
-use Rattle.std.proofs.Common.{◌≡◌, ◌+◌, ◌≤◌, List, ap, arith, subst, sym, ◌∙◌}
+use Rattle.std.proofs.Common.{◌+◌, ◌≤◌, ap, arith, subst, sym, ◌∙◌}
 use Rattle.std.specs.List.{list_all}
 use Rattle.frame_asm.specs.Shapes.{code_of_tree}
 use Rattle.frame_load.specs.Budget.{worst_messages}
@@ -6,7 +6,7 @@ use Rattle.frame_tree.specs.Bounds.{IsSound}
 use Rattle.job_file.specs.JobRanges.{may_act}
 use Rattle.job_file.specs.Jobs.{JobState, job_in, own_inserts, tree_in}
 use Rattle.job_file.specs.Meaning.{records}
-use Rattle.job_file.specs.Resolving.{standing}
+use Rattle.job_file.specs.Resolving.{standing, whens_left}
 use Rattle.job_file.specs.TimedLines.{timed_inserts}
 use Rattle.job_file.proofs.BeginLemmas.{acts_few, acts_fit, job_gives, records_give, run_gives}
 use Rattle.job_file.proofs.resolving.resolve.Goals as goal
@@ -20,7 +20,7 @@ by_number-requires-clause-acts c =
     let acts = c.in_ok-joined.ensures ∙ c.end-plan.ensures.actions in
     let most = own_inserts base.actions + timed_inserts c.args.timed.whens in
     ap (λ (b : JobState). list_all (may_act b.addresses) c.in_ok-joined.field-0) c.base.view_is
-    ∙ acts_fit (job_in base) c.args.timed m c.in_ok-joined.field-0 c.end-plan.result.plan is acts c.end-plan.ensures.plan base.addresses most c.go.new.self.whens.items
+    ∙ acts_fit (job_in base) c.args.timed m c.in_ok-joined.field-0 c.end-plan.result.plan is acts c.end-plan.ensures.plan base.addresses most (whens_left c.go.new.self.whens)
     (c.in_ok-go.ensures.within base.addresses most (begun.within most (omega arith)))
 
 pub by_number-requires-clause-few : goal.by_number-requires-clause-few
@@ -33,7 +33,7 @@ by_number-requires-clause-few c =
     let most = own_inserts base.actions + timed_inserts c.args.timed.whens in
     subst (λ (b : JobState). own_inserts c.in_ok-joined.field-0 + worst_messages (code_of_tree (tree_in b)).operations ≤ 1000000) (sym c.base.view_is)
     (acts_few (job_in base) c.args.timed m c.in_ok-joined.field-0 c.end-plan.result.plan is acts c.end-plan.ensures.plan base.addresses most (worst_messages (code_of_tree (tree_in base)).operations)
-    c.go.new.self.whens.items (c.in_ok-go.ensures.within base.addresses most (begun.within most (omega arith))) c.requires.few)
+    (whens_left c.go.new.self.whens) (c.in_ok-go.ensures.within base.addresses most (begun.within most (omega arith))) c.requires.few)
 
 pub returns-clause-job : goal.returns-clause-job
 returns-clause-job c =

@@ -1,6 +1,7 @@
 use Rattle.std.proofs.Common.{◌≡◌, ◌≤◌, length, sym, ap, subst, ◌∙◌, arith}
 use Rattle.std.specs.Prelude.{None}
-use Rattle.job_file.specs.Resolving.{standing}
+use Rattle.std.proofs.lemmas.List.{length-map}
+use Rattle.job_file.specs.Resolving.{standing, when_of}
 use Rattle.job_file.specs.Timed.{Standing, due_now, done_at, done_times}
 use Rattle.job_file.proofs.DueLemmas.{done_none, all_done, arranged_is, one_time_more}
 use Rattle.job_file.proofs.resolving.Run.arrange.Goals as goal
@@ -12,7 +13,8 @@ returns-then-not-do_first-clause-arranged c =
     let i = c.times.invariant in
     let none : due_now here ≡ None = c.do_first.ensures.none c.if-not-do_first.true in
     let none_there : due_now (done_times c.times.time from) ≡ None = subst (λ (s : Standing). due_now s ≡ None) i.done none in
-    let within : c.times.time ≤ length c.args.self.now.whens.items = omega arith in
+    let long = length-map c.args.self.now.whens.left when_of in
+    let within : c.times.time ≤ length from.left = omega (arith, long) in
     c.do_first.ensures.done ∙ done_none here none ∙ i.done ∙ sym (all_done from c.times.time within none_there)
 
 pub returns-then-not-do_first-clause-within : goal.returns-then-not-do_first-clause-within
@@ -32,4 +34,5 @@ times-preserved c =
 
 pub returns-clause-arranged : goal.returns-clause-arranged
 returns-clause-arranged c =
-    c.times.invariant.done ∙ sym (arranged_is (standing c.args.self.now) c.times.time (omega arith))
+    let long = length-map c.args.self.now.whens.left when_of in
+    c.times.invariant.done ∙ sym (arranged_is (standing c.args.self.now) c.times.time (omega (arith, long)))

@@ -1,4 +1,4 @@
-use Rattle.std.proofs.Common.{◌≡◌, ℕ, ◌+◌, List}
+use Rattle.std.proofs.Common.{◌≡◌, ℕ, List}
 use Rattle.job_file.specs.Resolving.{standing, IsKept, IsWithin}
 use Rattle.job_file.specs.Timed.{done_times}
 use Rattle.job_file.proofs.resolving.Run.arrange.Given as goal

@@ -1,4 +1,4 @@
-use Rattle.std.proofs.Common.{◌≡◌, ◌<◌, ◌+◌, List, refl, ap, ◌∙◌, arith}
+use Rattle.std.proofs.Common.{◌<◌, ◌+◌, List, refl, ap, ◌∙◌, arith}
 use Rattle.job_moments.specs.Planning.{PlannedFault}
 use Rattle.job_file.specs.Resolving.{standing, turns_left}
 use Rattle.job_file.specs.Timed.{turned}

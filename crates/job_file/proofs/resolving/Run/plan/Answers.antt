@@ -1,4 +1,4 @@
-use Rattle.std.proofs.Common.{◌≡◌, ◌+◌, ◌≤◌, true, List, length, sym, subst, refl, ap, ◌∙◌}
+use Rattle.std.proofs.Common.{◌≡◌, ◌+◌, ◌≤◌, true, List, length, sym, subst, ◌∙◌}
 use Rattle.std.specs.List.{list_all}
 use Rattle.mil_line.specs.declared.faults.Fault.{Fault}
 use Rattle.mil_line.specs.Plans.{faults_of}

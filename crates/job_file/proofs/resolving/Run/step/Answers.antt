@@ -11,10 +11,10 @@ use Rattle.job_file.proofs.KeptLemmas.{few_met, kept_stepped, planned_behind}
 use Rattle.job_file.proofs.RunLemmas.{none_met}
 use Rattle.job_file.proofs.resolving.Run.step.Goals as goal
 
-pub meet-requires-clause-moments : goal.meet-requires-clause-moments
-meet-requires-clause-moments c =
+pub meet-requires-clause-whens : goal.meet-requires-clause-whens
+meet-requires-clause-whens c =
     let r = c.args.self.now in
-    few_met c.next-next.result r.moments.made (made_of r.machine) r.machine.point.number c.next-next.ensures.few c.requires.kept.made c.requires.kept.number
+    few_met c.next-next.result r.whens.made (made_of r.machine) r.machine.point.number c.next-next.ensures.few c.requires.kept.made c.requires.kept.number
 
 pub meet-requires-clause-faults : goal.meet-requires-clause-faults
 meet-requires-clause-faults c =
@@ -46,7 +46,7 @@ returns-in_default-clause-kept c =
     let way = subst IsUnderWay (sym c.meet.ensures.machine) c.step.ensures.under_way in
     let behind = subst (λ (o : Option Met). IsBehind o r.machine n.machine) (sym c.next-next.ensures.next)
     (behind_step c.next_message_is_sent.ensures r.machine n.machine c.requires.kept.under_way machine) in
-    kept_stepped r n c.next-next.result c.requires.kept machine way behind c.meet.ensures.moments c.meet.ensures.whens c.meet.ensures.faults c.meet.ensures.origin
+    kept_stepped r n c.next-next.result c.requires.kept machine way behind c.meet.ensures.whens c.meet.ensures.faults c.meet.ensures.origin
 
 pub returns-in_default-clause-planned : goal.returns-in_default-clause-planned
 returns-in_default-clause-planned c =

@@ -1,9 +1,10 @@
-use Rattle.std.proofs.Common.{◌≡◌, ◌<◌, [], ◌⊎◌, true, false, refl, sym, ap, subst, ◌∙◌, Vec, Global}
-use Rattle.bc_machine.specs.Running.{MachineState, stepped}
+use Rattle.std.proofs.Common.{◌≡◌, ◌<◌, [], ◌⊎◌, true, List, map, sym, ap, subst, ◌∙◌}
+use Rattle.bc_machine.specs.declared.placed.HostAction.{HostAction}
+use Rattle.bc_machine.specs.Running.{stepped}
 use Rattle.job_moments.specs.Planning.{PlanState}
-use Rattle.job_file.specs.declared.timed.TimedAction.{TimedAction}
-use Rattle.job_file.specs.Resolving.{standing, turns_left, IsWithin, IsPlannedUpTo}
-use Rattle.job_file.specs.Timed.{Standing, arranged, faulted}
+use Rattle.job_moments.specs.Waits.{Awaited, Waits}
+use Rattle.job_file.specs.Resolving.{standing, when_of, turns_left, IsPlannedUpTo}
+use Rattle.job_file.specs.Timed.{Standing, faulted}
 use Rattle.job_file.proofs.DueLemmas.{stands}
 use Rattle.job_file.proofs.TurnLemmas.{turned_is, turns_same, within_stepped, may_plan_arranged}
 use Rattle.job_file.proofs.resolving.Run.turn.Goals as goal
@@ -21,13 +22,15 @@ returns-clause-turned c =
     let a = c.arrange.new.self in
     let n = c.step.new.self.machine in
     let faulting = c.in_ok-plan.ensures.faulted ∙ ap (λ (p : PlanState). faulted p.faults a.machine) c.arrange.ensures.faults in
-    let whens = ap (λ (v : Vec TimedAction Global). stands v.items n) (c.step.ensures.whens ∙ c.in_ok-plan.ensures.whens) in
+    let left = c.step.ensures.whens ∙ ap (λ (v : Waits HostAction). v.left) c.in_ok-plan.ensures.whens in
+    let whens = ap (λ (ls : List (Awaited HostAction)). stands (map when_of ls) n) left in
     turned_is r.faults.faults (standing r) (standing a) (standing c.step.new.self) c.plan.new.self.machine n c.arrange.ensures.arranged faulting c.step.ensures.stepped whens
 
 pub returns-clause-within : goal.returns-clause-within
 returns-clause-within c addresses most within =
     let a = c.arrange.new.self in
-    let left = ap (λ (v : Vec TimedAction Global). v.items) (c.step.ensures.whens ∙ c.in_ok-plan.ensures.whens) in
+    let same = c.step.ensures.whens ∙ ap (λ (v : Waits HostAction). v.left) c.in_ok-plan.ensures.whens in
+    let left = ap (map when_of) same in
     within_stepped addresses most a.faults.faults (standing a) (standing c.step.new.self) left
     (c.step.ensures.stepped ∙ ap stepped c.in_ok-plan.ensures.faulted) (c.arrange.ensures.within addresses most within)
 

@@ -1,0 +1,193 @@
+-- Chunks whose lines are the same, have a line more, or are as they must be.
+use Rattle.std.proofs.Common.{◌≡◌, ℕ, suc, ◌+◌, ◌<◌, List, [], ◌∷◌, ◌++◌, length, get_or, set, take, drop, remove, All, Bool, false, refl, sym, ap, subst, ◌∙◌, arith, append_assoc, length-append}
+use Rattle.std.proofs.lemmas.List.{get_or_append_left, get_or-append-add, append-nil, take_more, take_all, take_more_set, length-set}
+use Rattle.std.specs.Prelude.{Result, Ok, Err}
+use Rattle.std.specs.Result.{is_err}
+use Rattle.std.proofs.lemmas.List.Concat.{flat_map-append}
+use Rattle.std.proofs.lemmas.List.Elements.{All-append, All-same, All-cons, All-head, All-tail, All-nil, All-more, All-take, All-drop}
+use Rattle.judge_rules.specs.declared.rules.Selector.{Selector}
+use Rattle.job_moments.specs.declared.chunks.Chunk.{Chunk}
+use Rattle.job_moments.specs.declared.met.Met.{Met}
+use Rattle.job_moments.specs.declared.quiet.Quiet.{Quiet}
+use Rattle.job_moments.specs.Chunks.{lines_in, lines_of, behind, Puts, Knows}
+use Rattle.job_moments.specs.Counting.{Counted}
+use Rattle.job_moments.specs.Quiet.{IsPart, IsQuiet, Sleeps}
+use Rattle.job_moments.proofs.Sleeping.{sleeps_unknown, sleeps_later, sleeps_part, sleeps_now}
+
+-- ---- what is true of each item of joined lists
+
+pub all_front : {X : Type 0} (P : X → Type 0) (xs ys : List X) → All P (xs ++ ys) → All P xs
+all_front P xs ys all k d within =
+    subst P (get_or_append_left xs ys d k within) (all k d (omega (arith, within, length-append xs ys)))
+
+pub all_rest : {X : Type 0} (P : X → Type 0) (xs ys : List X) → All P (xs ++ ys) → All P ys
+all_rest P xs ys all k d within =
+    subst P (get_or-append-add xs ys k d) (all (length xs + k) d (omega (arith, within, length-append xs ys)))
+
+module _ {L : Type 0} where
+  -- ---- the lines of chunks
+
+  pub lines_append : (xs ys : List (Chunk L)) → lines_of (xs ++ ys) ≡ lines_of xs ++ lines_of ys
+  lines_append xs ys = flat_map-append lines_in xs ys
+
+  -- of one chunk more
+  pub lines_more : (chunks : List (Chunk L)) (i : ℕ) (d : Chunk L) → i < length chunks
+      → lines_of (take (i + 1) chunks) ≡ lines_of (take i chunks) ++ lines_in (get_or chunks i d)
+  lines_more chunks i d within =
+      ap lines_of (take_more chunks i d within)
+      ∙ lines_append (take i chunks) (get_or chunks i d ∷ [])
+      ∙ ap (λ (ls : List L). lines_of (take i chunks) ++ ls) (append-nil (lines_in (get_or chunks i d)))
+
+  pub same_lines_of : (old new : List (Chunk L)) → length new ≡ length old
+      → ((k : ℕ) (d : Chunk L) → k < length old → lines_in (get_or new k d) ≡ lines_in (get_or old k d))
+      → lines_of new ≡ lines_of old
+  same_lines_of [] [] long each = refl
+  same_lines_of [] (n ∷ ns) long each = absurd (omega (arith, long))
+  same_lines_of (o ∷ os) [] long each = absurd (omega (arith, long))
+  same_lines_of (o ∷ os) (n ∷ ns) long each =
+      let first : lines_in n ≡ lines_in o = each 0 o (omega arith) in
+      let rest : lines_of ns ≡ lines_of os = same_lines_of os ns (omega (arith, long)) (λ k d lt. each (suc k) d (omega (arith, lt))) in
+      ap (λ (ls : List L). ls ++ lines_of ns) first ∙ ap (λ (ls : List L). lines_in o ++ ls) rest
+
+  pub all_lines : (P : L → Type 0) (chunks : List (Chunk L)) → All (λ (c : Chunk L). All P (lines_in c)) chunks → All P (lines_of chunks)
+  all_lines P [] all = All-nil P
+  all_lines P (c ∷ cs) all =
+      All-append P (lines_in c) (lines_of cs)
+      (All-head (λ (d : Chunk L). All P (lines_in d)) c cs all)
+      (all_lines P cs (All-tail (λ (d : Chunk L). All P (lines_in d)) c cs all))
+
+  pub all_parts : (P : L → Type 0) (chunks : List (Chunk L)) → All P (lines_of chunks) → All (λ (c : Chunk L). All P (lines_in c)) chunks
+  all_parts P [] all = All-nil (λ (d : Chunk L). All P (lines_in d))
+  all_parts P (c ∷ cs) all =
+      All-cons (λ (d : Chunk L). All P (lines_in d)) c cs
+      (all_front P (lines_in c) (lines_of cs) all)
+      (all_parts P cs (all_rest P (lines_in c) (lines_of cs) all))
+
+  -- ---- a line more
+
+  pub puts_lines : (old new : List (Chunk L)) (more : List L) → Puts old new more → lines_of new ≡ lines_of old ++ more
+  puts_lines old new more p =
+      ap lines_of p.new_is ∙ lines_append p.front p.changed
+      ∙ ap (λ (ls : List L). lines_of p.front ++ ls) p.lines
+      ∙ sym (append_assoc (lines_of p.front) (lines_of p.rest) more)
+      ∙ ap (λ (ls : List L). ls ++ more) (sym (ap lines_of p.old_is ∙ lines_append p.front p.rest))
+
+  pub puts_known : (Stands : L → Type 0) (due : L → List Met → Met → Bool) (made : List Met) (old new : List (Chunk L)) (more : List L)
+      → Puts old new more → All (Knows Stands due made) old → All Stands more → All (Knows Stands due made) new
+  puts_known Stands due made old new more p known stand =
+      let Kept = Knows Stands due made in
+      let parts : All Kept (p.front ++ p.rest) = All-same Kept (p.front ++ p.rest) old (sym p.old_is) known in
+      let front : All Kept p.front = all_front Kept p.front p.rest parts in
+      let rest : All Kept p.rest = all_rest Kept p.front p.rest parts in
+      let before : All Stands (lines_of p.rest) = all_lines Stands p.rest (λ k d lt. (rest k d lt).stand) in
+      let lines : All Stands (lines_of p.changed) =
+          All-same Stands (lines_of p.changed) (lines_of p.rest ++ more) p.lines (All-append Stands (lines_of p.rest) more before stand) in
+      let changed : All Kept p.changed = λ k d lt. record {
+        stand = all_parts Stands p.changed lines k d lt;
+        sleeps = λ j e within. sleeps_unknown (get_or p.changed k d).quiet made (due (get_or (lines_in (get_or p.changed k d)) j e)) (p.unknown k d lt);
+      } in
+      All-same Kept new (p.front ++ p.changed) p.new_is (All-append Kept p.front p.changed front changed)
+
+  -- nothing was put, or a new chunk, or a line into the last one
+  pub puts_none : (old new : List (Chunk L)) → new ≡ old → Puts old new []
+  puts_none old new same = record {
+    front = old;
+    rest = [];
+    changed = [];
+    old_is = sym (append-nil old);
+    new_is = same ∙ sym (append-nil old);
+    lines = refl;
+    unknown = All-nil (λ (c : Chunk L). c.quiet.wake ≡ 0);
+  }
+
+  pub puts_new : (old new : List (Chunk L)) (chunk : Chunk L) (more : List L) → new ≡ old ++ chunk ∷ []
+      → lines_in chunk ≡ more → chunk.quiet.wake ≡ 0 → Puts old new more
+  puts_new old new chunk more is lines none = record {
+    front = old;
+    rest = [];
+    changed = chunk ∷ [];
+    old_is = sym (append-nil old);
+    new_is = is;
+    lines = append-nil (lines_in chunk) ∙ lines;
+    unknown = All-cons (λ (c : Chunk L). c.quiet.wake ≡ 0) chunk [] none (All-nil (λ (c : Chunk L). c.quiet.wake ≡ 0));
+  }
+
+  pub puts_last : (old new : List (Chunk L)) (last : ℕ) (e after : Chunk L) (more : List L) → last + 1 ≡ length old
+      → new ≡ set old last after → lines_in after ≡ lines_in (get_or old last e) ++ more → after.quiet.wake ≡ 0 → Puts old new more
+  puts_last old new last e after more ends is lines none = record {
+    front = take last old;
+    rest = get_or old last e ∷ [];
+    changed = after ∷ [];
+    old_is = sym (take_all (last + 1) old (omega (arith, ends))) ∙ take_more old last e (omega (arith, ends));
+    new_is = is ∙ sym (take_all (last + 1) (set old last after) (omega (arith, ends, length-set old last after)))
+        ∙ take_more_set old last after (omega (arith, ends));
+    lines = append-nil (lines_in after) ∙ lines ∙ ap (λ (ls : List L). ls ++ more) (sym (append-nil (lines_in (get_or old last e))));
+    unknown = All-cons (λ (c : Chunk L). c.quiet.wake ≡ 0) after [] none (All-nil (λ (c : Chunk L). c.quiet.wake ≡ 0));
+  }
+
+  pub behind_ok : {X E : Type 0} (line : L) (r : Result X E) → is_err r ≡ false → behind line r ≡ line ∷ []
+  behind_ok line (Ok done) ok = refl
+  behind_ok line (Err e) ok = absurd cc
+
+  -- ---- a message more
+
+  pub knows_later : (Stands : L → Type 0) (due : L → List Met → Met → Bool) (made : List Met) (met : Met) (chunks : List (Chunk L))
+      → All (Knows Stands due made) chunks → All (Knows Stands due (made ++ met ∷ [])) chunks
+  knows_later Stands due made met chunks known k d lt =
+      let c = get_or chunks k d in
+      record {
+        stand = (known k d lt).stand;
+        sleeps = λ j e within. sleeps_later c.quiet made (due (get_or (lines_in c) j e)) met ((known k d lt).sleeps j e within);
+      }
+
+  -- ---- messages at which none of the lines so far is due
+
+  pub sleeps_more : (due : L → List Met → Met → Bool) (part whole : Quiet) (made : List Met) (lines : List L) (i : ℕ) (line : L)
+      → i < length lines → line ≡ get_or lines i line → IsPart part whole
+      → All (λ (l : L). Sleeps whole made (due l)) (take i lines) → Sleeps part made (due line)
+      → All (λ (l : L). Sleeps part made (due l)) (take (i + 1) lines)
+  sleeps_more due part whole made lines i line within is narrow before sleeps =
+      All-more (λ (l : L). Sleeps part made (due l)) lines i line within
+      (λ k d lt. sleeps_part part whole made (due (get_or (take i lines) k d)) narrow (before k d lt))
+      (subst (λ (l : L). Sleeps part made (due l)) is sleeps)
+
+  -- none of the lines is due in front of a message that is quiet
+  pub quiet_lines : (due : L → List Met → Met → Bool) (q : Quiet) (made : List Met) (next : Met) (lines : List L)
+      → All (λ (l : L). Sleeps q made (due l)) lines → IsQuiet q made next → All (λ (l : L). due l made next ≡ false) lines
+  quiet_lines due q made next lines sleep quiet k d lt = sleeps_now q made next (due (get_or lines k d)) (sleep k d lt) quiet
+
+  -- ---- other counters
+
+  pub knows_others : (Stood Stands : L → Type 0) (due : L → List Met → Met → Bool) (made : List Met) (chunks : List (Chunk L))
+      → ((line : L) → Stood line → Stands line) → All (Knows Stood due made) chunks → All (Knows Stands due made) chunks
+  knows_others Stood Stands due made chunks stand known k d lt = record {
+    stand = λ j e within. stand (get_or (lines_in (get_or chunks k d)) j e) ((known k d lt).stand j e within);
+    sleeps = (known k d lt).sleeps;
+  }
+
+  -- with a line more and its counter, before any message
+  pub put_known : (Stands : List Selector → L → Type 0) (due : L → List Met → Met → Bool) (old new : List (Chunk L)) (more : List L)
+      (before after : Counted) → before.made ≡ [] → after.made ≡ []
+      → ((line : L) → Stands before.selectors line → Stands after.selectors line)
+      → Puts old new more → All (Stands after.selectors) more
+      → All (Knows (Stands before.selectors) due before.made) old → All (Knows (Stands after.selectors) due after.made) new
+  put_known Stands due old new more before after none still others puts stand known =
+      let same : before.made ≡ after.made = none ∙ sym still in
+      puts_known (Stands after.selectors) due after.made old new more puts
+      (knows_others (Stands before.selectors) (Stands after.selectors) due after.made old others
+      (subst (λ (ms : List Met). All (Knows (Stands before.selectors) due ms) old) same known))
+      stand
+
+  -- of one line fewer the same is known
+  pub knows_fewer : (Stands : L → Type 0) (due : L → List Met → Met → Bool) (made : List Met) (old new : Chunk L) (place : ℕ)
+      → new.quiet ≡ old.quiet → lines_in new ≡ remove (lines_in old) place → Knows Stands due made old → Knows Stands due made new
+  knows_fewer Stands due made old new place quiet lines known = record {
+    stand = fewer Stands known.stand;
+    sleeps = fewer (λ (l : L). Sleeps new.quiet made (due l))
+        (subst (λ (q : Quiet). All (λ (l : L). Sleeps q made (due l)) (lines_in old)) (sym quiet) known.sleeps);
+  }
+    where
+      fewer : (P : L → Type 0) → All P (lines_in old) → All P (lines_in new)
+      fewer P all = All-same P (lines_in new) (remove (lines_in old) place) lines
+          (All-append P (take place (lines_in old)) (drop (suc place) (lines_in old))
+          (All-take P place (lines_in old) all) (All-drop P (suc place) (lines_in old) all))

@@ -1,0 +1,32 @@
+-- The rules of planned faults. No public clause cites this module.
+use Rattle.std.specs.Prelude.{◌≡◌, ℕ, Bool, List, All, length, map}
+use Rattle.judge_rules.specs.declared.rules.Selector.{Selector}
+use Rattle.job_moments.specs.declared.chunks.Chunk.{Chunk}
+use Rattle.job_moments.specs.declared.met.Met.{Met}
+use Rattle.job_moments.specs.declared.planning.Rule.{Rule}
+use Rattle.job_moments.specs.Chunks.{lines_of, Knows}
+use Rattle.job_moments.specs.Counting.{Counted, HasCounter}
+use Rattle.job_moments.specs.Planning.{counted_of, is_occasion, MayStand, PlannedFault}
+
+abbrev pub planned_of : Rule → PlannedFault
+planned_of r = record { occasion = r.occasion; fault = r.fault }
+
+abbrev pub plans_of : List Rule → List PlannedFault
+plans_of rules = map planned_of rules
+
+-- when a rule is due
+abbrev pub occasion_of : Rule → List Met → Met → Bool
+occasion_of r made next = is_occasion made next r.occasion
+
+-- its counter counts what its occasion counts
+pub record HasItsCounter (selectors : List Selector) (r : Rule) : Type 0 where
+  pub counter : HasCounter selectors r.counter (counted_of r.occasion)
+  pub stands : MayStand r.occasion
+
+-- each rule has its counter, and none is due at the messages that are quiet
+abbrev pub KnowsChunk : Counted → Chunk Rule → Type 0
+KnowsChunk counts c = Knows (HasItsCounter counts.selectors) occasion_of counts.made c
+
+pub record AllKnow (chunks : List (Chunk Rule)) (counts : Counted) (number : ℕ) : Type 0 where
+  pub known : All (KnowsChunk counts) chunks
+  pub count : number ≡ length (lines_of chunks)
