@@ -18,7 +18,7 @@ fn note(answered: &mut [bool; 32], command: u16, status: u16) -> bool {
 }
 
 /// Where the reply to a command word stands that is no transfer.
-fn reply_place(command: Command) -> usize {
+pub(crate) fn reply_place(command: Command) -> usize {
     if command.is_mode() {
         if !command.is_transmit() && command.code() >= 16 {
             2

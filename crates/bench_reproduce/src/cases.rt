@@ -35,7 +35,7 @@ pub(crate) fn words_of(talk: &Talk, run: u32) -> ArrayVec<u16, 40> {
 }
 
 /// How many data words a terminal sends for a command.
-fn sent_by(command: Command) -> usize {
+pub(crate) fn sent_by(command: Command) -> usize {
     if !command.is_transmit() {
         0
     } else if command.is_mode() {
@@ -66,6 +66,11 @@ impl<'c> Case<'c> {
             Some(second) if run == 1 => second,
             _ => commands.first,
         }
+    }
+
+    /// Whether a command breaks off the data words of the controller.
+    pub(crate) fn breaks_off(&self) -> bool {
+        self.guess.command_at.is_some()
     }
 
     /// How many of the controller's words are commands.

@@ -24,6 +24,35 @@ pub(crate) struct Explanation {
     pub(crate) faults: ArrayVec<Fault, 4>,
     /// What hosts do in front of the next message whatever that is.
     pub(crate) later: Vec<Deed>,
+    /// The replies, 1 or 2, whose command a host was made to judge otherwise: once for each.
+    pub(crate) rejudged: ArrayVec<u32, 2>,
+}
+
+/// Whether two actions set a switch of a terminal in the same way; None where they do not set the same switch.
+fn set_alike(one: &Action, other: &Action) -> Option<bool> {
+    match (one, other) {
+        (Action::Busy(on), Action::Busy(then)) => Some(*on == *then),
+        (Action::Service(on), Action::Service(then)) => Some(*on == *then),
+        (Action::Subsystem(on), Action::Subsystem(then)) => Some(*on == *then),
+        (Action::Fault(on), Action::Fault(then)) => Some(*on == *then),
+        (Action::Control(on), Action::Control(then)) => Some(*on == *then),
+        (Action::Broadcast(on), Action::Broadcast(then)) => Some(*on == *then),
+        _ => None,
+    }
+}
+
+/// Whether actions leave a switch of a terminal as another one would set it.
+fn stands(deeds: &[Deed], address: u8, action: &Action) -> bool {
+    let mut alike = false;
+    for deed in deeds {
+        if deed.address != address {
+            continue;
+        }
+        if let Some(same) = set_alike(&deed.action, action) {
+            alike = same;
+        }
+    }
+    alike
 }
 
 impl Explanation {
@@ -34,6 +63,7 @@ impl Explanation {
             deeds: Vec::new(alloc),
             faults: ArrayVec::new(),
             later: Vec::new(alloc),
+            rejudged: ArrayVec::new(),
         }
     }
 
@@ -43,14 +73,18 @@ impl Explanation {
         self.deeds.clear();
         self.later.clear();
         self.faults.clear();
+        self.rejudged.clear();
         for deed in due {
             self.act(deed.address, deed.action.copy())?;
         }
         Ok(())
     }
 
-    /// Puts an action behind the others.
+    /// Puts an action behind the others; none that sets a switch as they leave it.
     pub(crate) fn act(&mut self, address: u8, action: Action) -> Result<(), AllocError> {
+        if stands(self.deeds.as_slice(), address, &action) {
+            return Ok(());
+        }
         self.deeds.push(Deed { address, action })?;
         Ok(())
     }

@@ -60,6 +60,15 @@ impl Schedule {
         count
     }
 
+    /// Whether each turn begins with a frame.
+    fn is_framed(&self) -> bool {
+        !self
+            .groups
+            .as_slice()
+            .iter()
+            .any(|group| !is_framed(group.steps.as_slice()))
+    }
+
     /// Whether the script sends the message at a place.
     pub(crate) fn sends(&self, place: usize) -> bool {
         match self.sent.get(place) {
@@ -79,6 +88,8 @@ struct Finder<'p> {
     /// Where the messages of a turn were found.
     taken: Vec<usize>,
     operations: usize,
+    /// Whether turns are looked for that begin with a frame, and no others.
+    framed: bool,
 }
 
 /// How far a turn goes on.
@@ -236,6 +247,9 @@ impl<'p> Finder<'p> {
                 continue;
             };
             tried = tried.saturating_add(1);
+            if self.framed && !is_framed(steps.as_slice()) {
+                continue;
+            }
             let Some(course) = self.course(steps.as_slice(), from, false)? else {
                 continue;
             };
@@ -288,9 +302,9 @@ fn nothing_of(alloc: Global, count: usize) -> Result<Schedule, AllocError> {
     })
 }
 
-/// What of a channel recurs, as frames: from the first message on, each time the turn that goes on for the most of
-/// them.
-pub(crate) fn schedule_of(alloc: Global, played: &[Played]) -> Result<Schedule, AllocError> {
+/// What of a channel recurs: from the first message on, each time the turn that goes on for the most of them; with
+/// `framed` among the turns that begin with a frame.
+fn found_in(alloc: Global, played: &[Played], framed: bool) -> Result<Schedule, AllocError> {
     let mut finder = Finder {
         alloc,
         timeline: Timeline::of(played, 0),
@@ -298,6 +312,7 @@ pub(crate) fn schedule_of(alloc: Global, played: &[Played]) -> Result<Schedule, 
         schedule: nothing_of(alloc, played.len())?,
         taken: Vec::new(alloc),
         operations: 0,
+        framed,
     };
     let mut from = 0usize;
     for _place in 0..played.len() {
@@ -311,4 +326,19 @@ pub(crate) fn schedule_of(alloc: Global, played: &[Played]) -> Result<Schedule, 
     }
     let Finder { schedule, .. } = finder;
     Ok(schedule)
+}
+
+/// What of a channel recurs, as frames. Behind a turn without a frame hardly any frame begins on its time, so turns
+/// without one are left out where more messages are sent then.
+pub(crate) fn schedule_of(alloc: Global, played: &[Played]) -> Result<Schedule, AllocError> {
+    let any = found_in(alloc, played, false)?;
+    if any.count() >= played.len() as u64 || any.is_framed() {
+        return Ok(any);
+    }
+    let framed = found_in(alloc, played, true)?;
+    if framed.count() > any.count() {
+        Ok(framed)
+    } else {
+        Ok(any)
+    }
 }

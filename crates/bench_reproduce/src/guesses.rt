@@ -1,6 +1,7 @@
 //! Which message a record may be of, and which one that is no transfer between terminals.
 
-use crate::transfers::transfer;
+use crate::breaks::broken_off;
+use crate::transfers::{other_end, transfer};
 use crate::wanted::Wanted;
 use arrayvec::ArrayVec;
 use mil_message::Message;
@@ -11,7 +12,7 @@ use mil_word::{Command, Status};
 pub(crate) const ALL: u8 = 31;
 
 /// How many guesses there are at most.
-pub(crate) const GUESSES: u8 = 11;
+pub(crate) const GUESSES: u8 = 13;
 
 /// The mode codes from which on a mode command has a data word (MIL-STD-1553B 4.3.3.5.1.7).
 pub(crate) const WITH_WORD: u8 = 16;
@@ -22,7 +23,7 @@ const VECTOR: usize = 16;
 const SYNCHRONIZE: usize = 17;
 
 /// The bits of a status word that are zero (MIL-STD-1553B 4.3.3.5.3.6).
-const RESERVED: u16 = 0xE0;
+pub(crate) const RESERVED: u16 = 0xE0;
 
 /// The numbers of the forms of a message.
 const TO_TERMINAL: u8 = 0;
@@ -50,6 +51,8 @@ pub(crate) struct Guess {
     pub(crate) heard: Option<u16>,
     /// Whether the first word was left out.
     pub(crate) is_headless: bool,
+    /// The place of the word that is a command where a data word is due.
+    pub(crate) command_at: Option<usize>,
 }
 
 impl Guess {
@@ -60,6 +63,7 @@ impl Guess {
             sent,
             heard: None,
             is_headless: false,
+            command_at: None,
         }
     }
 }
@@ -83,14 +87,14 @@ pub(crate) fn data_subaddress(command: Command) -> u8 {
 }
 
 /// A receive command with these words.
-fn receive(address: u8, subaddress: u8, words: &[u16]) -> Option<Message> {
+pub(crate) fn receive(address: u8, subaddress: u8, words: &[u16]) -> Option<Message> {
     let form = if address == ALL { TO_ALL } else { TO_TERMINAL };
     let first = command(address, false, subaddress, words.len());
     Message::of_parts(form, first, 0, words)
 }
 
 /// So many words from a place on, zeros where there are fewer.
-fn data(wanted: &Wanted, from: usize, count: usize) -> ArrayVec<u16, 32> {
+pub(crate) fn data(wanted: &Wanted, from: usize, count: usize) -> ArrayVec<u16, 32> {
     let mut words = ArrayVec::new();
     for place in 0..count.min(32) {
         // There is room for each of them.
@@ -119,8 +123,15 @@ fn spelled_at(wanted: &Wanted, place: usize) -> Option<Message> {
     if wanted.count() <= place {
         return None;
     }
-    let own = Command::of(wanted.word(place));
-    let behind = place.saturating_add(1);
+    spelled_by(
+        wanted,
+        Command::of(wanted.word(place)),
+        place.saturating_add(1),
+    )
+}
+
+/// The message of a command, with the words from a place on.
+fn spelled_by(wanted: &Wanted, own: Command, behind: usize) -> Option<Message> {
     if own.is_mode() {
         return mode(own, wanted.word(behind));
     }
@@ -238,6 +249,9 @@ fn answered(wanted: &Wanted, which: u8) -> Option<Guess> {
         7 => Some(disguised(wanted, receive(ALL, 1, &[0])?, 1)),
         8 => longer(wanted, count.saturating_sub(2)),
         9 => overheard(wanted),
+        10 => broken_off(wanted, true),
+        11 => broken_off(wanted, false),
+        12 => elsewhere(wanted),
         _ => None,
     }
 }
@@ -267,6 +281,7 @@ fn superseded(wanted: &Wanted) -> Option<Guess> {
         sent,
         heard: Some(wanted.word(1)),
         is_headless: false,
+        command_at: None,
     })
 }
 
@@ -282,10 +297,25 @@ fn overheard(wanted: &Wanted) -> Option<Guess> {
                 sent: place.saturating_add(1),
                 heard: Some(word),
                 is_headless: false,
+                command_at: None,
             });
         }
     }
     None
+}
+
+/// The message that the first word spells, but to another terminal: its address was altered.
+fn elsewhere(wanted: &Wanted) -> Option<Guess> {
+    let own = Command::of(wanted.word(0));
+    if wanted.count() == 0 || own.is_broadcast() {
+        return None;
+    }
+    let address = other_end(own.address());
+    let count = usize::from(own.code());
+    let other = command(address, own.is_transmit(), own.subaddress(), count);
+    let message = spelled_by(wanted, Command::of(other), 1)?;
+    let sent = message.controller_count();
+    Some(disguised(wanted, message, sent))
 }
 
 /// A message in whose place the first word was heard.
@@ -295,6 +325,7 @@ fn disguised(wanted: &Wanted, message: Message, sent: usize) -> Guess {
         sent,
         heard: Some(wanted.word(0)),
         is_headless: false,
+        command_at: None,
     }
 }
 

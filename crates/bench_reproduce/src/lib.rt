@@ -8,6 +8,7 @@
 #![tactic(auto)]
 
 mod answering;
+mod breaks;
 mod cases;
 mod edits;
 mod explaining;

@@ -18,7 +18,8 @@ use std::alloc::AllocError;
 /// How words of a run are altered.
 fn manner_of(case: &Case<'_>, run: u32) -> Manner {
     let commands = if run == 0 { case.commands() } else { 1 };
-    let added = if case.wanted.has(BlockBits::SYNC_TYPE_ERROR) && !case.style.adds_data {
+    let adds_data = case.style.adds_data || run == 0 && case.breaks_off();
+    let added = if case.wanted.has(BlockBits::SYNC_TYPE_ERROR) && !adds_data {
         Sync::CommandSync
     } else {
         Sync::DataSync
@@ -80,7 +81,10 @@ fn adds(explanation: &Explanation) -> bool {
 
 /// Makes a word of the controller odd as the block status word tells.
 pub(crate) fn mark_controller(explanation: &mut Explanation, case: &Case<'_>) {
-    let last = case.message().controller_count().saturating_sub(1);
+    let last = match case.guess.command_at {
+        Some(place) => place,
+        None => case.message().controller_count().saturating_sub(1),
+    };
     let front = usize::from(case.guess.is_headless);
     let place = if case.style.mark == Mark::First {
         front.min(last)
@@ -92,8 +96,11 @@ pub(crate) fn mark_controller(explanation: &mut Explanation, case: &Case<'_>) {
     if unsound {
         let _ = spoil(explanation, 0, place);
     }
-    if case.wanted.has(BlockBits::SYNC_TYPE_ERROR) && !adds(explanation) {
-        let other = if unsound {
+    let breaks_off = case.breaks_off();
+    if case.wanted.has(BlockBits::SYNC_TYPE_ERROR) && (breaks_off || !adds(explanation)) {
+        let other = if breaks_off {
+            last
+        } else if unsound {
             last.saturating_sub(place)
         } else {
             place
@@ -147,9 +154,11 @@ fn rejudge(
     if is_illegal == was_illegal || is_question(command) && !is_illegal {
         return Ok(false);
     }
-    if is_illegal && wanted.len() > 1 {
+    if is_illegal && wanted.len() > 1 || explanation.rejudged.as_slice().contains(&run) {
         return Ok(false);
     }
+    // There is room for both replies.
+    let _ = explanation.rejudged.try_push(run);
     explanation.act(command.address(), legality(command, is_illegal))?;
     Ok(true)
 }

@@ -1,10 +1,10 @@
 //! Which transfer between terminals a record may be of.
 
-use crate::guesses::{ALL, Guess, command, data_subaddress};
+use crate::guesses::{ALL, Guess, RESERVED, command, data_subaddress};
 use crate::wanted::Wanted;
 use mil_message::Message;
 use mil_status::BlockBits;
-use mil_word::Command;
+use mil_word::{Command, Status};
 
 /// The numbers of the forms of a transfer.
 const BETWEEN: u8 = 2;
@@ -35,7 +35,7 @@ fn between(ends: Ends) -> Option<Message> {
 }
 
 /// A terminal that may be the other end.
-fn other_end(address: u8) -> u8 {
+pub(crate) fn other_end(address: u8) -> u8 {
     if address == 0 { 1 } else { 0 }
 }
 
@@ -48,10 +48,17 @@ fn unknown_receiver(wanted: &Wanted, sender: u8) -> u8 {
     }
 }
 
-/// The ends that two commands have, with the count of the one or the other.
-fn both_ends(wanted: &Wanted, own: Command, second: Command, by_first: bool) -> Ends {
+/// The ends that two commands have, with the count of the one or the other. `altered`: the first of them was altered on
+/// the line, so that its address tells nothing.
+fn both_ends(
+    wanted: &Wanted,
+    own: Command,
+    second: Command,
+    by_first: bool,
+    altered: bool,
+) -> Ends {
     let sender = second.address().min(ALL - 1);
-    let receiver = if own.address() == sender {
+    let receiver = if altered || own.address() == sender {
         unknown_receiver(wanted, sender)
     } else {
         own.address()
@@ -85,14 +92,45 @@ fn one_end(wanted: &Wanted, which: u8) -> Ends {
     }
 }
 
+/// The place of the second command where words were added in front of it: its terminal replies behind it.
+fn later_command(wanted: &Wanted) -> Option<usize> {
+    if !wanted.came(1) {
+        return None;
+    }
+    for place in 2..wanted.count().saturating_sub(1) {
+        let command = Command::of(wanted.word(place));
+        let status = wanted.word(place.saturating_add(1));
+        let is_own = Status::of(status).address() == command.address();
+        if command.is_transmit() && !command.is_broadcast() && is_own && status & RESERVED == 0 {
+            return Some(place);
+        }
+    }
+    None
+}
+
+/// The ends that the first command and a later one have, and how many words are then the controller's.
+fn far_ends(wanted: &Wanted, own: Command, by_first: bool, altered: bool) -> Option<(Ends, usize)> {
+    let place = later_command(wanted)?;
+    let second = Command::of(wanted.word(place));
+    let ends = both_ends(wanted, own, second, by_first, altered);
+    Some((ends, place.saturating_add(1)))
+}
+
 /// A guess of a transfer between terminals.
 pub(crate) fn transfer(wanted: &Wanted, which: u8) -> Option<Guess> {
     let (own, second) = (Command::of(wanted.word(0)), Command::of(wanted.word(1)));
     let (ends, commands) = match which {
-        0 => (both_ends(wanted, own, second, false), 2),
-        1 => (both_ends(wanted, own, second, true), 2),
+        0 => (both_ends(wanted, own, second, false, false), 2),
+        1 => (both_ends(wanted, own, second, true, false), 2),
         2 | 3 => (one_end(wanted, which), 1),
-        4 => (both_ends(wanted, own, second, false), 3),
+        4 => (both_ends(wanted, own, second, false, false), 3),
+        5 => (both_ends(wanted, own, second, false, true), 2),
+        6 => (both_ends(wanted, own, second, true, true), 2),
+        7 => far_ends(wanted, own, false, false)?,
+        8 => far_ends(wanted, own, true, false)?,
+        9 => far_ends(wanted, own, false, true)?,
+        10 => far_ends(wanted, own, true, true)?,
+        11 if !wanted.came(2) => (both_ends(wanted, own, second, true, false), 2),
         _ => return None,
     };
     let message = between(ends)?;
@@ -103,5 +141,9 @@ pub(crate) fn transfer(wanted: &Wanted, which: u8) -> Option<Guess> {
     };
     let mut found = Guess::of(message, sent);
     found.is_headless = which == 2;
+    if which == 11 {
+        // The sender heard another count than the receiver.
+        found.heard = Some(second.value());
+    }
     Some(found)
 }

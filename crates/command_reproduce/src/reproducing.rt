@@ -157,6 +157,9 @@ fn channel_of<'a, R: Files + AllocGlobal + Clock, E: Eprint + IsTerminal>(
         return Ok(channel);
     }
     match find_channel(recording.alloc(), reopened(recording, name)?) {
+        Ok(Found::One(0)) => Err(Fault::Usage(
+            "this recording has messages of channel 0 alone: the channels of jobs are 1 to 65535",
+        )),
         Ok(Found::One(channel)) => Ok(channel),
         Ok(Found::None) => Err(Fault::NoneSelected),
         Ok(Found::Several) => Err(Fault::Usage(
