@@ -61,24 +61,72 @@ same('the least and the greatest', series.range(0, 3), [-5, 1]);
 const values = [...Array(200).keys()].map((k) => [k, String(k)]);
 const many = new Series({ name: 's', named: false, unit: '' }, 1, values);
 same('of many', many.range(3, 190), [3, 189]);
-same('changes', [...new Series({}, 1, [[1, 'a'], [2, 'a'], [3, 'b']]).runs], [0, 2]);
+const named = new Series({ named: true }, 1, [[1, 'a'], [2, 'a'], [3, 'b'], [4, 'a']]);
+same('changes', [...named.runs], [0, 2, 3]);
+same('names', [...named.names], [['a', 0], ['b', 1]]);
+
+// Colours (WCAG 2: text stands out from what is behind it by 4.5 at least, a bar or a line by 3).
+function brightness(color) {
+  const part = (at) => parseInt(color.slice(at, at + 2), 16) / 255;
+  const linear = (v) => (v <= 0.03928 ? v / 12.92 : ((v + 0.055) / 1.055) ** 2.4);
+  return 0.2126 * linear(part(1)) + 0.7152 * linear(part(3)) + 0.0722 * linear(part(5));
+}
+function contrast(one, other) {
+  const [low, high] = [brightness(colors[one]), brightness(colors[other])].sort((a, b) => a - b);
+  return (high + 0.05) / (low + 0.05);
+}
+const TEXTS = ['ink panel', 'ink page', 'ink chosen', 'soft panel', 'soft page', 'soft chosen', 'error panel',
+  'error chosen', 'inbar command', 'inbar data', 'inbar status'];
+const MARKS = ['command panel', 'data panel', 'status panel', 'loaded panel', 'match load', 'frame panel', 'plot panel',
+  'error hover', 'command hover', 'accent panel'];
+for (const theme of ['dark', 'light']) {
+  setTheme(theme);
+  const faint = (pairs, least) => pairs.filter((pair) => contrast(...pair.split(' ')) < least);
+  same(`what is faint in ${theme}`, [faint(TEXTS, 4.5), faint(MARKS, 3)], [[], []]);
+}
 
 // The page.
+same('percent', [percentText(0), percentText(0.0004), percentText(0.526)], ['0.0 %', '< 0.1 %', '52.6 %']);
 same('the step of an axis', [stepOf(1000, 1000), stepOf(7000, 1000)], [100, 1000]);
 same('messages', data.count, 400 + 30);
+show(29000000, 33000000);
 nextError(1);
-same('the first error', data.number[seen.chosen], Number(data.number[data.errors[0]]));
-const first = seen.chosen;
+same('the first error of what is seen', data.number[seen.chosen], 301);
 nextError(1);
+same('the next', data.number[seen.chosen], 303);
 nextError(-1);
-same('the error before', seen.chosen, first);
+same('the error before', data.number[seen.chosen], 301);
+show(31450000, 31550000);
+nextError(1);
+same('the next where the chosen one is not seen', data.number[seen.chosen], 331);
+show(31450000, 31550000);
+nextError(-1);
+same('the one before that', data.number[seen.chosen], 331 - 2);
 same('a message by its number', goTo('17') && data.number[seen.chosen], 17);
 same('a time', goTo('3.1s') && Math.round((seen.from + seen.to) / 2), 31000000);
+// (message 321 begins then: 300 messages up to 3 s, and two in each of ten frames; its place is 320)
+same('the list at a time', byId('row320') !== null, true);
 same('neither', goTo('x'), false);
+say('one');
+say('another');
+same('said', byId('said').textContent, 'another');
 readAddress('#t=2s&w=10ms&m=5');
 same('an address', [Math.round(seen.from), Math.round(seen.to), data.number[seen.chosen]], [19950000, 20050000, 5]);
 same('the address of what is seen', addressText(), 't=2s&w=0.01s&m=5');
 same('options', optionsText(), '--from 1.995s --to 2.005s');
+same('the time of the message that is chosen is not seen', toldTime(), seen.to);
+seen.cursor = GUTTER;
+same('the time at the mouse', toldTime(), seen.from);
+seen.cursor = null;
+choose(placeOf(301));
+same('the time of the message that is chosen', toldTime(), 30000000);
+draw();
+same('as wide as its place', canvasSize.width, byId('lanes').clientWidth);
+showTip(toX(30000000), canvasSize.height - 1);
+same('no tip where no message is', byId('tip').hidden, true);
+showTip(toX(30000000), OVERVIEW + AXIS + LANE - 2);
+same('a tip', byId('tip').textContent.split('\n')[0], '301  tx 5 2 2');
+same('the lanes hold the tip in no bar', byId('lanes').scrollHeight, byId('lanes').clientHeight);
 byId('byError').checked = true;
 filter();
 same('a filter', list.size(), 30);

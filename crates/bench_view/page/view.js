@@ -476,6 +476,10 @@ class Series {
     this.begin = Float64Array.from(points, (point) => point[0]);
     this.value = Float64Array.from(this.texts, (text) => (text === '' ? NaN : Number(text)));
     this.runs = Uint32Array.from(this.texts.keys()).filter((k) => k === 0 || this.texts[k] !== this.texts[k - 1]);
+    this.names = new Map();
+    for (const k of signal.named ? this.runs : []) {
+      if (!this.names.has(this.texts[k])) this.names.set(this.texts[k], this.names.size);
+    }
     this.low = new Float64Array(Math.ceil(count / 16)).fill(Infinity);
     this.high = new Float64Array(Math.ceil(count / 16)).fill(-Infinity);
     for (let k = 0; k < count; k++) {
@@ -560,7 +564,7 @@ const LANE = 46;
 const ROW = 15;
 const PLOT = 58;
 
-// What is seen: a span of time, a message that is chosen, where the mouse is, and how the lanes are.
+// What is seen: a span of time, a message that is chosen, where in x the mouse is, and how the lanes are.
 const seen = { from: 0, to: 1, chosen: -1, cursor: null, mode: 'lines', matches: null, drawn: null };
 let data = null, colors = {};
 
@@ -587,22 +591,30 @@ const toX = (time) => GUTTER + (time - seen.from) / (seen.to - seen.from) * (can
 const toTime = (x) => seen.from + (x - GUTTER) / (canvasSize.width - GUTTER) * (seen.to - seen.from);
 const canvasSize = { width: 1000, height: 300, ratio: 1 };
 
+// The time whose values are told: at the mouse, else at the chosen message, else at the end of what is seen.
+function toldTime() {
+  if (seen.cursor !== null) return toTime(seen.cursor);
+  const begin = seen.chosen >= 0 ? data.begin[seen.chosen] : NaN;
+  return begin >= seen.from && begin <= seen.to ? begin : seen.to;
+}
+
 function readColors() {
   const style = getComputedStyle(document.documentElement);
   for (const name of ['page', 'panel', 'ink', 'soft', 'rule', 'accent', 'chosen', 'load', 'loaded', 'match', 'command',
-    'data', 'status', 'error', 'errorpale', 'frame', 'plot', 'inbar', 'hover']) {
+    'data', 'status', 'error', 'frame', 'plot', 'inbar', 'hover']) {
     colors[name] = style.getPropertyValue('--' + name).trim();
   }
 }
 
+// (the height comes first: with it the bar that scrolls the lanes comes or goes, and the width with that)
 function sizeCanvas() {
-  const canvas = byId('canvas'), width = byId('lanes').clientWidth, { height } = rowsOf();
-  const ratio = window.devicePixelRatio || 1;
+  const canvas = byId('canvas'), { height } = rowsOf(), ratio = window.devicePixelRatio || 1;
+  canvas.style.height = height + 'px';
+  const width = byId('lanes').clientWidth;
   if (canvasSize.width !== width) overview = null;
   Object.assign(canvasSize, { width, height, ratio });
   canvas.width = Math.round(width * ratio);
   canvas.height = Math.round(height * ratio);
-  canvas.style.height = height + 'px';
 }
 
 // Draws anew with the next picture of the screen.
@@ -614,6 +626,7 @@ function redraw() {
 }
 
 function draw() {
+  if (byId('lanes').clientWidth !== canvasSize.width) sizeCanvas();
   const pen = byId('canvas').getContext('2d');
   pen.setTransform(canvasSize.ratio, 0, 0, canvasSize.ratio, 0, 0);
   pen.clearRect(0, 0, canvasSize.width, canvasSize.height);
@@ -692,7 +705,8 @@ function drawAxis(pen, row) {
     const x = Math.round(toX(tick)) + 0.5;
     pen.moveTo(x, row.top + AXIS - 3);
     pen.lineTo(x, canvasSize.height);
-    write(pen, String(+(tick / size).toFixed(4)), x, y, colors.soft, SMALL, 'center');
+    const text = String(+(tick / size).toFixed(4)), half = pen.measureText(text).width / 2;
+    if (x + half < canvasSize.width) write(pen, text, x, y, colors.soft, SMALL, 'center');
   }
   pen.stroke();
 }
@@ -753,11 +767,14 @@ function drawLane(pen, row) {
   if (clear) drawMessages(pen, row, from, to); else drawLoad(pen, row, columns);
   drawErrors(pen, row, columns.errors);
   pen.restore();
-  const load = count ? `${(100 * track.load(seen.from, seen.to)).toFixed(1)} %` : '';
+  const load = count ? percentText(track.load(seen.from, seen.to)) : '';
   const frames = channel.frames ? `frames of ${lengthText(channel.frames.period)}` : '';
   drawLabel(pen, row, [line ? '' : channelText(channel), `line ${line ? 'B' : 'A'}   ${load}`,
     line ? '' : channel.name || frames, line && channel.name ? frames : '']);
 }
+
+// A part of the time in percent; one that is not none is never shown as 0.
+const percentText = (part) => (part > 0 && part < 0.0005 ? '< 0.1 %' : `${(100 * part).toFixed(1)} %`);
 
 // The load of a lane in steps of two pixels, as a square root so that little is seen too; what a filter leaves is
 // darker.
@@ -801,14 +818,14 @@ function drawMessages(pen, row, from, to) {
       pen.fillStyle = colors.error;
       pen.fillRect(left, top + height, Math.max(3, right - left), 3);
     }
-    const label = `${data.number[i]}  ${shortForm(i)}`;
+    const label = `${data.number[i]}  ${shortForm(i)}`, bad = data.block[i] >> 12 & 1;
     if (left > free && right > GUTTER) {
-      const x = Math.max(left, GUTTER + 2);
+      const x = Math.max(left + (bad ? 4 : 0), GUTTER + 2);
       pen.font = SMALL;
       const end = x + pen.measureText(label).width;
       const next = k + 1 < to ? toX(row.track.begin[k + 1]) : Infinity;
-      if (end < next || right - left > end - x) {
-        write(pen, label, x, row.top + 12, data.block[i] >> 12 & 1 ? colors.error : colors.soft, SMALL);
+      if (end < canvasSize.width && (end < next || right - left > end - x)) {
+        write(pen, label, x, row.top + 12, bad ? colors.error : colors.soft, SMALL);
         free = end + 6;
       }
     }
@@ -838,8 +855,9 @@ function drawWords(pen, i, left, scale, top, height) {
     const isCommand = place < layout.commands, isData = place >= layout.start && place < layout.end;
     pen.fillStyle = isCommand ? colors.command : isData ? colors.data : colors.status;
     pen.fillRect(x, top, width, height);
-    if (width < 32) continue;
-    write(pen, hex(wordAt(data, i, place)), x + width / 2, top + height / 2, colors.inbar, CODE, 'center');
+    const from = Math.max(x, GUTTER), to = Math.min(x + width, canvasSize.width);
+    if (to - from < 32) continue;
+    write(pen, hex(wordAt(data, i, place)), (from + to) / 2, top + height / 2, colors.inbar, CODE, 'center');
   }
 }
 
@@ -895,7 +913,7 @@ function drawPlot(pen, row) {
   pen.clip();
   if (series.signal.named) drawBands(pen, row); else drawSteps(pen, row);
   pen.restore();
-  const k = series.at(seen.cursor === null ? seen.to : seen.cursor);
+  const k = series.at(toldTime());
   const value = k < 0 ? '-' : `${shortValue(series.texts[k])} ${series.signal.unit}`;
   const others = data.series.some((one) => one !== series && one.signal === series.signal);
   drawLabel(pen, row, [series.signal.name, value, others ? channelText(series) : '']);
@@ -963,9 +981,7 @@ function drawBands(pen, row) {
     if (right < drawn + 0.5) continue;
     drawn = right;
     const text = series.texts[runs[r]];
-    let hue = 0;
-    for (const letter of text) hue = (hue * 31 + letter.charCodeAt(0)) % 360;
-    pen.fillStyle = `hsl(${hue} 55% 50% / .28)`;
+    pen.fillStyle = `hsl(${(150 + series.names.get(text) * 137) % 360} 55% 50% / .28)`;
     pen.fillRect(left, row.top + 14, Math.max(1, right - left), PLOT - 28);
     pen.font = SMALL;
     if (right - left > pen.measureText(text).width + 8) {
@@ -993,12 +1009,13 @@ function drawCursor(pen, layout) {
     pen.globalAlpha = 1;
   }
   if (seen.cursor === null) return;
-  stroke(seen.cursor, colors.soft);
-  const day = dayText(data, seen.cursor, data.whole.count > 0 && data.ofDay[data.whole.places[0]]);
-  const text = `${optionText(data, seen.cursor)}${day ? `  ${day}` : ''}`;
+  const time = toTime(seen.cursor);
+  stroke(time, colors.soft);
+  const day = dayText(data, time, data.whole.count > 0 && data.ofDay[data.whole.places[0]]);
+  const text = `${optionText(data, time)}${day ? `  ${day}` : ''}`;
   pen.font = SMALL;
   const wide = pen.measureText(text).width + 12;
-  const x = Math.max(GUTTER, Math.min(canvasSize.width - wide, toX(seen.cursor) - wide / 2));
+  const x = Math.max(GUTTER, Math.min(canvasSize.width - wide, seen.cursor - wide / 2));
   pen.fillStyle = colors.ink;
   pen.fillRect(x, OVERVIEW + 1, wide, 18);
   write(pen, text, x + 6, OVERVIEW + 10, colors.panel, SMALL);
@@ -1012,6 +1029,7 @@ function show(from, to) {
   const middle = (from + to) / 2;
   seen.from = Math.min(Math.max(middle - span / 2, data.first - room), data.last + room - span);
   seen.to = seen.from + span;
+  byId('tip').hidden = true;
   redraw();
   keepAddress();
 }
@@ -1053,18 +1071,19 @@ function placeOf(number) {
   return Math.min(low, data.count - 1);
 }
 
-// Where in a list of places by time the chosen message or what is seen stands.
+// The next in a list of places by time, or the one before: from the chosen message where it is seen, else from where
+// what is seen begins or ends.
 function besideChosen(places, step) {
-  const now = seen.chosen >= 0 && !Number.isNaN(data.begin[seen.chosen]) ? data.begin[seen.chosen]
-    : (seen.from + seen.to) / 2;
-  const isBehind = (i) => data.begin[i] > now || data.begin[i] === now && i > seen.chosen;
+  const begin = seen.chosen >= 0 ? data.begin[seen.chosen] : NaN, isSeen = begin >= seen.from && begin <= seen.to;
+  const [now, chosen] = isSeen ? [begin, seen.chosen] : [step > 0 ? seen.from : seen.to, -1];
+  const isBehind = (i) => data.begin[i] > now || data.begin[i] === now && i > chosen;
   let low = 0, high = places.length;
   while (low < high) {
     const middle = low + high >> 1;
     if (isBehind(places[middle])) high = middle; else low = middle + 1;
   }
   if (step > 0) return low < places.length ? places[low] : -1;
-  const before = low - 1 >= 0 && places[low - 1] === seen.chosen ? low - 2 : low - 1;
+  const before = low - 1 >= 0 && places[low - 1] === chosen ? low - 2 : low - 1;
   return before >= 0 ? places[before] : -1;
 }
 function nextError(step) {
@@ -1090,12 +1109,19 @@ function readTime(text) {
   return Number(ticks - data.origin);
 }
 
+// Shows so many ticks about a time; the list goes there too.
+function showAbout(time, span) {
+  show(time - span / 2, time + span / 2);
+  const { places, count } = data.whole;
+  if (count) list.reveal(places[Math.min(data.whole.from(time), count - 1)]);
+  list.render();
+}
+
 // Goes to a time or to the message with a number; answers whether the text is either.
 function goTo(text) {
   const time = readTime(text);
   if (!Number.isNaN(time)) {
-    const span = Math.min(seen.to - seen.from, (data.last - data.first) / 10);
-    show(time - span / 2, time + span / 2);
+    showAbout(time, Math.min(seen.to - seen.from, (data.last - data.first) / 10));
     return true;
   }
   if (!/^\d+$/.test(text.trim())) return false;
@@ -1125,7 +1151,7 @@ function readAddress(text) {
   if (Number.isNaN(time)) return;
   const asked = readTime(parts.get('w') || '') + Number(data.origin);
   const width = Number.isNaN(asked) ? Math.min(SECOND, data.last - data.first) : asked;
-  show(time - width / 2, time + width / 2);
+  if (parts.has('m')) show(time - width / 2, time + width / 2); else showAbout(time, width);
 }
 
 // What is seen as options: times, or where stamps are times of day the numbers of the messages.
@@ -1176,12 +1202,14 @@ const list = {
     if (chosen) byId('table').setAttribute('aria-activedescendant', chosen.id);
     else byId('table').removeAttribute('aria-activedescendant');
   },
+  // Brings the row of a message into view: one beside the rows that are seen to their edge, another to the middle.
   reveal(i) {
     const scroll = byId('scroll'), row = this.rowOf(i), first = this.firstRow();
     const visible = Math.floor((scroll.clientHeight - 24) / ROW_HEIGHT);
     if (row >= first && row < first + visible) return;
     const rows = Math.max(1, this.size() - visible), most = Math.max(1, this.height() - scroll.clientHeight + 24);
-    scroll.scrollTop = Math.max(0, Math.min(1, (row - (row < first ? 0 : visible - 1)) / rows)) * most;
+    const beside = row === first - 1 || row === first + visible, edge = row < first ? 0 : visible - 1;
+    scroll.scrollTop = Math.max(0, Math.min(1, (row - (beside ? edge : visible >> 1)) / rows)) * most;
   },
   move(step) {
     const now = seen.chosen < 0 ? (step > 0 ? -1 : 0) : this.rowOf(seen.chosen);
@@ -1242,7 +1270,7 @@ function filter() {
     if (turn !== filtering) return;
     const to = Math.min(data.count, from + 20000);
     for (let i = from; i < to; i++) if (passes(asked, i)) { matches[i] = 1; places.push(i); }
-    if (to < data.count) { byId('matches').value = `${places.length} ..`; setTimeout(part, 0, to); return; }
+    if (to < data.count) { byId('matches').value = `${countText(places.length)} ..`; setTimeout(part, 0, to); return; }
     takeMatches(matches, Uint32Array.from(places));
   };
   part(0);
@@ -1253,7 +1281,7 @@ function takeMatches(matches, places) {
   for (const channel of data.channels) {
     for (const track of [...channel.lines, ...channel.terminals.map((one) => one.track)]) track.match(matches);
   }
-  byId('matches').value = places ? `${places.length} of ${data.count}` : '';
+  byId('matches').value = places ? `${countText(places.length)} of ${countText(data.count)}` : '';
   byId('scroll').scrollTop = 0;
   if (seen.chosen >= 0) list.reveal(seen.chosen);
   list.render();
@@ -1277,7 +1305,8 @@ function tableOf(rows, names) {
 }
 
 function commandText(word) {
-  const side = `terminal ${isBroadcast(word) ? '31 (all)' : addressOf(word)}, ${transmits(word) ? 'transmit' : 'receive'}`;
+  const called = isBroadcast(word) ? '31 (all)' : addressOf(word);
+  const side = `terminal ${called}, ${transmits(word) ? 'transmit' : 'receive'}`;
   if (isMode(word)) return `${side}, mode code ${codeOf(word)}: ${modeName(word)}`;
   return `${side}, subaddress ${subaddressOf(word)}, ${countOf(word)} word${countOf(word) > 1 ? 's' : ''}`;
 }
@@ -1321,17 +1350,26 @@ function showDetails(i) {
 }
 
 // ---------------------------------------------------------------------------------------------- the page
-function say(text) { byId('summary').textContent = text; setTimeout(summarize, 2500); }
+// Says something for a while.
+let saying = 0;
+function say(text) {
+  byId('said').textContent = text;
+  clearTimeout(saying);
+  saying = setTimeout(() => { byId('said').textContent = ''; }, 2500);
+}
+
+const countText = (count) => count.toLocaleString('en');
 
 function summarize() {
-  const text = (count) => count.toLocaleString('en');
-  const many = (count, name) => `${text(count)} ${name}${count === 1 ? '' : 's'}`;
+  const many = (count, name) => `${countText(count)} ${name}${count === 1 ? '' : 's'}`;
   const parts = [many(data.count, 'message'), many(data.channels.length, 'channel'), many(data.errors.length, 'error')];
   if (data.whole.count) parts.push(`${lengthText(data.last - data.first)} from ${optionText(data, data.first)}`);
   const day = data.whole.count ? dayText(data, data.first, data.ofDay[data.whole.places[0]]) : '';
   if (day) parts.push(day);
-  if (data.chosen > data.count) parts.push(`the first ${text(data.count)} of ${text(data.chosen)} that were chosen`);
-  byId('summary').textContent = parts.join(' \u00b7 ');
+  if (data.chosen > data.count) {
+    parts.push(`the first ${countText(data.count)} of ${countText(data.chosen)} that were chosen`);
+  }
+  byId('summary').textContent = parts.join('\u00a0\u00b7 ');
 }
 
 function fillFilter() {
@@ -1392,63 +1430,81 @@ function showTip(x, y) {
   const p = partsOf(data, i);
   tip.textContent = `${p.number}  ${p.form}\n${p.replies}${p.words ? `\n${p.words.trim().slice(0, 79)}` : ''}` +
     `${p.values ? `\n${p.values.trim().slice(0, 79)}` : ''}${p.names ? `\n${p.names.trim()}` : ''}`;
-  tip.style.left = Math.max(0, Math.min(x + 14, canvasSize.width - tip.offsetWidth - 8)) + 'px';
-  tip.style.top = y + 16 + 'px';
+  const box = byId('canvas').getBoundingClientRect(), below = box.top + y + 16;
+  const fits = below + tip.offsetHeight < window.innerHeight;
+  tip.style.left = box.left + Math.max(0, Math.min(x + 14, canvasSize.width - tip.offsetWidth - 8)) + 'px';
+  tip.style.top = (fits ? below : box.top + y - 10 - tip.offsetHeight) + 'px';
 }
 
-// Moving through time by mouse, pen and touch: one point drags, two zoom.
+// Moving through time by mouse, pen and touch: the time between the points stays there, so that one drags and two zoom.
 function watchPointers() {
   const canvas = byId('canvas'), points = new Map();
-  let start = null, moved = false;
+  let start = null, moved = false, held = null;
   const jumpTo = (x) => {
     const time = data.first + (x - GUTTER) / (canvasSize.width - GUTTER) * (data.last - data.first);
     const span = seen.to - seen.from;
     show(time - span / 2, time + span / 2);
   };
+  const between = () => {
+    const [one, other = one] = points.values();
+    return { x: (one.x + other.x) / 2, apart: Math.hypot(one.x - other.x, one.y - other.y) };
+  };
+  const hold = () => {
+    if (!points.size) return;
+    const { x, apart } = between();
+    held = { time: toTime(x), apart, scale: (seen.to - seen.from) / (canvasSize.width - GUTTER) };
+  };
+  const follow = () => {
+    const { x, apart } = between();
+    const scale = held.scale * (Math.min(apart, held.apart) > 8 ? held.apart / apart : 1);
+    const from = held.time - (x - GUTTER) * scale;
+    show(from, from + scale * (canvasSize.width - GUTTER));
+  };
   canvas.addEventListener('pointerdown', (event) => {
     const [x, y] = placeOfMouse(event);
-    points.set(event.pointerId, x);
+    byId('tip').hidden = true;
+    points.set(event.pointerId, { x, y });
     canvas.setPointerCapture(event.pointerId);
-    start = { x, y, from: seen.from, to: seen.to, over: event.shiftKey, overview: y < OVERVIEW };
-    moved = false;
+    start = { x, over: event.shiftKey, overview: y < OVERVIEW };
+    moved = points.size > 1;
+    hold();
     if (start.overview) jumpTo(x);
   });
   canvas.addEventListener('pointermove', (event) => {
     const [x, y] = placeOfMouse(event);
-    seen.cursor = x >= GUTTER && y > OVERVIEW ? toTime(x) : null;
+    seen.cursor = x >= GUTTER && y > OVERVIEW ? x : null;
     if (!points.has(event.pointerId)) { showTip(x, y); redraw(); return; }
-    byId('tip').hidden = true;
-    const before = points.get(event.pointerId), others = [...points].filter(([id]) => id !== event.pointerId);
-    points.set(event.pointerId, x);
-    if (others.length) {
-      const other = others[0][1], wide = Math.abs(x - other), was = Math.abs(before - other);
-      if (wide > 8 && was > 8) zoom(was / wide, toTime((x + other) / 2));
-      moved = true;
-      return;
-    }
+    points.set(event.pointerId, { x, y });
+    if (points.size > 1) { follow(); return; }
     if (Math.abs(x - start.x) > 3) moved = true;
     if (start.overview) { jumpTo(x); return; }
     if (start.over) { seen.drawn = [start.x, x]; redraw(); return; }
-    if (moved) {
-      const ticks = (start.x - x) / (canvasSize.width - GUTTER) * (start.to - start.from);
-      show(start.from + ticks, start.to + ticks);
-    }
+    if (moved) follow();
   });
   const release = (event) => {
     const [x, y] = placeOfMouse(event);
     points.delete(event.pointerId);
+    hold();
     if (seen.drawn) {
       const [from, to] = [...seen.drawn].sort((a, b) => a - b);
       seen.drawn = null;
       if (to - from > 4) show(toTime(from), toTime(to)); else redraw();
     } else if (!moved && event.type === 'pointerup' && start && !start.overview) {
       const i = messageAt(x, y);
-      if (i >= 0) choose(i);
+      if (i >= 0) { choose(i); showTip(x, y); }
     }
   };
   canvas.addEventListener('pointerup', release);
   canvas.addEventListener('pointercancel', release);
-  canvas.addEventListener('pointerleave', () => { seen.cursor = null; byId('tip').hidden = true; redraw(); });
+  // (where a finger has left, what it touched stays told)
+  canvas.addEventListener('pointerleave', (event) => {
+    seen.cursor = null;
+    if (event.pointerType !== 'touch') byId('tip').hidden = true;
+    redraw();
+  });
+  document.addEventListener('scroll', (event) => {
+    if (event.target !== byId('scroll')) byId('tip').hidden = true;
+  }, true);
   canvas.addEventListener('dblclick', (event) => zoom(0.25, toTime(placeOfMouse(event)[0])));
   canvas.addEventListener('wheel', (event) => {
     const [x] = placeOfMouse(event);

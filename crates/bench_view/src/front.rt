@@ -13,19 +13,17 @@ pub(crate) static FRONT: &str = "\
     \x20 color-scheme: light;\n\
     \x20 --page: #f6f7f9; --panel: #ffffff; --ink: #1b2330; --soft: #5d6878; --rule: #dfe3e9; --hover: #eef3fd;\
     \n\
-    \x20 --accent: #2460d8; --chosen: #dbe7ff; --load: #c9d9f8; --loaded: #7fa3ea; --match: #2460d8;\n\
-    \x20 --command: #2f66d0; --data: #8ea2bb; --status: #1f9467; --error: #d3261b; --errorpale: #fbe3e0; --frame\
-    : #b6bfcc;\n\
+    \x20 --accent: #2460d8; --chosen: #dbe7ff; --load: #c9d9f8; --loaded: #6b93e6; --match: #2460d8;\n\
+    \x20 --command: #2f66d0; --data: #64778f; --status: #18825a; --error: #c4211a; --frame: #8592a5;\n\
     \x20 --plot: #8a4bc9; --inbar: #ffffff;\n\
     }\n\
     :root[data-theme=\"dark\"] {\n\
     \x20 color-scheme: dark;\n\
     \x20 --page: #0f1318; --panel: #171c24; --ink: #e5e9f0; --soft: #9aa6b7; --rule: #2a323e; --hover: #1e2734;\
     \n\
-    \x20 --accent: #7eaaff; --chosen: #24385f; --load: #22345a; --loaded: #4a75c4; --match: #7eaaff;\n\
-    \x20 --command: #5b8df2; --data: #5c6c82; --status: #35b383; --error: #ff6a5c; --errorpale: #47211f; --frame\
-    : #465263;\n\
-    \x20 --plot: #c08bf5; --inbar: #ffffff;\n\
+    \x20 --accent: #7eaaff; --chosen: #22345a; --load: #22345a; --loaded: #4a75c4; --match: #7eaaff;\n\
+    \x20 --command: #5b8df2; --data: #8093ad; --status: #35b383; --error: #ff7366; --frame: #66758a;\n\
+    \x20 --plot: #c08bf5; --inbar: #0f1318;\n\
     }\n\
     * { box-sizing: border-box; }\n\
     html, body { height: 100%; margin: 0; }\n\
@@ -36,7 +34,7 @@ pub(crate) static FRONT: &str = "\
     [hidden] { display: none !important; }\n\
     header { display: flex; flex-wrap: wrap; align-items: center; gap: 4px 16px; padding: 8px 14px; }\n\
     h1 { font-size: 16px; font-weight: 650; margin: 0; overflow-wrap: anywhere; }\n\
-    #summary { color: var(--soft); margin: 0; flex: 1 1 240px; font-size: 13px; }\n\
+    #summary { color: var(--soft); margin: 0; flex: 1 1 240px; font-size: 13px; text-wrap: balance; }\n\
     .tools, .group { display: flex; align-items: center; }\n\
     .tools { gap: 6px 10px; flex-wrap: wrap; }\n\
     #jump { display: flex; align-items: center; gap: 6px; color: var(--soft); font-size: 13px; }\n\
@@ -60,8 +58,7 @@ pub(crate) static FRONT: &str = "\
     }\n\
     #canvas { display: block; width: 100%; cursor: crosshair; }\n\
     #tip {\n\
-    \x20 position: absolute; pointer-events: none; background: var(--ink); color: var(--panel); padding: 4px 8px\
-    ;\n\
+    \x20 position: fixed; pointer-events: none; background: var(--ink); color: var(--panel); padding: 4px 8px;\n\
     \x20 border-radius: 6px; font-size: 12px; white-space: pre; z-index: 2; max-width: 60ch; overflow: hidden;\n\
     }\n\
     main { flex: 1; min-height: 0; display: flex; }\n\
@@ -69,8 +66,8 @@ pub(crate) static FRONT: &str = "\
     #filter { display: flex; flex-wrap: wrap; gap: 6px; align-items: center; padding: 8px 14px; }\n\
     #filter label { font-size: 13px; display: flex; align-items: center; gap: 4px; }\n\
     #filter input[type=\"checkbox\"] { min-height: 0; accent-color: var(--error); }\n\
-    #byText { flex: 0 1 220px; }\n\
-    #matches { color: var(--soft); font-size: 13px; }\n\
+    #byText { flex: 1 1 130px; min-width: 0; max-width: 260px; }\n\
+    #matches { color: var(--soft); font-size: 13px; min-width: 118px; }\n\
     #scroll { position: relative; flex: 1; min-height: 120px; overflow: auto; background: var(--panel);\n\
     \x20 border-top: 1px solid var(--rule); }\n\
     #space { position: absolute; top: 0; left: 0; width: 1px; }\n\
@@ -80,7 +77,7 @@ pub(crate) static FRONT: &str = "\
     #table { position: relative; min-width: 100%; }\n\
     #table thead th { position: sticky; top: 0; z-index: 1; background: var(--page); color: var(--soft); font-we\
     ight: 600;\n\
-    \x20 text-align: left; padding: 0 10px; height: 24px; border-bottom: 1px solid var(--rule); }\n\
+    \x20 text-align: left; padding: 0 10px; height: 24px; box-shadow: inset 0 -1px var(--rule); }\n\
     #rows td { height: 22px; padding: 0 10px; }\n\
     #rows td:nth-child(-n+3), #table th:nth-child(-n+3) { text-align: right; }\n\
     #rows tr { cursor: pointer; }\n\
@@ -106,6 +103,12 @@ pub(crate) static FRONT: &str = "\
     #details .where { color: var(--soft); }\n\
     .role { display: inline-block; width: 9px; height: 9px; border-radius: 2px; margin-right: 6px; }\n\
     .hint { color: var(--soft); }\n\
+    #said {\n\
+    \x20 position: fixed; left: 50%; bottom: 18px; transform: translateX(-50%); z-index: 3; margin: 0; pointer-e\
+    vents: none;\n\
+    \x20 background: var(--ink); color: var(--panel); border-radius: 8px;\n\
+    }\n\
+    #said:not(:empty) { padding: 6px 14px; }\n\
     dialog { border: 1px solid var(--rule); border-radius: 12px; background: var(--panel); color: var(--ink);\n\
     \x20 padding: 18px 24px; }\n\
     dialog::backdrop { background: #0006; }\n\
@@ -124,20 +127,20 @@ pub(crate) static FRONT: &str = "\
     <body>\n\
     <header>\n\
     <h1 id=\"title\">Messages of a recording</h1>\n\
-    <p id=\"summary\" role=\"status\"></p>\n\
+    <p id=\"summary\"></p>\n\
     <div class=\"tools\">\n\
     <form id=\"jump\" role=\"search\">\n\
     <label for=\"goto\">Go to</label>\n\
     <input id=\"goto\" size=\"16\" placeholder=\"3.0s or 1234\" autocomplete=\"off\" spellcheck=\"false\">\n\
     </form>\n\
     <span class=\"group\" role=\"group\" aria-label=\"Errors\">\n\
-    <button id=\"before\" title=\"Error before (E)\">&#9664; error</button>\n\
-    <button id=\"next\" title=\"Next error (e)\">error &#9654;</button>\n\
+    <button id=\"before\" aria-label=\"error before\" title=\"Error before (E)\">&#9664; error</button>\n\
+    <button id=\"next\" aria-label=\"next error\" title=\"Next error (e)\">error &#9654;</button>\n\
     </span>\n\
     <span class=\"group\" role=\"group\" aria-label=\"Zoom\">\n\
-    <button id=\"out\" title=\"Zoom out (-)\">&#8722;</button>\n\
-    <button id=\"in\" title=\"Zoom in (+)\">+</button>\n\
-    <button id=\"all\" title=\"Whole recording (0)\">all</button>\n\
+    <button id=\"out\" aria-label=\"zoom out\" title=\"Zoom out (-)\">&#8722;</button>\n\
+    <button id=\"in\" aria-label=\"zoom in\" title=\"Zoom in (+)\">+</button>\n\
+    <button id=\"all\" aria-label=\"all: whole recording\" title=\"Whole recording (0)\">all</button>\n\
     </span>\n\
     <span class=\"group\" role=\"group\" aria-label=\"Lanes\">\n\
     <button id=\"lines\" aria-pressed=\"true\" title=\"Lanes by bus line (l)\">lines</button>\n\
@@ -145,8 +148,8 @@ pub(crate) static FRONT: &str = "\
     </span>\n\
     <span class=\"group\" role=\"group\" aria-label=\"Page\">\n\
     <button id=\"copy\" title=\"Copy what is seen as options --from and --to (c)\">copy options</button>\n\
-    <button id=\"theme\" title=\"Light or dark (t)\">&#9680;</button>\n\
-    <button id=\"help\" title=\"Keys (?)\" aria-haspopup=\"dialog\">?</button>\n\
+    <button id=\"theme\" aria-label=\"light or dark\" title=\"Light or dark (t)\">&#9680;</button>\n\
+    <button id=\"help\" aria-label=\"keys\" title=\"Keys (?)\" aria-haspopup=\"dialog\">?</button>\n\
     </span>\n\
     </div>\n\
     </header>\n\
@@ -164,8 +167,8 @@ pub(crate) static FRONT: &str = "\
     \n\
     <select id=\"byForm\" aria-label=\"Form\"><option value=\"\">all forms</option></select>\n\
     <label><input type=\"checkbox\" id=\"byError\"> errors</label>\n\
-    <input id=\"byText\" type=\"search\" placeholder=\"text, as 2C41 or busy\" aria-label=\"Text\" spellcheck=\"\
-    false\">\n\
+    <input id=\"byText\" type=\"search\" placeholder=\"text, as busy\" aria-label=\"Text\" spellcheck=\"false\">\
+    \n\
     <output id=\"matches\"></output>\n\
     </form>\n\
     <div id=\"scroll\" tabindex=\"-1\">\n\
@@ -181,10 +184,10 @@ pub(crate) static FRONT: &str = "\
     </table>\n\
     </div>\n\
     </section>\n\
-    <section id=\"details\" aria-label=\"Message decoded\" aria-live=\"polite\"><p class=\"hint\">Click a messag\
-    e, or go\n\
-    through them with the arrow keys.</p></section>\n\
+    <section id=\"details\" tabindex=\"0\" aria-label=\"Message decoded\" aria-live=\"polite\">\n\
+    <p class=\"hint\">Click a message, or go through them with the arrow keys.</p></section>\n\
     </main>\n\
+    <p id=\"said\" role=\"status\"></p>\n\
     <dialog id=\"keys\" aria-label=\"Keys\">\n\
     <h2>Keys</h2>\n\
     <dl>\n\

@@ -149,6 +149,10 @@ pub(crate) static SCRIPT_2: &str = "\
     \x20   this.value = Float64Array.from(this.texts, (text) => (text === '' ? NaN : Number(text)));\n\
     \x20   this.runs = Uint32Array.from(this.texts.keys()).filter((k) => k === 0 || this.texts[k] !== this.texts\
     [k - 1]);\n\
+    \x20   this.names = new Map();\n\
+    \x20   for (const k of signal.named ? this.runs : []) {\n\
+    \x20     if (!this.names.has(this.texts[k])) this.names.set(this.texts[k], this.names.size);\n\
+    \x20   }\n\
     \x20   this.low = new Float64Array(Math.ceil(count / 16)).fill(Infinity);\n\
     \x20   this.high = new Float64Array(Math.ceil(count / 16)).fill(-Infinity);\n\
     \x20   for (let k = 0; k < count; k++) {\n\
@@ -239,7 +243,7 @@ pub(crate) static SCRIPT_2: &str = "\
     const ROW = 15;\n\
     const PLOT = 58;\n\
     \n\
-    // What is seen: a span of time, a message that is chosen, where the mouse is, and how the lanes are.\n\
+    // What is seen: a span of time, a message that is chosen, where in x the mouse is, and how the lanes are.\n\
     const seen = { from: 0, to: 1, chosen: -1, cursor: null, mode: 'lines', matches: null, drawn: null };\n\
     let data = null, colors = {};\n\
     \n\
@@ -268,23 +272,32 @@ pub(crate) static SCRIPT_2: &str = "\
     const toTime = (x) => seen.from + (x - GUTTER) / (canvasSize.width - GUTTER) * (seen.to - seen.from);\n\
     const canvasSize = { width: 1000, height: 300, ratio: 1 };\n\
     \n\
+    // The time whose values are told: at the mouse, else at the chosen message, else at the end of what is seen\
+    .\n\
+    function toldTime() {\n\
+    \x20 if (seen.cursor !== null) return toTime(seen.cursor);\n\
+    \x20 const begin = seen.chosen >= 0 ? data.begin[seen.chosen] : NaN;\n\
+    \x20 return begin >= seen.from && begin <= seen.to ? begin : seen.to;\n\
+    }\n\
+    \n\
     function readColors() {\n\
     \x20 const style = getComputedStyle(document.documentElement);\n\
     \x20 for (const name of ['page', 'panel', 'ink', 'soft', 'rule', 'accent', 'chosen', 'load', 'loaded', 'matc\
     h', 'command',\n\
-    \x20   'data', 'status', 'error', 'errorpale', 'frame', 'plot', 'inbar', 'hover']) {\n\
+    \x20   'data', 'status', 'error', 'frame', 'plot', 'inbar', 'hover']) {\n\
     \x20   colors[name] = style.getPropertyValue('--' + name).trim();\n\
     \x20 }\n\
     }\n\
     \n\
+    // (the height comes first: with it the bar that scrolls the lanes comes or goes, and the width with that)\n\
     function sizeCanvas() {\n\
-    \x20 const canvas = byId('canvas'), width = byId('lanes').clientWidth, { height } = rowsOf();\n\
-    \x20 const ratio = window.devicePixelRatio || 1;\n\
+    \x20 const canvas = byId('canvas'), { height } = rowsOf(), ratio = window.devicePixelRatio || 1;\n\
+    \x20 canvas.style.height = height + 'px';\n\
+    \x20 const width = byId('lanes').clientWidth;\n\
     \x20 if (canvasSize.width !== width) overview = null;\n\
     \x20 Object.assign(canvasSize, { width, height, ratio });\n\
     \x20 canvas.width = Math.round(width * ratio);\n\
     \x20 canvas.height = Math.round(height * ratio);\n\
-    \x20 canvas.style.height = height + 'px';\n\
     }\n\
     \n\
     // Draws anew with the next picture of the screen.\n\
@@ -296,6 +309,7 @@ pub(crate) static SCRIPT_2: &str = "\
     }\n\
     \n\
     function draw() {\n\
+    \x20 if (byId('lanes').clientWidth !== canvasSize.width) sizeCanvas();\n\
     \x20 const pen = byId('canvas').getContext('2d');\n\
     \x20 pen.setTransform(canvasSize.ratio, 0, 0, canvasSize.ratio, 0, 0);\n\
     \x20 pen.clearRect(0, 0, canvasSize.width, canvasSize.height);\n\
@@ -367,18 +381,4 @@ pub(crate) static SCRIPT_2: &str = "\
     function drawAxis(pen, row) {\n\
     \x20 const step = stepOf(seen.to - seen.from, canvasSize.width - GUTTER), y = row.top + AXIS - 9;\n\
     \x20 const [unit, size] = step >= 1e6 ? ['s', SECOND] : step >= 1e3 ? ['ms', 1e4] : ['\\u00b5s', 10];\n\
-    \x20 write(pen, data.origin || data.whole.count && data.ofDay[data.whole.places[0]] ? `${unit}, from the beg\
-    in` : unit,\n\
-    \x20   12, y, colors.soft, SMALL);\n\
-    \x20 // (of stamps that are times of day the axis counts from the first)\n\
-    \x20 pen.strokeStyle = colors.rule;\n\
-    \x20 pen.beginPath();\n\
-    \x20 for (let tick = Math.ceil(seen.from / step) * step; tick <= seen.to; tick += step) {\n\
-    \x20   const x = Math.round(toX(tick)) + 0.5;\n\
-    \x20   pen.moveTo(x, row.top + AXIS - 3);\n\
-    \x20   pen.lineTo(x, canvasSize.height);\n\
-    \x20   write(pen, String(+(tick / size).toFixed(4)), x, y, colors.soft, SMALL, 'center');\n\
-    \x20 }\n\
-    \x20 pen.stroke();\n\
-    }\n\
     ";

@@ -1,6 +1,21 @@
 //! Part 3 of what stands behind the data of a page: its script. `page/make` makes it.
 
 pub(crate) static SCRIPT_3: &str = "\
+    \x20 write(pen, data.origin || data.whole.count && data.ofDay[data.whole.places[0]] ? `${unit}, from the beg\
+    in` : unit,\n\
+    \x20   12, y, colors.soft, SMALL);\n\
+    \x20 // (of stamps that are times of day the axis counts from the first)\n\
+    \x20 pen.strokeStyle = colors.rule;\n\
+    \x20 pen.beginPath();\n\
+    \x20 for (let tick = Math.ceil(seen.from / step) * step; tick <= seen.to; tick += step) {\n\
+    \x20   const x = Math.round(toX(tick)) + 0.5;\n\
+    \x20   pen.moveTo(x, row.top + AXIS - 3);\n\
+    \x20   pen.lineTo(x, canvasSize.height);\n\
+    \x20   const text = String(+(tick / size).toFixed(4)), half = pen.measureText(text).width / 2;\n\
+    \x20   if (x + half < canvasSize.width) write(pen, text, x, y, colors.soft, SMALL, 'center');\n\
+    \x20 }\n\
+    \x20 pen.stroke();\n\
+    }\n\
     \n\
     // What stands left of a row: a title, and lines below it; an empty one takes no room.\n\
     function drawLabel(pen, row, texts) {\n\
@@ -59,11 +74,14 @@ pub(crate) static SCRIPT_3: &str = "\
     \x20 if (clear) drawMessages(pen, row, from, to); else drawLoad(pen, row, columns);\n\
     \x20 drawErrors(pen, row, columns.errors);\n\
     \x20 pen.restore();\n\
-    \x20 const load = count ? `${(100 * track.load(seen.from, seen.to)).toFixed(1)} %` : '';\n\
+    \x20 const load = count ? percentText(track.load(seen.from, seen.to)) : '';\n\
     \x20 const frames = channel.frames ? `frames of ${lengthText(channel.frames.period)}` : '';\n\
     \x20 drawLabel(pen, row, [line ? '' : channelText(channel), `line ${line ? 'B' : 'A'}   ${load}`,\n\
     \x20   line ? '' : channel.name || frames, line && channel.name ? frames : '']);\n\
     }\n\
+    \n\
+    // A part of the time in percent; one that is not none is never shown as 0.\n\
+    const percentText = (part) => (part > 0 && part < 0.0005 ? '< 0.1 %' : `${(100 * part).toFixed(1)} %`);\n\
     \n\
     // The load of a lane in steps of two pixels, as a square root so that little is seen too; what a filter lea\
     ves is\n\
@@ -110,15 +128,14 @@ pub(crate) static SCRIPT_3: &str = "\
     \x20     pen.fillStyle = colors.error;\n\
     \x20     pen.fillRect(left, top + height, Math.max(3, right - left), 3);\n\
     \x20   }\n\
-    \x20   const label = `${data.number[i]}  ${shortForm(i)}`;\n\
+    \x20   const label = `${data.number[i]}  ${shortForm(i)}`, bad = data.block[i] >> 12 & 1;\n\
     \x20   if (left > free && right > GUTTER) {\n\
-    \x20     const x = Math.max(left, GUTTER + 2);\n\
+    \x20     const x = Math.max(left + (bad ? 4 : 0), GUTTER + 2);\n\
     \x20     pen.font = SMALL;\n\
     \x20     const end = x + pen.measureText(label).width;\n\
     \x20     const next = k + 1 < to ? toX(row.track.begin[k + 1]) : Infinity;\n\
-    \x20     if (end < next || right - left > end - x) {\n\
-    \x20       write(pen, label, x, row.top + 12, data.block[i] >> 12 & 1 ? colors.error : colors.soft, SMALL);\
-    \n\
+    \x20     if (end < canvasSize.width && (end < next || right - left > end - x)) {\n\
+    \x20       write(pen, label, x, row.top + 12, bad ? colors.error : colors.soft, SMALL);\n\
     \x20       free = end + 6;\n\
     \x20     }\n\
     \x20   }\n\
@@ -151,9 +168,10 @@ pub(crate) static SCRIPT_3: &str = "\
     \x20   const isCommand = place < layout.commands, isData = place >= layout.start && place < layout.end;\n\
     \x20   pen.fillStyle = isCommand ? colors.command : isData ? colors.data : colors.status;\n\
     \x20   pen.fillRect(x, top, width, height);\n\
-    \x20   if (width < 32) continue;\n\
-    \x20   write(pen, hex(wordAt(data, i, place)), x + width / 2, top + height / 2, colors.inbar, CODE, 'center'\
-    );\n\
+    \x20   const from = Math.max(x, GUTTER), to = Math.min(x + width, canvasSize.width);\n\
+    \x20   if (to - from < 32) continue;\n\
+    \x20   write(pen, hex(wordAt(data, i, place)), (from + to) / 2, top + height / 2, colors.inbar, CODE, 'cente\
+    r');\n\
     \x20 }\n\
     }\n\
     \n\
@@ -210,7 +228,7 @@ pub(crate) static SCRIPT_3: &str = "\
     \x20 pen.clip();\n\
     \x20 if (series.signal.named) drawBands(pen, row); else drawSteps(pen, row);\n\
     \x20 pen.restore();\n\
-    \x20 const k = series.at(seen.cursor === null ? seen.to : seen.cursor);\n\
+    \x20 const k = series.at(toldTime());\n\
     \x20 const value = k < 0 ? '-' : `${shortValue(series.texts[k])} ${series.signal.unit}`;\n\
     \x20 const others = data.series.some((one) => one !== series && one.signal === series.signal);\n\
     \x20 drawLabel(pen, row, [series.signal.name, value, others ? channelText(series) : '']);\n\
@@ -280,9 +298,7 @@ pub(crate) static SCRIPT_3: &str = "\
     \x20   if (right < drawn + 0.5) continue;\n\
     \x20   drawn = right;\n\
     \x20   const text = series.texts[runs[r]];\n\
-    \x20   let hue = 0;\n\
-    \x20   for (const letter of text) hue = (hue * 31 + letter.charCodeAt(0)) % 360;\n\
-    \x20   pen.fillStyle = `hsl(${hue} 55% 50% / .28)`;\n\
+    \x20   pen.fillStyle = `hsl(${(150 + series.names.get(text) * 137) % 360} 55% 50% / .28)`;\n\
     \x20   pen.fillRect(left, row.top + 14, Math.max(1, right - left), PLOT - 28);\n\
     \x20   pen.font = SMALL;\n\
     \x20   if (right - left > pen.measureText(text).width + 8) {\n\
@@ -310,12 +326,13 @@ pub(crate) static SCRIPT_3: &str = "\
     \x20   pen.globalAlpha = 1;\n\
     \x20 }\n\
     \x20 if (seen.cursor === null) return;\n\
-    \x20 stroke(seen.cursor, colors.soft);\n\
-    \x20 const day = dayText(data, seen.cursor, data.whole.count > 0 && data.ofDay[data.whole.places[0]]);\n\
-    \x20 const text = `${optionText(data, seen.cursor)}${day ? `  ${day}` : ''}`;\n\
+    \x20 const time = toTime(seen.cursor);\n\
+    \x20 stroke(time, colors.soft);\n\
+    \x20 const day = dayText(data, time, data.whole.count > 0 && data.ofDay[data.whole.places[0]]);\n\
+    \x20 const text = `${optionText(data, time)}${day ? `  ${day}` : ''}`;\n\
     \x20 pen.font = SMALL;\n\
     \x20 const wide = pen.measureText(text).width + 12;\n\
-    \x20 const x = Math.max(GUTTER, Math.min(canvasSize.width - wide, toX(seen.cursor) - wide / 2));\n\
+    \x20 const x = Math.max(GUTTER, Math.min(canvasSize.width - wide, seen.cursor - wide / 2));\n\
     \x20 pen.fillStyle = colors.ink;\n\
     \x20 pen.fillRect(x, OVERVIEW + 1, wide, 18);\n\
     \x20 write(pen, text, x + 6, OVERVIEW + 10, colors.panel, SMALL);\n\
@@ -330,6 +347,7 @@ pub(crate) static SCRIPT_3: &str = "\
     \x20 const middle = (from + to) / 2;\n\
     \x20 seen.from = Math.min(Math.max(middle - span / 2, data.first - room), data.last + room - span);\n\
     \x20 seen.to = seen.from + span;\n\
+    \x20 byId('tip').hidden = true;\n\
     \x20 redraw();\n\
     \x20 keepAddress();\n\
     }\n\
@@ -363,22 +381,4 @@ pub(crate) static SCRIPT_3: &str = "\
     \x20 keepAddress();\n\
     }\n\
     \n\
-    // The place of the message with a number of the file, or of the next one.\n\
-    function placeOf(number) {\n\
-    \x20 let low = 0, high = data.count;\n\
-    \x20 while (low < high) {\n\
-    \x20   const middle = low + high >> 1;\n\
-    \x20   if (data.number[middle] < number) low = middle + 1; else high = middle;\n\
-    \x20 }\n\
-    \x20 return Math.min(low, data.count - 1);\n\
-    }\n\
-    \n\
-    // Where in a list of places by time the chosen message or what is seen stands.\n\
-    function besideChosen(places, step) {\n\
-    \x20 const now = seen.chosen >= 0 && !Number.isNaN(data.begin[seen.chosen]) ? data.begin[seen.chosen]\n\
-    \x20   : (seen.from + seen.to) / 2;\n\
-    \x20 const isBehind = (i) => data.begin[i] > now || data.begin[i] === now && i > seen.chosen;\n\
-    \x20 let low = 0, high = places.length;\n\
-    \x20 while (low < high) {\n\
-    \x20   const middle = low + high >> 1;\n\
     ";

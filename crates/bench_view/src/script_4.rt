@@ -1,10 +1,31 @@
 //! Part 4 of what stands behind the data of a page: its script. `page/make` makes it.
 
 pub(crate) static SCRIPT_4: &str = "\
+    // The place of the message with a number of the file, or of the next one.\n\
+    function placeOf(number) {\n\
+    \x20 let low = 0, high = data.count;\n\
+    \x20 while (low < high) {\n\
+    \x20   const middle = low + high >> 1;\n\
+    \x20   if (data.number[middle] < number) low = middle + 1; else high = middle;\n\
+    \x20 }\n\
+    \x20 return Math.min(low, data.count - 1);\n\
+    }\n\
+    \n\
+    // The next in a list of places by time, or the one before: from the chosen message where it is seen, else f\
+    rom where\n\
+    // what is seen begins or ends.\n\
+    function besideChosen(places, step) {\n\
+    \x20 const begin = seen.chosen >= 0 ? data.begin[seen.chosen] : NaN, isSeen = begin >= seen.from && begin <=\
+    \x20seen.to;\n\
+    \x20 const [now, chosen] = isSeen ? [begin, seen.chosen] : [step > 0 ? seen.from : seen.to, -1];\n\
+    \x20 const isBehind = (i) => data.begin[i] > now || data.begin[i] === now && i > chosen;\n\
+    \x20 let low = 0, high = places.length;\n\
+    \x20 while (low < high) {\n\
+    \x20   const middle = low + high >> 1;\n\
     \x20   if (isBehind(places[middle])) high = middle; else low = middle + 1;\n\
     \x20 }\n\
     \x20 if (step > 0) return low < places.length ? places[low] : -1;\n\
-    \x20 const before = low - 1 >= 0 && places[low - 1] === seen.chosen ? low - 2 : low - 1;\n\
+    \x20 const before = low - 1 >= 0 && places[low - 1] === chosen ? low - 2 : low - 1;\n\
     \x20 return before >= 0 ? places[before] : -1;\n\
     }\n\
     function nextError(step) {\n\
@@ -30,12 +51,19 @@ pub(crate) static SCRIPT_4: &str = "\
     \x20 return Number(ticks - data.origin);\n\
     }\n\
     \n\
+    // Shows so many ticks about a time; the list goes there too.\n\
+    function showAbout(time, span) {\n\
+    \x20 show(time - span / 2, time + span / 2);\n\
+    \x20 const { places, count } = data.whole;\n\
+    \x20 if (count) list.reveal(places[Math.min(data.whole.from(time), count - 1)]);\n\
+    \x20 list.render();\n\
+    }\n\
+    \n\
     // Goes to a time or to the message with a number; answers whether the text is either.\n\
     function goTo(text) {\n\
     \x20 const time = readTime(text);\n\
     \x20 if (!Number.isNaN(time)) {\n\
-    \x20   const span = Math.min(seen.to - seen.from, (data.last - data.first) / 10);\n\
-    \x20   show(time - span / 2, time + span / 2);\n\
+    \x20   showAbout(time, Math.min(seen.to - seen.from, (data.last - data.first) / 10));\n\
     \x20   return true;\n\
     \x20 }\n\
     \x20 if (!/^\\d+$/.test(text.trim())) return false;\n\
@@ -65,7 +93,7 @@ pub(crate) static SCRIPT_4: &str = "\
     \x20 if (Number.isNaN(time)) return;\n\
     \x20 const asked = readTime(parts.get('w') || '') + Number(data.origin);\n\
     \x20 const width = Number.isNaN(asked) ? Math.min(SECOND, data.last - data.first) : asked;\n\
-    \x20 show(time - width / 2, time + width / 2);\n\
+    \x20 if (parts.has('m')) show(time - width / 2, time + width / 2); else showAbout(time, width);\n\
     }\n\
     \n\
     // What is seen as options: times, or where stamps are times of day the numbers of the messages.\n\
@@ -118,13 +146,16 @@ pub(crate) static SCRIPT_4: &str = "\
     \x20   if (chosen) byId('table').setAttribute('aria-activedescendant', chosen.id);\n\
     \x20   else byId('table').removeAttribute('aria-activedescendant');\n\
     \x20 },\n\
+    \x20 // Brings the row of a message into view: one beside the rows that are seen to their edge, another to t\
+    he middle.\n\
     \x20 reveal(i) {\n\
     \x20   const scroll = byId('scroll'), row = this.rowOf(i), first = this.firstRow();\n\
     \x20   const visible = Math.floor((scroll.clientHeight - 24) / ROW_HEIGHT);\n\
     \x20   if (row >= first && row < first + visible) return;\n\
     \x20   const rows = Math.max(1, this.size() - visible), most = Math.max(1, this.height() - scroll.clientHeig\
     ht + 24);\n\
-    \x20   scroll.scrollTop = Math.max(0, Math.min(1, (row - (row < first ? 0 : visible - 1)) / rows)) * most;\n\
+    \x20   const beside = row === first - 1 || row === first + visible, edge = row < first ? 0 : visible - 1;\n\
+    \x20   scroll.scrollTop = Math.max(0, Math.min(1, (row - (beside ? edge : visible >> 1)) / rows)) * most;\n\
     \x20 },\n\
     \x20 move(step) {\n\
     \x20   const now = seen.chosen < 0 ? (step > 0 ? -1 : 0) : this.rowOf(seen.chosen);\n\
@@ -189,8 +220,8 @@ pub(crate) static SCRIPT_4: &str = "\
     \x20   if (turn !== filtering) return;\n\
     \x20   const to = Math.min(data.count, from + 20000);\n\
     \x20   for (let i = from; i < to; i++) if (passes(asked, i)) { matches[i] = 1; places.push(i); }\n\
-    \x20   if (to < data.count) { byId('matches').value = `${places.length} ..`; setTimeout(part, 0, to); return\
-    ; }\n\
+    \x20   if (to < data.count) { byId('matches').value = `${countText(places.length)} ..`; setTimeout(part, 0, \
+    to); return; }\n\
     \x20   takeMatches(matches, Uint32Array.from(places));\n\
     \x20 };\n\
     \x20 part(0);\n\
@@ -202,7 +233,7 @@ pub(crate) static SCRIPT_4: &str = "\
     \x20   for (const track of [...channel.lines, ...channel.terminals.map((one) => one.track)]) track.match(mat\
     ches);\n\
     \x20 }\n\
-    \x20 byId('matches').value = places ? `${places.length} of ${data.count}` : '';\n\
+    \x20 byId('matches').value = places ? `${countText(places.length)} of ${countText(data.count)}` : '';\n\
     \x20 byId('scroll').scrollTop = 0;\n\
     \x20 if (seen.chosen >= 0) list.reveal(seen.chosen);\n\
     \x20 list.render();\n\
@@ -227,8 +258,8 @@ pub(crate) static SCRIPT_4: &str = "\
     }\n\
     \n\
     function commandText(word) {\n\
-    \x20 const side = `terminal ${isBroadcast(word) ? '31 (all)' : addressOf(word)}, ${transmits(word) ? 'transm\
-    it' : 'receive'}`;\n\
+    \x20 const called = isBroadcast(word) ? '31 (all)' : addressOf(word);\n\
+    \x20 const side = `terminal ${called}, ${transmits(word) ? 'transmit' : 'receive'}`;\n\
     \x20 if (isMode(word)) return `${side}, mode code ${codeOf(word)}: ${modeName(word)}`;\n\
     \x20 return `${side}, subaddress ${subaddressOf(word)}, ${countOf(word)} word${countOf(word) > 1 ? 's' : ''}\
     `;\n\
@@ -275,20 +306,28 @@ pub(crate) static SCRIPT_4: &str = "\
     }\n\
     \n\
     // ---------------------------------------------------------------------------------------------- the page\n\
-    function say(text) { byId('summary').textContent = text; setTimeout(summarize, 2500); }\n\
+    // Says something for a while.\n\
+    let saying = 0;\n\
+    function say(text) {\n\
+    \x20 byId('said').textContent = text;\n\
+    \x20 clearTimeout(saying);\n\
+    \x20 saying = setTimeout(() => { byId('said').textContent = ''; }, 2500);\n\
+    }\n\
+    \n\
+    const countText = (count) => count.toLocaleString('en');\n\
     \n\
     function summarize() {\n\
-    \x20 const text = (count) => count.toLocaleString('en');\n\
-    \x20 const many = (count, name) => `${text(count)} ${name}${count === 1 ? '' : 's'}`;\n\
+    \x20 const many = (count, name) => `${countText(count)} ${name}${count === 1 ? '' : 's'}`;\n\
     \x20 const parts = [many(data.count, 'message'), many(data.channels.length, 'channel'), many(data.errors.len\
     gth, 'error')];\n\
     \x20 if (data.whole.count) parts.push(`${lengthText(data.last - data.first)} from ${optionText(data, data.fi\
     rst)}`);\n\
     \x20 const day = data.whole.count ? dayText(data, data.first, data.ofDay[data.whole.places[0]]) : '';\n\
     \x20 if (day) parts.push(day);\n\
-    \x20 if (data.chosen > data.count) parts.push(`the first ${text(data.count)} of ${text(data.chosen)} that we\
-    re chosen`);\n\
-    \x20 byId('summary').textContent = parts.join(' \\u00b7 ');\n\
+    \x20 if (data.chosen > data.count) {\n\
+    \x20   parts.push(`the first ${countText(data.count)} of ${countText(data.chosen)} that were chosen`);\n\
+    \x20 }\n\
+    \x20 byId('summary').textContent = parts.join('\\u00a0\\u00b7 ');\n\
     }\n\
     \n\
     function fillFilter() {\n\
@@ -342,43 +381,4 @@ pub(crate) static SCRIPT_4: &str = "\
     \n\
     function placeOfMouse(event) {\n\
     \x20 const box = byId('canvas').getBoundingClientRect();\n\
-    \x20 return [event.clientX - box.left, event.clientY - box.top];\n\
-    }\n\
-    \n\
-    function showTip(x, y) {\n\
-    \x20 const i = messageAt(x, y), tip = byId('tip');\n\
-    \x20 tip.hidden = i < 0;\n\
-    \x20 if (i < 0) return;\n\
-    \x20 const p = partsOf(data, i);\n\
-    \x20 tip.textContent = `${p.number}  ${p.form}\\n${p.replies}${p.words ? `\\n${p.words.trim().slice(0, 79)}`\
-    \x20: ''}` +\n\
-    \x20   `${p.values ? `\\n${p.values.trim().slice(0, 79)}` : ''}${p.names ? `\\n${p.names.trim()}` : ''}`;\n\
-    \x20 tip.style.left = Math.max(0, Math.min(x + 14, canvasSize.width - tip.offsetWidth - 8)) + 'px';\n\
-    \x20 tip.style.top = y + 16 + 'px';\n\
-    }\n\
-    \n\
-    // Moving through time by mouse, pen and touch: one point drags, two zoom.\n\
-    function watchPointers() {\n\
-    \x20 const canvas = byId('canvas'), points = new Map();\n\
-    \x20 let start = null, moved = false;\n\
-    \x20 const jumpTo = (x) => {\n\
-    \x20   const time = data.first + (x - GUTTER) / (canvasSize.width - GUTTER) * (data.last - data.first);\n\
-    \x20   const span = seen.to - seen.from;\n\
-    \x20   show(time - span / 2, time + span / 2);\n\
-    \x20 };\n\
-    \x20 canvas.addEventListener('pointerdown', (event) => {\n\
-    \x20   const [x, y] = placeOfMouse(event);\n\
-    \x20   points.set(event.pointerId, x);\n\
-    \x20   canvas.setPointerCapture(event.pointerId);\n\
-    \x20   start = { x, y, from: seen.from, to: seen.to, over: event.shiftKey, overview: y < OVERVIEW };\n\
-    \x20   moved = false;\n\
-    \x20   if (start.overview) jumpTo(x);\n\
-    \x20 });\n\
-    \x20 canvas.addEventListener('pointermove', (event) => {\n\
-    \x20   const [x, y] = placeOfMouse(event);\n\
-    \x20   seen.cursor = x >= GUTTER && y > OVERVIEW ? toTime(x) : null;\n\
-    \x20   if (!points.has(event.pointerId)) { showTip(x, y); redraw(); return; }\n\
-    \x20   byId('tip').hidden = true;\n\
-    \x20   const before = points.get(event.pointerId), others = [...points].filter(([id]) => id !== event.pointe\
-    rId);\n\
     ";

@@ -1,37 +1,94 @@
 //! Part 5 of what stands behind the data of a page: its script. `page/make` makes it.
 
 pub(crate) static SCRIPT_5: &str = "\
-    \x20   points.set(event.pointerId, x);\n\
-    \x20   if (others.length) {\n\
-    \x20     const other = others[0][1], wide = Math.abs(x - other), was = Math.abs(before - other);\n\
-    \x20     if (wide > 8 && was > 8) zoom(was / wide, toTime((x + other) / 2));\n\
-    \x20     moved = true;\n\
-    \x20     return;\n\
-    \x20   }\n\
+    \x20 return [event.clientX - box.left, event.clientY - box.top];\n\
+    }\n\
+    \n\
+    function showTip(x, y) {\n\
+    \x20 const i = messageAt(x, y), tip = byId('tip');\n\
+    \x20 tip.hidden = i < 0;\n\
+    \x20 if (i < 0) return;\n\
+    \x20 const p = partsOf(data, i);\n\
+    \x20 tip.textContent = `${p.number}  ${p.form}\\n${p.replies}${p.words ? `\\n${p.words.trim().slice(0, 79)}`\
+    \x20: ''}` +\n\
+    \x20   `${p.values ? `\\n${p.values.trim().slice(0, 79)}` : ''}${p.names ? `\\n${p.names.trim()}` : ''}`;\n\
+    \x20 const box = byId('canvas').getBoundingClientRect(), below = box.top + y + 16;\n\
+    \x20 const fits = below + tip.offsetHeight < window.innerHeight;\n\
+    \x20 tip.style.left = box.left + Math.max(0, Math.min(x + 14, canvasSize.width - tip.offsetWidth - 8)) + 'px\
+    ';\n\
+    \x20 tip.style.top = (fits ? below : box.top + y - 10 - tip.offsetHeight) + 'px';\n\
+    }\n\
+    \n\
+    // Moving through time by mouse, pen and touch: the time between the points stays there, so that one drags a\
+    nd two zoom.\n\
+    function watchPointers() {\n\
+    \x20 const canvas = byId('canvas'), points = new Map();\n\
+    \x20 let start = null, moved = false, held = null;\n\
+    \x20 const jumpTo = (x) => {\n\
+    \x20   const time = data.first + (x - GUTTER) / (canvasSize.width - GUTTER) * (data.last - data.first);\n\
+    \x20   const span = seen.to - seen.from;\n\
+    \x20   show(time - span / 2, time + span / 2);\n\
+    \x20 };\n\
+    \x20 const between = () => {\n\
+    \x20   const [one, other = one] = points.values();\n\
+    \x20   return { x: (one.x + other.x) / 2, apart: Math.hypot(one.x - other.x, one.y - other.y) };\n\
+    \x20 };\n\
+    \x20 const hold = () => {\n\
+    \x20   if (!points.size) return;\n\
+    \x20   const { x, apart } = between();\n\
+    \x20   held = { time: toTime(x), apart, scale: (seen.to - seen.from) / (canvasSize.width - GUTTER) };\n\
+    \x20 };\n\
+    \x20 const follow = () => {\n\
+    \x20   const { x, apart } = between();\n\
+    \x20   const scale = held.scale * (Math.min(apart, held.apart) > 8 ? held.apart / apart : 1);\n\
+    \x20   const from = held.time - (x - GUTTER) * scale;\n\
+    \x20   show(from, from + scale * (canvasSize.width - GUTTER));\n\
+    \x20 };\n\
+    \x20 canvas.addEventListener('pointerdown', (event) => {\n\
+    \x20   const [x, y] = placeOfMouse(event);\n\
+    \x20   byId('tip').hidden = true;\n\
+    \x20   points.set(event.pointerId, { x, y });\n\
+    \x20   canvas.setPointerCapture(event.pointerId);\n\
+    \x20   start = { x, over: event.shiftKey, overview: y < OVERVIEW };\n\
+    \x20   moved = points.size > 1;\n\
+    \x20   hold();\n\
+    \x20   if (start.overview) jumpTo(x);\n\
+    \x20 });\n\
+    \x20 canvas.addEventListener('pointermove', (event) => {\n\
+    \x20   const [x, y] = placeOfMouse(event);\n\
+    \x20   seen.cursor = x >= GUTTER && y > OVERVIEW ? x : null;\n\
+    \x20   if (!points.has(event.pointerId)) { showTip(x, y); redraw(); return; }\n\
+    \x20   points.set(event.pointerId, { x, y });\n\
+    \x20   if (points.size > 1) { follow(); return; }\n\
     \x20   if (Math.abs(x - start.x) > 3) moved = true;\n\
     \x20   if (start.overview) { jumpTo(x); return; }\n\
     \x20   if (start.over) { seen.drawn = [start.x, x]; redraw(); return; }\n\
-    \x20   if (moved) {\n\
-    \x20     const ticks = (start.x - x) / (canvasSize.width - GUTTER) * (start.to - start.from);\n\
-    \x20     show(start.from + ticks, start.to + ticks);\n\
-    \x20   }\n\
+    \x20   if (moved) follow();\n\
     \x20 });\n\
     \x20 const release = (event) => {\n\
     \x20   const [x, y] = placeOfMouse(event);\n\
     \x20   points.delete(event.pointerId);\n\
+    \x20   hold();\n\
     \x20   if (seen.drawn) {\n\
     \x20     const [from, to] = [...seen.drawn].sort((a, b) => a - b);\n\
     \x20     seen.drawn = null;\n\
     \x20     if (to - from > 4) show(toTime(from), toTime(to)); else redraw();\n\
     \x20   } else if (!moved && event.type === 'pointerup' && start && !start.overview) {\n\
     \x20     const i = messageAt(x, y);\n\
-    \x20     if (i >= 0) choose(i);\n\
+    \x20     if (i >= 0) { choose(i); showTip(x, y); }\n\
     \x20   }\n\
     \x20 };\n\
     \x20 canvas.addEventListener('pointerup', release);\n\
     \x20 canvas.addEventListener('pointercancel', release);\n\
-    \x20 canvas.addEventListener('pointerleave', () => { seen.cursor = null; byId('tip').hidden = true; redraw()\
-    ; });\n\
+    \x20 // (where a finger has left, what it touched stays told)\n\
+    \x20 canvas.addEventListener('pointerleave', (event) => {\n\
+    \x20   seen.cursor = null;\n\
+    \x20   if (event.pointerType !== 'touch') byId('tip').hidden = true;\n\
+    \x20   redraw();\n\
+    \x20 });\n\
+    \x20 document.addEventListener('scroll', (event) => {\n\
+    \x20   if (event.target !== byId('scroll')) byId('tip').hidden = true;\n\
+    \x20 }, true);\n\
     \x20 canvas.addEventListener('dblclick', (event) => zoom(0.25, toTime(placeOfMouse(event)[0])));\n\
     \x20 canvas.addEventListener('wheel', (event) => {\n\
     \x20   const [x] = placeOfMouse(event);\n\
