@@ -81,7 +81,7 @@ module _ {L : Type 0} where
       let rest : All Kept p.rest = all_rest Kept p.front p.rest parts in
       let before : All Stands (lines_of p.rest) = all_lines Stands p.rest (λ k d lt. (rest k d lt).stand) in
       let lines : All Stands (lines_of p.changed) =
-          All-same Stands (lines_of p.changed) (lines_of p.rest ++ more) p.lines (All-append Stands (lines_of p.rest) more before stand) in
+      All-same Stands (lines_of p.changed) (lines_of p.rest ++ more) p.lines (All-append Stands (lines_of p.rest) more before stand) in
       let changed : All Kept p.changed = λ k d lt. record {
         stand = all_parts Stands p.changed lines k d lt;
         sleeps = λ j e within. sleeps_unknown (get_or p.changed k d).quiet made (due (get_or (lines_in (get_or p.changed k d)) j e)) (p.unknown k d lt);

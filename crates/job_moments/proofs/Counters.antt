@@ -58,7 +58,7 @@ pub counted_at : (made : List Met) (counters : List Counter) (place : ℕ) (c : 
 counted_at made counters place c selector all within is at =
     let there : slice_get counters place ≡ Some c = slice_get_read counters (length counters) place c refl within is in
     let both : Some c.selector ≡ Some selector =
-        ap (option_map (λ (d : Counter). d.selector)) (sym there) ∙ sym (slice_get-map (λ (d : Counter). d.selector) counters place) ∙ at in
+    ap (option_map (λ (d : Counter). d.selector)) (sym there) ∙ sym (slice_get-map (λ (d : Counter). d.selector) counters place) ∙ at in
     subst (λ (s : Selector). c.count ≡ count_of s made) (same_Some c.selector selector both)
     (subst (HasCounted made) (sym is) (all place c within))
 
@@ -105,7 +105,7 @@ pub counter_put : (old new : List Counter) (c : Counter) (place : ℕ) (asked : 
 counter_put old new c place asked is at some =
     let selectors : selectors_of new ≡ selectors_of old ++ c.selector ∷ [] = ap selectors_of is ∙ map_push (λ (d : Counter). d.selector) old c in
     let last : slice_get (selectors_of old ++ c.selector ∷ []) place ≡ Some c.selector =
-        place_last (selectors_of old) c.selector place (at ∙ sym (length-map old (λ (d : Counter). d.selector))) in
+    place_last (selectors_of old) c.selector place (at ∙ sym (length-map old (λ (d : Counter). d.selector))) in
     subst (λ (o : Option Selector). HasCounter (selectors_of new) place o) (sym some)
     (subst (λ (ss : List Selector). slice_get ss place ≡ Some c.selector) (sym selectors) last)
 

@@ -58,7 +58,7 @@ pub sleeps_over : (q : Quiet) (made : List Met) (ticks : ℕ) → list_any (star
     → Sleeps q made (λ ms n. is_occasion ms n (Once (Time ticks)))
 sleeps_over q made ticks over more next quiet =
     let met : list_any (starts_by ticks) (made ++ more) ≡ true =
-        list_any-append (starts_by ticks) made more ∙ or_left (list_any (starts_by ticks) made) (list_any (starts_by ticks) more) over in
+    list_any-append (starts_by ticks) made more ∙ or_left (list_any (starts_by ticks) made) (list_any (starts_by ticks) more) over in
     and_right (starts_by ticks next) _ (not_from_true (list_any (starts_by ticks) (made ++ more)) met)
 
 -- a window that comes, or is over

@@ -44,8 +44,8 @@ module _ {T : Type 0} where
   taken_at made next front one rest still due =
       let all = front ++ one ∷ rest in
       let found : first_due made next (moments_of all) ≡ Some (length front) =
-          position-map (λ (a : Awaited T). a.moment) (is_due made next) all
-          ∙ position_at (λ (a : Awaited T). is_due made next a.moment) front one rest still due in
+      position-map (λ (a : Awaited T). a.moment) (is_due made next) all
+      ∙ position_at (λ (a : Awaited T). is_due made next a.moment) front one rest still due in
       record {
         first = sym (ap (λ (o : Option ℕ). given_at o all) found ∙ ap (option_map (λ (a : Awaited T). a.payload)) (slice_at front one rest));
         others = sym (ap (λ (o : Option ℕ). left_at o all) found ∙ remove_at front one rest);
@@ -55,8 +55,8 @@ module _ {T : Type 0} where
       → first_due made next (moments_of (awaited_of lines)) ≡ None
   none_due made next lines still =
       let moments : All (λ (m : Moment). is_due made next m ≡ false) (moments_of (awaited_of lines)) =
-          All-map (λ (m : Moment). is_due made next m ≡ false) (λ (a : Awaited T). a.moment) (awaited_of lines)
-          (All-map (λ (a : Awaited T). is_due made next a.moment ≡ false) awaited lines still) in
+      All-map (λ (m : Moment). is_due made next m ≡ false) (λ (a : Awaited T). a.moment) (awaited_of lines)
+      (All-map (λ (a : Awaited T). is_due made next a.moment ≡ false) awaited lines still) in
       position_none (is_due made next) (moments_of (awaited_of lines)) (Time 0) (λ k lt. moments k (Time 0) lt)
 
   pub picks_taken : (made : List Met) (next : Met) (old new : List (Line T)) (given : Option T)
@@ -69,7 +69,7 @@ module _ {T : Type 0} where
       }
   picks_taken made next old new (Some payload) p =
       let olds : awaited_of old ≡ awaited_of p.front ++ awaited p.one ∷ awaited_of p.rest =
-          ap awaited_of p.old_is ∙ map-append awaited p.front (p.one ∷ p.rest) in
+      ap awaited_of p.old_is ∙ map-append awaited p.front (p.one ∷ p.rest) in
       let news : awaited_of new ≡ awaited_of p.front ++ awaited_of p.rest = ap awaited_of p.new_is ∙ map-append awaited p.front p.rest in
       let still = All-map (λ (a : Awaited T). is_due made next a.moment ≡ false) awaited p.front p.still in
       let taken = taken_at made next (awaited_of p.front) (awaited p.one) (awaited_of p.rest) still p.due in
@@ -125,14 +125,14 @@ module _ {T : Type 0} where
   picked_at made next i (o ∷ os) [] payload long there before at behind = absurd (omega (arith, long))
   picked_at made next zero (o ∷ os) (n ∷ ns) payload long there before at behind =
       let rest : lines_of ns ≡ lines_of os =
-          same_lines_of os ns (omega (arith, long)) (λ k d lt. ap lines_in (behind (suc k) d (omega arith))) in
+      same_lines_of os ns (omega (arith, long)) (λ k d lt. ap lines_in (behind (suc k) d (omega arith))) in
       subst (λ (ls : List (Line T)). IsPicked made next (lines_in o ++ lines_of os) (lines_in n ++ ls) payload) (sym rest)
       (picked_before made next (lines_of os) (lines_in o) (lines_in n) payload (at o))
   picked_at made next (suc i) (o ∷ os) (n ∷ ns) payload long there before at behind =
       let first = before 0 o (omega arith) in
       let rest : IsPicked made next (lines_of os) (lines_of ns) payload =
-          picked_at made next i os ns payload (omega (arith, long)) (omega (arith, there))
-          (λ k d lt. before (suc k) d (omega (arith, lt))) at (λ k d lt. behind (suc k) d (omega (arith, lt))) in
+      picked_at made next i os ns payload (omega (arith, long)) (omega (arith, there))
+      (λ k d lt. before (suc k) d (omega (arith, lt))) at (λ k d lt. behind (suc k) d (omega (arith, lt))) in
       subst (λ (ls : List (Line T)). IsPicked made next (lines_in o ++ lines_of os) (ls ++ lines_of ns) payload) (sym first.lines)
       (picked_behind made next (lines_in o) (lines_of os) (lines_of ns) payload first.still rest)
 
@@ -158,9 +158,9 @@ module _ {T : Type 0} where
       picks_at made next i old (set now i new) given some (length-set now i new ∙ long) there
       (λ k d lt. subst (IsPassed made next (get_or old k d)) (sym (get_or-set_other now i k new d (λ is. omega (arith, is, lt)))) (done k d lt))
       (λ d. subst (λ (c : Chunk (Line T)). Picks made next (lines_in (get_or old i d)) (lines_in c) given)
-          (sym (get_or-set_same now i new d (omega (arith, long, there))))
-          (subst (λ (c : Chunk (Line T)). Picks made next (lines_in c) (lines_in new) given)
-          (get_or_default now i e d (omega (arith, long, there)) ∙ rest i d (omega arith)) picked))
+      (sym (get_or-set_same now i new d (omega (arith, long, there))))
+      (subst (λ (c : Chunk (Line T)). Picks made next (lines_in c) (lines_in new) given)
+      (get_or_default now i e d (omega (arith, long, there)) ∙ rest i d (omega arith)) picked))
       (λ k d lt. get_or-set_other now i k new d (λ is. omega (arith, is, lt)) ∙ rest k d (omega (arith, lt)))
 
   pub passed : (made : List Met) (next : Met) (old new : Chunk (Line T)) (given : Option T) → is_some given ≡ false

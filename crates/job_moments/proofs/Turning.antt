@@ -23,6 +23,6 @@ pub turn_between : (t : Turns) (place k : ℕ) → t.first ≤ place → 0 < (pl
 turn_between t place k behind over from within =
     let same : k - t.first ≡ (place - t.first) + (k - place) = omega (arith, behind, from) in
     let more : ((place - t.first) + (k - place)) % t.step ≡ (place - t.first) % t.step + (k - place) =
-        mod_more (place - t.first) t.step (k - place) (omega (arith, from, within)) in
+    mod_more (place - t.first) t.step (k - place) (omega (arith, from, within)) in
     let is : (k - t.first) % t.step ≡ (place - t.first) % t.step + (k - place) = ap (λ n. n % t.step) same ∙ more in
     and_right (nat_le t.first k && nat_le k t.last) _ (ne_eqb ((k - t.first) % t.step) 0 (λ e. omega (arith, is, e, over)))

@@ -69,12 +69,7 @@ fn add_all(faults: &mut ArrayVec<Fault, 4>, rules: &[Rule], counts: &Counts, nex
 }
 
 /// Adds the faults of a chunk that are due at the message that comes next, as long as fewer than four are there.
-fn add_chunk(
-    faults: &mut ArrayVec<Fault, 4>,
-    chunk: &Chunk<Rule>,
-    counts: &Counts,
-    next: &Met,
-)
+fn add_chunk(faults: &mut ArrayVec<Fault, 4>, chunk: &Chunk<Rule>, counts: &Counts, next: &Met)
     requires few { length counts.now.made < 1000000 }
     requires known { KnowsChunk counts.now chunk.now }
     ensures { (before : List PlannedFault) → faults.old.items ≡ faults_at counts.now.made next.now before

@@ -50,10 +50,11 @@ returns-then-is_some-clause-known g c =
 pub returns-clause-taken : goal.returns-clause-taken
 returns-clause-taken g c =
     let old = c.args.chunks.now in
-    let still = IsStill c.args.counts.now.made c.args.next.now in
-    (all_lines still old (λ k d lt. (c.loop-chunk.invariant.done k d (omega (arith, lt, c.loop-chunk-test.false, c.loop-chunk.auto.chunks))).still),
-    same_lines_of old c.loop-chunk.chunks (omega (arith, c.loop-chunk.auto.chunks))
-    (λ k d lt. (c.loop-chunk.invariant.done k d (omega (arith, lt, c.loop-chunk-test.false, c.loop-chunk.auto.chunks))).lines))
+    let still = IsStill c.args.counts.now.made c.args.next.now in (
+      all_lines still old (λ k d lt. (c.loop-chunk.invariant.done k d (omega (arith, lt, c.loop-chunk-test.false, c.loop-chunk.auto.chunks))).still),
+      same_lines_of old c.loop-chunk.chunks (omega (arith, c.loop-chunk.auto.chunks))
+          (λ k d lt. (c.loop-chunk.invariant.done k d (omega (arith, lt, c.loop-chunk-test.false, c.loop-chunk.auto.chunks))).lines),
+    )
 
 pub returns-clause-known : goal.returns-clause-known
 returns-clause-known g c = λ k d lt. c.loop-chunk.invariant.known k d (omega (arith, lt, c.loop-chunk-test.false, c.loop-chunk.auto.chunks))

@@ -14,7 +14,7 @@ invariant_of-self c =
     let counters = c.self.inside.counters in
     let long : length c.count.new.counters ≡ counters.len = omega (arith, c.count.auto.counters, c.deref_mut.ensures.len) in
     let counted = c.count.ensures.counted made
-        (All-same (HasCounted made) c.deref_mut.result.now counters.items c.deref_mut.ensures.value c.self.invariant.counters) in
+    (All-same (HasCounted made) c.deref_mut.result.now counters.items c.deref_mut.ensures.value c.self.invariant.counters) in
     record {
       counters = All-same (HasCounted c.put_behind.result) _ c.count.new.counters (with_items_is counters c.count.new.counters long)
           (subst (λ (ms : List Met). All (HasCounted ms) c.count.new.counters) (sym c.put_behind.ensures) counted);

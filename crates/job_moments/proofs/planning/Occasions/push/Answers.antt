@@ -44,6 +44,11 @@ invariant_of-self-2 c =
             stands = c.requires.stands;
           }) (All-nil (HasItsCounter selectors)))
           c.self.invariant.known;
-      count = omega (arith, c.in-Some.ensures.1, c.self.invariant.count, ap length (puts_lines old new (line ∷ []) c.in_ok-put.ensures),
-          length-append (lines_of old) (line ∷ []));
+      count = omega (
+        arith,
+        c.in-Some.ensures.1,
+        c.self.invariant.count,
+        ap length (puts_lines old new (line ∷ []) c.in_ok-put.ensures),
+        length-append (lines_of old) (line ∷ []),
+      );
     }

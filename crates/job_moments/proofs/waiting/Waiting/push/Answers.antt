@@ -37,6 +37,11 @@ invariant_of-self-2 g c =
           (subst (λ (o : Option Selector). HasCounter selectors c.in_ok-counter.counter o) c.selector.ensures c.in_ok-counter.ensures.counter)
           (All-nil (HasItsCounter selectors)))
           c.self.invariant.known;
-      count = omega (arith, c.in-Some.ensures.1, c.self.invariant.count, ap length (puts_lines old new (line ∷ []) c.in_ok-put.ensures),
-          length-append (lines_of old) (line ∷ []));
+      count = omega (
+        arith,
+        c.in-Some.ensures.1,
+        c.self.invariant.count,
+        ap length (puts_lines old new (line ∷ []) c.in_ok-put.ensures),
+        length-append (lines_of old) (line ∷ []),
+      );
     }

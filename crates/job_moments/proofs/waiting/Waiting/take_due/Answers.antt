@@ -21,7 +21,7 @@ invariant_of-self g c =
     let taken = subst (λ cs. Picks made next (lines_of cs) (lines_of new) given) c.deref_mut.ensures.value c.take_first-payload.ensures.taken in
     let yes : is_some given ≡ true = sym c.is_some.ensures ∙ c.if-is_some.true in
     let many = subst (λ b. length (lines_of new) + (if b then 1 else 0) ≡ length (lines_of chunks.items)) yes
-        (as_many made next (lines_of chunks.items) (lines_of new) given taken) in
+    (as_many made next (lines_of chunks.items) (lines_of new) given taken) in
     record {
       known = All-same (KnowsChunk c.self.inside.counts) _ new items c.take_first-payload.ensures.known;
       count = omega (arith, c.self.invariant.count, many, ap length (ap lines_of items));
@@ -39,7 +39,7 @@ invariant_of-self-else-is_some g c =
     let taken = subst (λ cs. Picks made next (lines_of cs) (lines_of new) given) c.deref_mut.ensures.value c.take_first-payload.ensures.taken in
     let no : is_some given ≡ false = sym c.is_some.ensures ∙ c.if-is_some.false in
     let many = subst (λ b. length (lines_of new) + (if b then 1 else 0) ≡ length (lines_of chunks.items)) no
-        (as_many made next (lines_of chunks.items) (lines_of new) given taken) in
+    (as_many made next (lines_of chunks.items) (lines_of new) given taken) in
     record {
       known = All-same (KnowsChunk c.self.inside.counts) _ new items c.take_first-payload.ensures.known;
       count = omega (arith, c.self.invariant.count, many, ap length (ap lines_of items));
@@ -55,7 +55,7 @@ returns-then-is_some-clause-taken g c =
     let long : length new ≡ chunks.len = omega (arith, c.take_first-payload.auto.chunks, c.deref_mut.ensures.len) in
     let taken = subst (λ cs. Picks made next (lines_of cs) (lines_of new) given) c.deref_mut.ensures.value c.take_first-payload.ensures.taken in
     let inside = subst (λ cs. Taken made next (awaited_of (lines_of chunks.items)) (awaited_of (lines_of cs)) given)
-        (sym (with_items_is chunks new long)) (picks_taken made next (lines_of chunks.items) (lines_of new) given taken) in
+    (sym (with_items_is chunks new long)) (picks_taken made next (lines_of chunks.items) (lines_of new) given taken) in
     subst (λ (v : Waits g.row.T.Denot). Taken v.made next v.left (awaited_of (lines_of (with_items chunks new).items)) given) c.self.view_is inside
 
 pub returns-else-is_some-clause-taken : goal.returns-else-is_some-clause-taken
@@ -68,5 +68,5 @@ returns-else-is_some-clause-taken g c =
     let long : length new ≡ chunks.len = omega (arith, c.take_first-payload.auto.chunks, c.deref_mut.ensures.len) in
     let taken = subst (λ cs. Picks made next (lines_of cs) (lines_of new) given) c.deref_mut.ensures.value c.take_first-payload.ensures.taken in
     let inside = subst (λ cs. Taken made next (awaited_of (lines_of chunks.items)) (awaited_of (lines_of cs)) given)
-        (sym (with_items_is chunks new long)) (picks_taken made next (lines_of chunks.items) (lines_of new) given taken) in
+    (sym (with_items_is chunks new long)) (picks_taken made next (lines_of chunks.items) (lines_of new) given taken) in
     subst (λ (v : Waits g.row.T.Denot). Taken v.made next v.left (awaited_of (lines_of (with_items chunks new).items)) given) c.self.view_is inside
