@@ -6,7 +6,7 @@ use Rattle.mil_line.specs.Ranges.{is_in_range}
 use Rattle.bc_machine.specs.Planning.{next_number}
 use Rattle.job_file.proofs.FaultLemmas.{may_plan, next_is_number, faults_in_range, faulted_none, faulted_some, has_planned}
 use Rattle.job_file.proofs.TurnLemmas.{has_planned_still, has_planned_some}
-use Rattle.job_file.proofs.resolving.Run.plan.Goals as goal
+use Rattle.job_file.proofs.job_run.JobRun.plan.Goals as goal
 
 pub plan_all-requires-clause-few : goal.plan_all-requires-clause-few
 plan_all-requires-clause-few c =

@@ -9,7 +9,7 @@ use Rattle.job_file.specs.Timed.{made_of}
 use Rattle.job_file.proofs.TurnLemmas.{IsBehind, behind_step, less_left, may_plan_still}
 use Rattle.job_file.proofs.KeptLemmas.{few_met, kept_stepped, planned_behind}
 use Rattle.job_file.proofs.RunLemmas.{none_met}
-use Rattle.job_file.proofs.resolving.Run.step.Goals as goal
+use Rattle.job_file.proofs.job_run.JobRun.step.Goals as goal
 
 pub meet-requires-clause-whens : goal.meet-requires-clause-whens
 meet-requires-clause-whens c =

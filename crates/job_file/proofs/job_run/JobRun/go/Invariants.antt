@@ -2,7 +2,7 @@ use Rattle.std.proofs.Common.{◌≡◌, ◌≤◌, ℕ, ◌+◌}
 use Rattle.std.specs.Prelude.{List}
 use Rattle.job_file.specs.Resolving.{standing, IsKept, IsWithin, MayPlan, turns_left}
 use Rattle.job_file.specs.Timed.{turned_times}
-use Rattle.job_file.proofs.resolving.Run.go.Given as goal
+use Rattle.job_file.proofs.job_run.JobRun.go.Given as goal
 
 abbrev pub invariant-turns : goal.invariant-turns
 invariant-turns l = record {

@@ -3,7 +3,7 @@ use Rattle.job_moments.specs.Planning.{PlannedFault}
 use Rattle.job_file.specs.Resolving.{standing, turns_left}
 use Rattle.job_file.specs.Timed.{turned}
 use Rattle.job_file.proofs.RunLemmas.{one_turn_more}
-use Rattle.job_file.proofs.resolving.Run.go.Goals as goal
+use Rattle.job_file.proofs.job_run.JobRun.go.Goals as goal
 
 pub turns-init : goal.turns-init
 turns-init c = record {

@@ -1,7 +1,7 @@
 use Rattle.std.proofs.Common.{◌≡◌, take}
 use Rattle.bc_machine.specs.UnderWay.{IsUnderWay}
 use Rattle.job_file.specs.Timed.{with_faults}
-use Rattle.job_file.proofs.resolving.plan_all.Given as goal
+use Rattle.job_file.proofs.job_run.plan_all.Given as goal
 
 abbrev pub invariant-loop-fault : goal.invariant-loop-fault
 invariant-loop-fault l = record {

@@ -1,5 +1,5 @@
 use Rattle.job_file.proofs.Fewness.{few_where_next}
-use Rattle.job_file.proofs.resolving.Run.next.Goals as goal
+use Rattle.job_file.proofs.job_run.JobRun.next.Goals as goal
 
 pub returns-in-Some-clause-few : goal.returns-in-Some-clause-few
 returns-in-Some-clause-few c =

@@ -4,7 +4,7 @@ use Rattle.bc_machine.specs.Planning.{next_number}
 use Rattle.bc_machine.specs.Running.{MachineState}
 use Rattle.mil_line.specs.Plans.{faults_of}
 use Rattle.job_file.proofs.FaultLemmas.{planned_here}
-use Rattle.job_file.proofs.resolving.plan_all.Goals as goal
+use Rattle.job_file.proofs.job_run.plan_all.Goals as goal
 
 -- those in front of it are planned, and with it they are four at most
 pub plan_one-requires-clause-few : goal.plan_one-requires-clause-few

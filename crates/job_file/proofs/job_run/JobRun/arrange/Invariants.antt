@@ -1,7 +1,7 @@
 use Rattle.std.proofs.Common.{◌≡◌, ℕ, List}
 use Rattle.job_file.specs.Resolving.{standing, IsKept, IsWithin}
 use Rattle.job_file.specs.Timed.{done_times}
-use Rattle.job_file.proofs.resolving.Run.arrange.Given as goal
+use Rattle.job_file.proofs.job_run.JobRun.arrange.Given as goal
 
 abbrev pub invariant-times : goal.invariant-times
 invariant-times l = record {
