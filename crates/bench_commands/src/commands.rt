@@ -1,6 +1,7 @@
 //! The commands of `bench`: which of them is asked for is done, and how the process ends then.
 
 use crate::command_line::{self, Asked, Request};
+use crate::damaged::tell_of_cut;
 use crate::given_words::{word_at_fault, words_of};
 use crate::left::tell_of_part;
 use crate::pointing::point;
@@ -64,6 +65,7 @@ where
                 let status = stop(errors, &fault);
                 point(rt, errors, &asked, &fault);
                 tell_of_part(rt, errors, &asked, &fault);
+                tell_of_cut(errors, &asked, &fault);
                 status
             }
         },
