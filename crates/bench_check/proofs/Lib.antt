@@ -9,4 +9,5 @@ pub mod Pieces
 pub mod Played
 pub mod Steps
 pub mod Told
+pub mod Traces
 pub mod Tried

@@ -1,9 +1,10 @@
 -- What the check of a job comes to (own choice).
-use Rattle.std.specs.Prelude.{◌≡◌, ◌||◌, ◌==◌, Bool, true, false, not, List, length, Option}
+use Rattle.std.specs.Prelude.{◌≡◌, ◌||◌, ◌==◌, Bool, true, false, not, List, [], ◌++◌, length, Option}
 use Rattle.std.specs.Io.KnownBytes.{Appends}
 use Rattle.text_lines.specs.Words.{Text}
 use Rattle.job_file.specs.Jobs.{JobState, tree_in}
 use Rattle.job_file.specs.Rooms.{most_items}
+use Rattle.job_file.specs.Timed.{says_nothing}
 use Rattle.bench_check.specs.declared.checked.Checked.{Checked}
 use Rattle.bench_check.specs.declared.checked.Way.{Way}
 use Rattle.bench_check.specs.declared.findings.Findings.{Findings}
@@ -15,13 +16,16 @@ use Rattle.bench_check.specs.Mistakes.{mistakes}
 use Rattle.bench_check.specs.Overruns.{overruns}
 use Rattle.bench_check.specs.Unmet.{made, unmet}
 
--- what was found in a job that was tried, and all that is probably a mistake then
+-- what was found in a job that was tried, and all that is probably a mistake then: first what was found in its lines by
+-- time or by command, which is left open; nothing where there are none
 pub record AreMistakesOf (is_all : Bool) (job : JobState) (f : Findings) (ms : List Mistake) : Type 0 where
   pub made : f.made ≡ made job
   pub unmet : f.unmet.items ≡ unmet job
   pub overruns : f.overruns.items ≡ overruns job
   pub room : f.room ≡ most_items 0 job
-  pub all : ms ≡ mistakes is_all job f (tight_frames (tree_in job))
+  pub lines : List Mistake
+  pub none : says_nothing job.timed ≡ true → lines ≡ []
+  pub all : ms ≡ lines ++ mistakes is_all job f (tight_frames (tree_in job))
 
 -- all that is probably a mistake in a job
 pub record AreMistakes (is_all : Bool) (job : JobState) (ms : List Mistake) : Type 0 where

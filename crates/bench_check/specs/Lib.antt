@@ -3,6 +3,7 @@ pub mod Unmet
 pub mod Filling
 pub mod Overruns
 pub mod Trying
+pub mod Tracing
 pub mod Fitting
 pub mod Scripts
 pub mod FrameLines

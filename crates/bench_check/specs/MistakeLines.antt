@@ -1,7 +1,7 @@
 -- What is told of a job that was tried (own choice): what is probably a mistake, a line for each, and how much room the
 -- queue needs.
 use Rattle.std.specs.Prelude.{ℕ, ◌^◌, ◌-◌, ◌==◌, Bool, true, false, if◌then◌else◌, List, [], ◌++◌, length, codes}
-use Rattle.std.specs.Prelude.{decimal}
+use Rattle.std.specs.Prelude.{decimal, nat_lt, string_bytes}
 use Rattle.std.specs.List.{flat_map}
 use Rattle.std.specs.Fmt.{digits, format_spec, padded_integral}
 use Rattle.text_lines.specs.Words.{Text}
@@ -110,6 +110,20 @@ abbrev pub left_line : ℕ → ℕ → Text
 left_line first count = codes "  message " ++ (decimal first ++ (codes " is the first of " ++ (decimal count
     ++ codes " that are answered with message_error and not sent again\n")))
 
+-- a line of a job that was never due, and what it says
+abbrev pub never_due_line : ℕ → Text → Text
+never_due_line line words = codes "  line " ++ (decimal line ++ (codes " is never due: " ++ (words ++ codes "\n")))
+
+-- at how many messages more
+abbrev pub more_text : ℕ → Text
+more_text more = if nat_lt 0 more then codes " and " ++ (decimal more ++ codes " more") else []
+
+-- a line of a job whose fault comes behind four others at a message, and what it says
+abbrev pub left_out_line : ℕ → ℕ → ℕ → Text → Text
+left_out_line line first more words = codes "  line " ++ (decimal line
+    ++ (codes " is not planned for message " ++ (decimal first ++ (more_text more
+    ++ (codes ", where four others come first: " ++ (words ++ codes "\n"))))))
+
 -- the line of a mistake
 abbrev pub mistake_line : Mistake → Text
 mistake_line (kinds.Unsent number fault) = unsent_line number fault
@@ -123,6 +137,8 @@ mistake_line (kinds.Stranger address first count) = stranger_line address first 
 mistake_line (kinds.Uncalled address) = uncalled_line address
 mistake_line (kinds.Unfilled address sub first) = unfilled_line address sub first
 mistake_line (kinds.Left first count) = left_line first count
+mistake_line (kinds.NeverDue line words) = never_due_line line (string_bytes words)
+mistake_line (kinds.LeftOut line first more words) = left_out_line line first more (string_bytes words)
 
 -- the lines of these mistakes, or that there is none
 abbrev pub mistakes_text : List Mistake → Text

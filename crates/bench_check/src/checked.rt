@@ -9,6 +9,7 @@ use crate::findings::{Findings, print_findings};
 use crate::messages::Bits;
 use crate::mistakes::{Mistake, mistakes_of};
 use crate::scripts::tight_frames_in;
+use crate::tracing::trace_lines;
 use crate::trying::try_job;
 use job_file::Job;
 use signal_dictionary::Signal;
@@ -60,8 +61,9 @@ fn try_with<W: Write>(
     ensures told { OnOk result (IsTold job.now (W.contents out.old) (W.contents out.new)) }
 {
     let tight = tight_frames_in(alloc, text)?;
-    let findings = try_job(alloc, job, way, out)?;
-    let mistakes = mistakes_of(alloc, job, &findings, tight.as_slice(), is_all)?;
+    let lines = trace_lines(alloc, job, text)?;
+    let findings = try_job(alloc, job, way, &lines.origins, out)?;
+    let mistakes = mistakes_of(job, &findings, tight.as_slice(), lines.mistakes, is_all)?;
     Ok(Tried { findings, mistakes })
 }
 

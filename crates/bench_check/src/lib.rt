@@ -2,9 +2,9 @@
 //! it, such as a planned fault that meets nothing.
 //!
 //! It may know: words, mode codes, status bits, messages, host actions, what the host of a controller asks for, as
-//! values and as text, gaps and planned faults, the bus, the monitor, scripts from their text to the loader, the
-//! controller, jobs, bodies, layouts, dictionaries of signals and their values, selections, words of a text. Its tests:
-//! `command_tests`. Its wrong bodies: `edits/`.
+//! values and as text, gaps and planned faults, moments, the bus, the monitor, scripts from their text to the loader,
+//! the controller, jobs, bodies, layouts, dictionaries of signals and their values, selections, words of a text. Its
+//! tests: `command_tests`. Its wrong bodies: `edits/`.
 #![tactic(auto)]
 
 mod calls;
@@ -18,10 +18,13 @@ mod meeting;
 mod messages;
 mod mistake_lines;
 mod mistakes;
+mod odd_lines;
 mod oddities;
+mod origins;
 mod planned;
 mod scripts;
 mod signals;
+mod tracing;
 mod trying;
 
 pub use calls::Calls;
@@ -34,5 +37,6 @@ pub use meeting::meets;
 pub use messages::Bits;
 pub use mistakes::{Mistake, mistakes_of};
 pub use oddities::Oddities;
+pub use origins::Origins;
 pub use scripts::tight_frames_in;
 pub use trying::try_job;

@@ -3,6 +3,7 @@ ghost use Rattle.bc_machine.specs.Rising.{IsRising};
 ghost use Rattle.bench_check.specs.MistakeLines.{placed_text};
 ghost use Rattle.std.specs.Prelude.{◌≡◌, ◌++◌, OnOk, string_bytes};
 
+use crate::origins::{Origins, put_line};
 use bc_machine::{Actions, HostAction, Placed, Upcoming};
 use bitflags::Flags;
 use controller_text::ControlText;
@@ -49,17 +50,20 @@ pub(crate) fn put_message(
     text.push_str(words.as_str())
 }
 
-/// Puts a line for each action that is placed at a message, as it stands in a job, where numbers never fall.
+/// Puts a line for each action that is placed at a message, as it stands in a job, where numbers never fall; behind it
+/// by which line of the text it came, where that is told.
 pub(crate) fn put_actions(
     text: &mut String,
     number: u32,
     actions: &Actions,
+    origins: &Origins,
 ) -> Result<(), AllocError>
     requires { IsRising actions.now }
 {
     for place in actions.behind(number.saturating_sub(1))..actions.behind(number) {
         text.push_str("  ")?;
         put_action(text, &actions.get(place))?;
+        put_line(text, origins.line_of_action(place))?;
         text.push_str("\n")?;
     }
     Ok(())

@@ -37,6 +37,13 @@ pub(crate) fn put_mistake(text: &mut String, mistake: &Mistake) -> Result<(), Al
             first,
         } => put_unfilled(text, *address, *sub, *first),
         Mistake::Left { first, count } => put_left(text, *first, *count),
+        Mistake::NeverDue { line, words } => put_never_due(text, *line, words.as_str()),
+        Mistake::LeftOut {
+            line,
+            first,
+            more,
+            words,
+        } => put_left_out(text, *line, *first, *more, words.as_str()),
     }
 }
 
@@ -170,4 +177,37 @@ fn put_left(text: &mut String, first: u32, count: u32) -> Result<(), AllocError>
         text,
         "  message {first} is the first of {count} that are answered with message_error and not sent again\n"
     )
+}
+
+/// Puts the line of a job's line that was never due.
+fn put_never_due(text: &mut String, line: u64, words: &str) -> Result<(), AllocError>
+    ensures { OnOk result (string_bytes text.new ≡ string_bytes text.old ++ spec.never_due_line line words.now) }
+{
+    write!(text, "  line {line} is never due: {words}\n")
+}
+
+/// Puts the line of a job's line whose fault comes behind four others.
+fn put_left_out(
+    text: &mut String,
+    line: u64,
+    first: u32,
+    more: u32,
+    words: &str,
+) -> Result<(), AllocError>
+    ensures { OnOk result (string_bytes text.new
+        ≡ string_bytes text.old ++ spec.left_out_line line first more words.now) }
+{
+    write!(text, "  line {line} is not planned for message {first}")?;
+    put_messages_more(text, more)?;
+    write!(text, ", where four others come first: {words}\n")
+}
+
+/// Puts at how many messages more it is so, where there are any.
+fn put_messages_more(text: &mut String, more: u32) -> Result<(), AllocError>
+    ensures { OnOk result (string_bytes text.new ≡ string_bytes text.old ++ spec.more_text more) }
+{
+    if more > 0 {
+        write!(text, " and {more} more")?;
+    }
+    Ok(())
 }

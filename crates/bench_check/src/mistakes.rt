@@ -13,7 +13,7 @@ use bc_machine::{Actions, Placed};
 use job_file::Job;
 use mil_line::Fault;
 use mil_word::fields::ALL_TERMINALS;
-use std::alloc::{AllocError, Global};
+use std::alloc::AllocError;
 
 /// How many frames are named that may take longer than their period.
 const SHOWN: usize = 3;
@@ -25,9 +25,15 @@ const SUBADDRESSES: u8 = 30;
 #[derive(Debug, Drop)]
 pub enum Mistake {
     /// A fault is planned for a message that is never sent.
-    Unsent { number: u32, fault: Fault },
+    Unsent {
+        number: u32,
+        fault: Fault,
+    },
     /// A fault is planned for a message that has no such run or word.
-    Unmet { number: u32, fault: Fault },
+    Unmet {
+        number: u32,
+        fault: Fault,
+    },
     /// A frame may take longer than its period.
     Tight(Tight),
     /// So many more frames may take longer than their period.
@@ -39,28 +45,53 @@ pub enum Mistake {
     /// What the host of the controller sets is carried by no message of the script.
     Uncarried(Placed),
     /// A terminal is called and is not there: the number of the first message that calls it, and how many commands do.
-    Stranger { address: u8, first: u32, count: u32 },
+    Stranger {
+        address: u8,
+        first: u32,
+        count: u32,
+    },
     /// A terminal is there and never called, also not by a message to all.
     Uncalled(u8),
     /// A terminal transmits from a subaddress where no words were put up: the number of the first such message.
-    Unfilled { address: u8, sub: u8, first: u32 },
+    Unfilled {
+        address: u8,
+        sub: u8,
+        first: u32,
+    },
     /// Messages were answered with the message error bit and not sent again: the number of the first, and how many.
-    Left { first: u32, count: u32 },
+    Left {
+        first: u32,
+        count: u32,
+    },
+    /// A line by time or by command was never due: its number in the job's text, counted from 1, and what it says.
+    NeverDue {
+        line: u64,
+        words: String,
+    },
+    /// The fault of a line comes behind four others that are due at a message, so that it is not planned for it: the
+    /// number of the first such message, and how many more there are.
+    LeftOut {
+        line: u64,
+        first: u32,
+        more: u32,
+        words: String,
+    },
 }
 
-/// All that is probably a mistake in a job that was tried, in the order in which it is told; the frames that may not
-/// fit into their period are those of its script. With `is_all` also subaddresses that transmit and were never filled,
-/// and messages that were answered with the message error bit and not sent again. It fails for want of memory alone.
+/// All that is probably a mistake in a job that was tried, in the order in which it is told: first what was found in
+/// its lines by time or by command; the frames that may not fit into their period are those of its script. With
+/// `is_all` also subaddresses that transmit and were never filled, and messages that were answered with the message
+/// error bit and not sent again. It fails for want of memory alone.
 pub fn mistakes_of(
-    alloc: Global,
     job: &Job,
     findings: &Findings,
     tight: &[Tight],
+    lines: Vec<Mistake>,
     is_all: bool,
 ) -> Result<Vec<Mistake>, AllocError>
-    ensures { IfOk result (λ l. l.items ≡ spec.mistakes is_all job.now findings.now tight.now) }
+    ensures { IfOk result (λ l. l.items ≡ lines.items ++ spec.mistakes is_all job.now findings.now tight.now) }
 {
-    let mut found = Vec::new(alloc);
+    let mut found = lines;
     let (made, addresses) = (findings.made, job.addresses());
     add_unmet(&mut found, made, findings.unmet.as_slice())?;
     add_tight(&mut found, tight)?;

@@ -24,6 +24,7 @@ use crate::frames::{Overrun, note_frame};
 use crate::meeting::meets;
 use crate::messages::{put_actions, put_message, put_outcome};
 use crate::oddities::Oddities;
+use crate::origins::{Origin, Origins, line_at, put_line};
 use crate::planned::put_fault;
 use crate::signals::put_signals;
 use bc_machine::{Machine, Stepped, Upcoming};
@@ -37,6 +38,7 @@ use text_lines::WriteFault;
 #[derive(Clone, Copy)]
 struct Told<'s> {
     way: Way<'s>,
+    origins: &'s Origins,
     calls: Calls,
     oddities: Oddities,
 }
@@ -51,7 +53,8 @@ struct Trial<'s> {
     told: Told<'s>,
 }
 
-/// Puts a line for each fault that is planned for a message, and keeps those that meet nothing.
+/// Puts a line for each fault that is planned for a message, behind it by which line of the text it came, where that is
+/// told; and keeps those that meet nothing.
 fn note_faults(
     alloc: Global,
     text: &mut String,
@@ -59,6 +62,7 @@ fn note_faults(
     number: u32,
     coming: &Upcoming,
     faults: &[Fault],
+    origins: &[Origin],
 ) -> Result<(), AllocError>
     requires clock { now_of coming.now.bus < 2 ^ 60 }
     requires start { coming.now.talk.start ≡ talk_start coming.now.bus coming.now.gap }
@@ -67,9 +71,10 @@ fn note_faults(
         ≡ unmet.old.items ++ spec.numbered number
         (filter (λ f. not (is_met coming.now.bus coming.now.talk faults.now f)) faults.now)) }
 {
-    for fault in faults {
+    for (place, fault) in faults.iter().enumerate() {
         text.push_str("  ")?;
         put_fault(text, number, fault)?;
+        put_line(text, line_at(origins, place))?;
         if meets(alloc, coming, faults, fault)? {
             text.push_str("\n")?;
         } else {
@@ -127,9 +132,11 @@ fn note(
 {
     let mut text = String::new(alloc);
     put_message(alloc, &mut text, number, coming)?;
-    put_actions(&mut text, number, filled.actions())?;
+    let origins = told.origins;
+    put_actions(&mut text, number, filled.actions(), origins)?;
     let faults = job.plan().faults(number);
-    note_faults(alloc, &mut text, unmet, number, coming, faults.as_slice())?;
+    let (planned, lines) = (faults.as_slice(), origins.of_faults(number));
+    note_faults(alloc, &mut text, unmet, number, coming, planned, lines)?;
     put_outcome(&mut text, &coming.talk, told.way.bits)?;
     let (signals, channel) = (told.way.signals, job.channel());
     put_signals(alloc, &mut text, signals, channel, &coming.talk)?;
@@ -170,6 +177,7 @@ impl<'s> Trial<'s> {
         job: &Job,
         filled: &Filled,
         way: Way<'s>,
+        origins: &'s Origins,
     ) -> Result<Trial<'s>, AllocError>
         ensures tried { IfOk result (λ t. IsTried job.now t) }
         ensures told { IfOk result (λ t. (got : Option (List ℕ)) → HasTold job.now t.machine got got) }
@@ -180,6 +188,7 @@ impl<'s> Trial<'s> {
         let carried = Carried::none(alloc, filled.actions())?;
         let told = Told {
             way,
+            origins,
             calls: Calls::none(),
             oddities: Oddities::none(),
         };
@@ -272,12 +281,14 @@ impl<'s> Trial<'s> {
 }
 
 /// Tries a job: prints each of its messages, with the actions that are placed at it, the faults that are planned for
-/// it, what it comes to and the values of signals in it, and behind each frame with a period what time was left of it;
-/// and answers what was found. It fails for want of memory, and where the writer does.
-pub fn try_job<W: Write>(
+/// it, by which line of its text each of these came, where that is told, what it comes to and the values of signals in
+/// it, and behind each frame with a period what time was left of it; and answers what was found. It fails for want of
+/// memory, and where the writer does.
+pub fn try_job<'s, W: Write>(
     alloc: Global,
     job: &Job,
-    way: Way<'_>,
+    way: Way<'s>,
+    origins: &'s Origins,
     out: &mut W,
 ) -> Result<Findings, WriteFault>
     ensures made { IfOk result (λ f. f.made ≡ spec.made job.now) }
@@ -288,7 +299,7 @@ pub fn try_job<W: Write>(
 {
     let room = job.most_items(0);
     let filled = filled_by(job)?;
-    let mut trial = Trial::begin(alloc, job, &filled, way)?;
+    let mut trial = Trial::begin(alloc, job, &filled, way, origins)?;
     trial.run(alloc, job, &filled, out)?;
     let made = trial.machine.number();
     let uncarried = trial.carried.uncarried(alloc, filled.actions(), made)?;

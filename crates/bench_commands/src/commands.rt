@@ -1,6 +1,7 @@
 //! The commands of `bench`: which of them is asked for is done, and how the process ends then.
 
 use crate::command_line::{self, Asked, Request};
+use crate::damaged::tell_of_cut;
 use crate::given_words::{word_at_fault, words_of};
 use crate::left::tell_of_part;
 use crate::pointing::point;
@@ -64,6 +65,7 @@ where
                 let status = stop(errors, &fault);
                 point(rt, errors, &asked, &fault);
                 tell_of_part(rt, errors, &asked, &fault);
+                tell_of_cut(errors, &asked, &fault);
                 status
             }
         },
@@ -102,28 +104,76 @@ fn stop<E: Eprint>(errors: &E, fault: &Fault<'_>) -> ExitCode {
     ExitCode::from(fault.status())
 }
 
-/// Does what is asked.
-fn obey<'a, R: Host, E: Errors>(rt: &R, errors: &E, asked: &Asked<'a>) -> Result<(), Fault<'a>>
+/// Does what is asked of jobs, of scripts and of codes; None where something else is asked.
+fn make<'a, R: Host, E: Errors>(
+    rt: &R,
+    errors: &E,
+    request: &Request<'a>,
+) -> Option<Result<(), Fault<'a>>>
+where
+    R::Reader: 'static,
+{
+    match request {
+        Request::One(request) => Some(one_message::run(rt, request)),
+        Request::Assemble(request) => Some(assembling::run(rt, errors, request)),
+        Request::Run(request) => Some(command_run::run(rt, errors, request)),
+        Request::Check(request) => Some(checking::run(rt, request)),
+        Request::Reproduce(request) => Some(reproducing::run(rt, errors, request)),
+        Request::Explain(request) => Some(explaining::run(rt, request)),
+        _ => None,
+    }
+}
+
+/// Shows what is asked to be shown of a recording; None where something else is asked.
+fn show<'a, R: Host, E: Errors>(
+    rt: &R,
+    errors: &E,
+    asked: &Asked<'a>,
+) -> Option<Result<(), Fault<'a>>>
 where
     R::Reader: 'static,
 {
     match &asked.request {
-        Request::One(request) => one_message::run(rt, request),
-        Request::Assemble(request) => assembling::run(rt, errors, request),
-        Request::Run(request) => command_run::run(rt, errors, request),
-        Request::Check(request) => checking::run(rt, request),
-        Request::Dump(request) => dumping::run(rt, errors, request),
-        Request::Step(request) => stepping::run(rt, errors, request, asked.context),
-        Request::Stat(request) => statistics::run(rt, errors, request),
-        Request::Export(request) => exporting::run(rt, errors, request),
-        Request::Signals(request) => signalling::run(rt, errors, request),
-        Request::Draw(request) => drawing::run(rt, errors, request),
-        Request::View(request) => viewing::run(rt, errors, request),
-        Request::Judge(request) => judging::run(rt, errors, request),
-        Request::Complete(request) => completing::run(rt, errors, request),
-        Request::Cut(request) => cutting::run(rt, errors, request),
-        Request::Compare(request) => comparing::run(rt, errors, request),
-        Request::Reproduce(request) => reproducing::run(rt, errors, request),
-        Request::Explain(request) => explaining::run(rt, request),
+        Request::Dump(request) => Some(dumping::run(rt, errors, request)),
+        Request::Step(request) => Some(stepping::run(rt, errors, request, asked.context)),
+        Request::Stat(request) => Some(statistics::run(rt, errors, request)),
+        Request::Signals(request) => Some(signalling::run(rt, errors, request)),
+        Request::Draw(request) => Some(drawing::run(rt, errors, request)),
+        Request::View(request) => Some(viewing::run(rt, errors, request)),
+        _ => None,
     }
+}
+
+/// Judges a recording, or makes something of it; None where something else is asked.
+fn take<'a, R: Host, E: Errors>(
+    rt: &R,
+    errors: &E,
+    request: &Request<'a>,
+) -> Option<Result<(), Fault<'a>>>
+where
+    R::Reader: 'static,
+{
+    match request {
+        Request::Export(request) => Some(exporting::run(rt, errors, request)),
+        Request::Judge(request) => Some(judging::run(rt, errors, request)),
+        Request::Complete(request) => Some(completing::run(rt, errors, request)),
+        Request::Cut(request) => Some(cutting::run(rt, errors, request)),
+        Request::Compare(request) => Some(comparing::run(rt, errors, request)),
+        _ => None,
+    }
+}
+
+/// Does what is asked, by the kin of the request.
+fn obey<'a, R: Host, E: Errors>(rt: &R, errors: &E, asked: &Asked<'a>) -> Result<(), Fault<'a>>
+where
+    R::Reader: 'static,
+{
+    if let Some(done) = make(rt, errors, &asked.request) {
+        return done;
+    }
+    if let Some(done) = show(rt, errors, asked) {
+        return done;
+    }
+    // Each request is of one of the three kins.
+    take(rt, errors, &asked.request).unwrap_or(Ok(()))
 }

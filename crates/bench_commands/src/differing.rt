@@ -4,7 +4,7 @@ use bench_difference::difference;
 use bench_report::read_report;
 use ch11_reader::Index;
 use command_parts::requests::{jobs_of, read_again, texts_again};
-use command_step::stepping;
+use command_step::stepping::{self, jobs_under};
 use std::alloc::AllocError;
 use std::rt::Files;
 
@@ -29,6 +29,7 @@ pub(crate) fn difference_of<R: Files + AllocGlobal>(
     ) else {
         return Ok(None);
     };
+    let jobs = jobs_under(rt.alloc(), jobs, &report)?;
     let text = difference(rt.alloc(), &jobs, &report, &index, channel, number)?;
     Ok(Some(text))
 }

@@ -10,6 +10,7 @@
 
 mod command_line;
 mod commands;
+mod damaged;
 mod differing;
 mod given_words;
 mod left;

@@ -12,7 +12,8 @@ use Rattle.bench_settings.specs.Lawful.{AreLawful}
 use Rattle.bench_settings.proofs.Lists.{map_at, which}
 use Rattle.bench_mail.specs.declared.mailbox.Inbox.{Inbox}
 use Rattle.bench_run.specs.Runs.{IsRun}
-use Rattle.bench_run.specs.Live.{LiveChannel, live_job, with_posts, AreLive}
+use Rattle.job_file.specs.Beside.{with_posts}
+use Rattle.bench_run.specs.Live.{LiveChannel, live_job, AreLive}
 use Rattle.bench_run.proofs.Lives.{lives_channels, lives_lawful}
 use Rattle.replay.specs.Accord.{Agrees, AgreesOn, AreOfChannels}
 use Rattle.replay.specs.PlacedActions.{PlacedActionsSuffice}

@@ -110,8 +110,8 @@ suite_head verdicts =
     codes "<?xml version=\"1.0\" encoding=\"UTF-8\"?>\n<testsuite name=\"bench judge\" tests=\""
     ++ (decimal (length verdicts) ++ (codes "\" failures=\"" ++ (decimal (not_held verdicts) ++ codes "\">\n")))
 
--- the file of rules, which the text of a file spells, with the verdict on each on a recording, of whose file these bytes
--- were skipped
+-- the file of rules, which the text of a file spells, with the verdict on each on a recording, of whose file these
+-- bytes were skipped
 unfoldable pub junit : Text → Text → List Skip → List Rule → List RuleVerdict → Lost → Passed → List ℕ
 junit file text skips rules verdicts lost p =
     suite_head verdicts

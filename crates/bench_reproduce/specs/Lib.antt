@@ -1,3 +1,4 @@
+pub mod Deeds
 pub mod Readings
 pub mod Reproduced
 pub mod Running

@@ -2,7 +2,8 @@
 //! before have brought to where it is.
 
 use crate::cases::{Case, due_count};
-use crate::explanations::{Deed, Explanation};
+use crate::deeds::Deed;
+use crate::explanations::Explanation;
 use crate::guesses::{GUESSES, Guess, guess_at};
 use crate::hosts::{Ahead, has, is_uncommon, legality, renew, set_bits, set_reply};
 use crate::mending::{mark_controller, mend, mend_bits, mend_controller};
@@ -31,7 +32,6 @@ const OTHER: u32 = 1000;
 /// Explains the messages of a recording in their order.
 #[derive(Drop)]
 pub(crate) struct Explainer<'a> {
-    alloc: Global,
     messages: &'a [Kept],
     first: u64,
     present: u32,
@@ -66,12 +66,11 @@ impl<'a> Explainer<'a> {
             present |= bit(*address);
         }
         Ok(Explainer {
-            alloc,
             messages,
             first,
             present,
             scene,
-            explanation: Explanation::none(alloc),
+            explanation: Explanation::none(alloc, addresses)?,
             due: Vec::new(alloc),
             unexplained: 0,
         })
@@ -88,9 +87,9 @@ impl<'a> Explainer<'a> {
         if best.missed >= OTHER {
             self.unexplained = self.unexplained.saturating_add(1);
         }
-        self.scene.settle(self.alloc, &wanted, &self.explanation)?;
+        self.scene.settle(&wanted, &self.explanation);
         self.due.clear();
-        for deed in self.explanation.later.as_slice() {
+        for deed in self.explanation.deeds.later() {
             let action = deed.action.copy();
             self.due.push(Deed {
                 address: deed.address,
@@ -181,7 +180,7 @@ impl<'a> Explainer<'a> {
             None => {
                 self.explanation
                     .begin(Message::default(), self.due.as_slice())?;
-                let _ = self.scene.attempt(self.alloc, wanted, &self.explanation)?;
+                let _ = self.scene.attempt(wanted, &self.explanation)?;
                 Ok(())
             }
         }
@@ -213,10 +212,7 @@ impl<'a> Explainer<'a> {
         self.prepare(case, &outlook)?;
         let mut judged = false;
         for _round in 0..ROUNDS {
-            let Some(talk) = self
-                .scene
-                .attempt(self.alloc, case.wanted, &self.explanation)?
-            else {
+            let Some(talk) = self.scene.attempt(case.wanted, &self.explanation)? else {
                 return Ok(u32::MAX);
             };
             if case.wanted.is_given_by(&talk) {
@@ -357,9 +353,11 @@ impl<'a> Explainer<'a> {
     }
 }
 
-/// Whether another message might explain what later messages show.
+/// Whether another message might explain what later messages show: where no reply came, and where one came behind a
+/// command to all terminals, to which none is due.
 fn guess_matters(wanted: &Wanted) -> bool {
-    !wanted.came(1)
+    let is_to_all = Command::of(wanted.word(0)).is_broadcast();
+    !wanted.came(1) || is_to_all && !wanted.is_transfer()
 }
 
 /// When the messages of a channel were on the bus, and which they were.

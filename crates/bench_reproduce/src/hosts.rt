@@ -1,7 +1,6 @@
 //! What hosts of terminals set so that replies come as they were recorded.
 
 use crate::explanations::Explanation;
-use crate::guesses::ALL;
 use crate::outlook::{Outlook, is_question};
 use crate::ramps::{HIGHEST_PUT_UP, counters_in};
 use crate::scene::Scene;
@@ -314,9 +313,6 @@ pub(crate) fn legality(command: Command, is_illegal: bool) -> Action {
 
 /// Makes a terminal anew.
 pub(crate) fn renew(explanation: &mut Explanation, address: u8) -> Result<(), AllocError> {
-    if address >= ALL {
-        return Ok(());
-    }
     explanation.act(address, Action::Power(false))?;
     explanation.act(address, Action::Power(true))
 }

@@ -10,6 +10,7 @@
 mod answering;
 mod breaks;
 mod cases;
+mod deeds;
 mod edits;
 mod explaining;
 mod explanations;
@@ -25,6 +26,7 @@ mod laws;
 mod mending;
 mod outlook;
 mod pacing;
+mod planned;
 mod ramps;
 mod reproducing;
 mod scene;

@@ -112,7 +112,8 @@ pub(crate) fn mark_controller(explanation: &mut Explanation, case: &Case<'_>) {
     }
 }
 
-/// Silences a reply of the talk that did not come.
+/// Silences a reply of the talk that did not come; false where nothing is left to add. The terminal of its command may
+/// not be there: then another one replied, and a planned fault alone silences it.
 fn silence(
     explanation: &mut Explanation,
     case: &Case<'_>,
@@ -120,24 +121,27 @@ fn silence(
     run: u32,
 ) -> Result<bool, AllocError> {
     let (address, line) = (case.command(run).address(), case.wanted.line);
+    let is_there = explanation.has(address);
     if case.style.deafens {
         explanation.act(address, Action::Deaf { line, on: true })?;
         explanation.act_later(address, Action::Deaf { line, on: false })?;
-        return Ok(true);
+        return Ok(is_there);
     }
     let fault = Fault::Mute { run };
     if explanation.faults.as_slice().contains(&fault) {
         return Ok(false);
     }
     let on_line_b = matches!(line, Line::B);
-    let stays = outlook.stays_silent(case.next, address, on_line_b);
-    if stays || !explanation.plan(fault) {
-        explanation.act(address, Action::Mute { line, on: true })?;
+    let stays = is_there && outlook.stays_silent(case.next, address, on_line_b);
+    if !stays && explanation.plan(fault) {
+        return Ok(true);
     }
-    Ok(true)
+    explanation.act(address, Action::Mute { line, on: true })?;
+    Ok(is_there)
 }
 
-/// Has a terminal take its command as illegal, or as legal again, where its status word alone tells so.
+/// Has a terminal take its command as illegal, or as legal again, where its status word alone tells so. That of the
+/// command may not be there, as with one to all terminals: then it is another one that replied.
 fn rejudge(
     explanation: &mut Explanation,
     case: &Case<'_>,
@@ -155,6 +159,9 @@ fn rejudge(
         return Ok(false);
     }
     if is_illegal && wanted.len() > 1 || explanation.rejudged.as_slice().contains(&run) {
+        return Ok(false);
+    }
+    if !explanation.has(command.address()) {
         return Ok(false);
     }
     // There is room for both replies.

@@ -2,7 +2,8 @@
 ghost use Rattle.mil_bus.specs.Exchange.{now_of};
 ghost use Rattle.std.specs.Prelude.{◌<◌, ◌^◌, ◌≡◌, true};
 
-use crate::explanations::{Deed, Explanation};
+use crate::deeds::Deed;
+use crate::explanations::Explanation;
 use crate::wanted::{LATEST_TICK, Wanted};
 use mil_bus::{Bus, BusError, Talk};
 use mil_host::Action;
@@ -40,29 +41,23 @@ fn has_time(bus: &Bus) -> bool
 }
 
 /// Exchanges a message on a bus, behind what hosts do in front of it; None where it would begin too late.
-fn exchange(
-    alloc: Global,
-    bus: &mut Bus,
-    wanted: &Wanted,
-    explanation: &Explanation,
-) -> Result<Option<Talk>, AllocError> {
+fn exchange(bus: &mut Bus, wanted: &Wanted, explanation: &Explanation) -> Option<Talk> {
     for deed in explanation.deeds.as_slice() {
-        // A terminal that is not there does nothing.
+        // Each is of a terminal that is there.
         let _ = bus.act(deed.address, &deed.action);
     }
-    let faults = explanation.planned(alloc)?;
     let before = bus.hold(wanted.at.min(LATEST_TICK));
     if !has_time(bus) {
-        return Ok(None);
+        return None;
     }
     let talk = bus.exchange(
         wanted.line,
         &explanation.message,
         Gap::of(LEAST_GAP),
-        faults.as_slice(),
+        explanation.faults.as_slice(),
     );
     let _ = bus.hold(before);
-    Ok(Some(talk))
+    Some(talk)
 }
 
 /// The least gap that a controller keeps behind a message (own choice of the longer one).
@@ -91,7 +86,6 @@ impl Scene {
     /// Tries a message.
     pub(crate) fn attempt(
         &mut self,
-        alloc: Global,
         wanted: &Wanted,
         explanation: &Explanation,
     ) -> Result<Option<Talk>, AllocError> {
@@ -99,24 +93,18 @@ impl Scene {
             self.tried = self.settled.copy()?;
         }
         self.spent = true;
-        exchange(alloc, &mut self.tried, wanted, explanation)
+        Ok(exchange(&mut self.tried, wanted, explanation))
     }
 
     /// Keeps the message that was tried last.
-    pub(crate) fn settle(
-        &mut self,
-        alloc: Global,
-        wanted: &Wanted,
-        explanation: &Explanation,
-    ) -> Result<(), AllocError> {
-        if let Some(talk) = exchange(alloc, &mut self.settled, wanted, explanation)? {
+    pub(crate) fn settle(&mut self, wanted: &Wanted, explanation: &Explanation) {
+        if let Some(talk) = exchange(&mut self.settled, wanted, explanation) {
             self.least = least_behind(&talk);
         }
         self.spent = false;
         for deed in explanation.deeds.as_slice() {
             self.note_gap(deed);
         }
-        Ok(())
     }
 
     /// Notes the gap that a host sets.

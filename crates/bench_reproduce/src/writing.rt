@@ -141,7 +141,8 @@ impl JobText {
         explanation: &Explanation,
         control: &str,
     ) -> Result<(), AllocError> {
-        let is_plain = explanation.deeds.is_empty() && explanation.faults.as_slice().is_empty();
+        let is_plain = explanation.deeds.as_slice().is_empty()
+            && explanation.faults.as_slice().is_empty();
         if is_plain && control.is_empty() {
             return Ok(());
         }

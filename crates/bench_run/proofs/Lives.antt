@@ -20,7 +20,8 @@ use Rattle.bench_run.specs.Entries.{index_of, entries_to_the_end}
 use Rattle.bench_run.specs.Runs.{ArePairs, records_of, most_in_all, others_than}
 use Rattle.job_file.specs.Rooms.{most_items}
 use Rattle.bench_mail.specs.Mail.{IsInboxOf}
-use Rattle.bench_run.specs.Live.{with_posts, LiveChannel, live_job, ArePlaced, AreLive, AreInboxesOf}
+use Rattle.job_file.specs.Beside.{with_posts}
+use Rattle.bench_run.specs.Live.{LiveChannel, live_job, ArePlaced, AreLive, AreInboxesOf}
 use Rattle.bench_run.specs.Threads.{IsThreadReport, IsCountedIn, AreEnded}
 use Rattle.bench_run.specs.Ending.{IsAll, IsAllLive}
 use Rattle.bench_settings.proofs.Lists.{map_at, which}
@@ -197,7 +198,7 @@ module _ (most : ℕ) (jobs : List JobState) (before after : List Inbox) (parts 
 no_posts_in : (c : LiveChannel) → ArePlaced 0 c.part.made c.before c.after c.posts → live_job c ≡ c.job
 no_posts_in c is =
     let none : c.posts ≡ [] = empty c.posts (few_placed c.posts is.got is.first) is.few in
-    ap (λ ps. with_posts c.job ps) none ∙ ap (λ acts. record { channel = c.job.channel; start = c.job.start; addresses = c.job.addresses; actions = acts; plan = c.job.plan; script = c.job.script }) (append-nil c.job.actions)
+    ap (λ ps. with_posts c.job ps) none ∙ ap (λ acts. record c.job { actions = acts }) (append-nil c.job.actions)
   where
     empty : {got : ℕ} (ps : List Placed) → length ps ≤ got → got ≤ 0 → ps ≡ []
     empty [] low none = refl

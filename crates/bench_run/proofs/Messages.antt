@@ -1,5 +1,5 @@
 -- How many messages a controller makes at most: those of its script and those that actions have inserted.
-use Rattle.std.proofs.Common.{◌≡◌, ℕ, zero, suc, ◌+◌, ◌-◌, ◌<◌, ◌≤◌, ltb, Option, Some, None, List, [], ◌∷◌, ◌++◌, length, drop, ap, refl, arith}
+use Rattle.std.proofs.Common.{◌≡◌, ℕ, zero, suc, ◌+◌, ◌-◌, ◌<◌, ◌≤◌, Bool, true, false, cond, ltb, Option, Some, None, List, [], ◌∷◌, ◌++◌, length, drop, ap, refl, arith}
 use Rattle.std.specs.List.{cons_option}
 use Rattle.std.proofs.lemmas.List.{length-append}
 use Rattle.mil_word.specs.declared.Line.{Line}
@@ -25,10 +25,11 @@ use Rattle.frame_asm.specs.Shapes.{code_of_tree}
 use Rattle.job_file.specs.Jobs.{JobState, tree_in, job_in, own_inserts}
 use Rattle.job_file.specs.Machines.{IsOf}
 use Rattle.job_file.specs.Rooms.{most_items}
+use Rattle.job_file.specs.Timed.{says_nothing}
 use Rattle.job_file.proofs.Moves.{run_keeps}
 use Rattle.bench_mail.specs.declared.mailbox.Inbox.{Inbox}
 use Rattle.bench_run.specs.declared.posting.Posts.{Posts}
-use Rattle.bench_run.specs.Live.{with_posts}
+use Rattle.job_file.specs.Beside.{with_posts}
 use Rattle.bench_run.specs.Posted.{IsPosted}
 use Rattle.bench_run.proofs.PlacedPosts.{few_placed}
 
@@ -132,11 +133,20 @@ few_live job posts m of =
     let inserts : length (inserts_among m.placed) ≡ own_inserts (job.actions ++ posts) = ap own_inserts of.actions in
     omega (arith, made, worst, inserts)
 
+inserts_more : (actions posts : List Placed) → own_inserts (actions ++ posts) ≤ own_inserts actions + length posts
+inserts_more actions posts =
+    let both = ap length (among_both actions posts) in
+    omega (arith, both, length-append (inserts_among actions) (inserts_among posts), few_among posts)
+
+-- where no line is by time or by command, the lines say the actions
+said_more : (plain : Bool) (actions posts own : List Placed) → own_inserts (cond plain (actions ++ posts) own) ≤ own_inserts (cond plain actions own) + length posts
+said_more true actions posts own = inserts_more actions posts
+said_more false actions posts own = omega arith
+
 -- which are no more than the job may offer where so many are posted to it
 pub live_items : (most : ℕ) (job : JobState) (posts : List Placed) → length posts ≤ most → most_items 0 (with_posts job posts) ≤ most_items most job
 live_items most job posts few =
-    let both = ap length (among_both job.actions posts) in
-    omega (arith, both, length-append (inserts_among job.actions) (inserts_among posts), few_among posts, few)
+    omega (arith, inserts_more job.actions posts, said_more (says_nothing job.timed) job.actions posts job.own, few)
 
 pub few_offered : (most : ℕ) (before : Inbox) (job : JobState) (m n : MachineState) (p : Posts) (is : IsPosted most before job m p) → IsOf (job_in job) (job.actions ++ is.posts) n
     → n.point.number < most_items most job

@@ -12,7 +12,7 @@ use Rattle.bench_mail.specs.declared.mailbox.Inbox.{Inbox}
 use Rattle.bench_run.specs.declared.posting.Posts.{Posts}
 use Rattle.bench_settings.specs.Placing.{placed_up_to}
 use Rattle.bench_mail.specs.Mail.{times_empty}
-use Rattle.bench_run.specs.Live.{with_posts}
+use Rattle.job_file.specs.Beside.{with_posts}
 use Rattle.bench_run.specs.Posted.{IsPosted}
 use Rattle.bench_run.specs.Threads.{RecordsOfferedSoFar, IsThreadStage}
 use Rattle.bench_run.proofs.Stages.{so_far_alike}

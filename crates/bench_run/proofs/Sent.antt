@@ -29,6 +29,9 @@ use Rattle.bc_machine.specs.contracts.parts.Parts as parts
 use Rattle.bc_machine.specs.contracts.parts.Parts.TheInside as parts_inside
 use Rattle.bc_machine.specs.contracts.machine.Machine as machine
 use Rattle.job_file.specs.contracts.jobs.Job as job
+use Rattle.job_file.specs.contracts.timed.TimedAction as timed_action
+use Rattle.job_file.specs.contracts.timed.TimedFault as timed_fault
+use Rattle.job_file.specs.contracts.timed.TimedLines as timed_lines
 use Rattle.bench_run.specs.contracts.entry.Entry as entry
 use Rattle.bench_run.specs.contracts.entry.EntryTagged.TheImpl.{ghosts}
 use Rattle.bench_run.specs.contracts.channel.Room as room
@@ -118,8 +121,17 @@ actions_sync = search (schedule_sync, sendable, crosses) depth 40 fits 10000
 plan_sync : IsSync plan.the_row
 plan_sync = search (maps.crosses, sendable, crosses) depth 40 fits 10000
 
+timed_action_sync : IsSync timed_action.the_row
+timed_action_sync = declared_sync timed_action.the_type (search (sendable, crosses) depth 40 fits 10000, (host_action_sync, tt))
+
+timed_fault_sync : IsSync timed_fault.the_row
+timed_fault_sync = search (sendable, crosses) depth 40 fits 10000
+
+timed_lines_sync : IsSync timed_lines.the_row
+timed_lines_sync = search (timed_action_sync, timed_fault_sync, sendable, crosses) depth 40 fits 20000
+
 pub job_sync : IsSync job.the_row
-job_sync = search (program_sync, actions_sync, plan_sync, sendable, crosses) depth 40 fits 10000
+job_sync = search (program_sync, actions_sync, plan_sync, timed_lines_sync, sendable, crosses) depth 40 fits 20000
 
 post_send : IsSend post.the_row
 post_send = declared_send post.the_type (search (sendable, crosses) depth 40 fits 10000, (host_action_send, tt))

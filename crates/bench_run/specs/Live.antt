@@ -8,6 +8,7 @@ use Rattle.std.specs.Global.{Vec}
 use Rattle.std.specs.List.{AllByRecursion}
 use Rattle.bc_machine.specs.declared.placed.HostAction.{HostAction}
 use Rattle.bc_machine.specs.declared.placed.Placed.{Placed}
+use Rattle.job_file.specs.Beside.{with_posts}
 use Rattle.job_file.specs.Jobs.{JobState}
 use Rattle.bench_report.specs.Reports.{ChannelPart, RunReport, NeverFalls}
 use Rattle.bench_settings.specs.declared.settings.Settings.{Settings}
@@ -20,17 +21,6 @@ use Rattle.bench_run.specs.declared.error.RunError.{RunError}
 use Rattle.bench_run.specs.declared.error.RunError.TheVariants as fault
 use Rattle.bench_mail.specs.Mail.{received_by, times_empty, IsInboxOf, IsMadeFor}
 use Rattle.bench_run.specs.Runs.{ArePairs, Ran, RefusesNoneWithRoom, IsCut, LeavesMemory, LeavesRunInSink}
-
--- a job with actions besides its own; at one number its own come first
-abbrev pub with_posts : JobState → List Placed → JobState
-with_posts job posts = record {
-  channel = job.channel;
-  start = job.start;
-  addresses = job.addresses;
-  actions = job.actions ++ posts;
-  plan = job.plan;
-  script = job.script;
-}
 
 -- what is asked for
 abbrev pub asked_by : Post → HostAction

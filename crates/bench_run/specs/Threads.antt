@@ -26,7 +26,8 @@ use Rattle.bench_mail.specs.declared.mailbox.Inbox.{Inbox}
 use Rattle.bench_run.specs.declared.posting.Posts.{Posts}
 use Rattle.bench_run.specs.declared.threads.Joined.{Joined}
 use Rattle.bench_mail.specs.Mail.{IsInboxOf}
-use Rattle.bench_run.specs.Live.{with_posts, ArePlaced}
+use Rattle.job_file.specs.Beside.{with_posts}
+use Rattle.bench_run.specs.Live.{ArePlaced}
 use Rattle.bench_run.specs.Posted.{IsPosted}
 use Rattle.bench_run.specs.Entries.{index_of, entry_of, entries_to_the_end}
 use Rattle.bench_run.specs.Runs.{records_of, kept_below, most_in_all, others_than}

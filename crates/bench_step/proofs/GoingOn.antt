@@ -1,5 +1,5 @@
 -- A session goes on line by line.
-use Rattle.std.proofs.Common.{◌≡◌, ℕ, ◌<◌, List, [], ◌∷◌, ◌++◌, length, Option, None, Some, IfSome, refl, sym, ap, ◌∙◌, append_assoc, append-nil}
+use Rattle.std.proofs.Common.{◌≡◌, ℕ, ◌<◌, List, [], ◌∷◌, ◌++◌, length, Option, None, Some, IfSome, refl, sym, ap, ◌∙◌, subst, append_assoc, append-nil}
 use Rattle.std.specs.Prelude.{Bool, true, false, ◌||◌}
 use Rattle.std.proofs.KnownBytes.{Appends-trans, Appends-nil}
 use Rattle.std.specs.List.{before_first}
@@ -14,7 +14,7 @@ use Rattle.text_lines.proofs.LineLemmas.{text_lines-none}
 use Rattle.replay.specs.Moves.{ReplayState}
 use Rattle.bench_step.specs.Commands.{asked}
 use Rattle.bench_step.specs.Session.{Replies, after_reply, reply_text, is_memory, MayTell, AreReplies, after_replies, AreMessagesTold, session_text, any_memory}
-use Rattle.bench_step.specs.Answering.{IsLineAnswered, IsSession, IsAllRead, MayBeDebugged, IsThrough, IsEnded, IsReaders, IsCutShort, is_quit, up_to_quit, any_quit, opened_on}
+use Rattle.bench_step.specs.Answering.{IsLineAnswered, IsSession, IsAllRead, MayBeDebugged, IsThrough, IsEnded, IsReaders, IsCutShort, IsBegun, is_quit, up_to_quit, any_quit, opened_on}
 use Rattle.bench_step.specs.declared.manners.Manner.{Manner}
 use Rattle.bench_step.specs.declared.replies.Reply.{Reply}
 use Rattle.bench_step.proofs.Ending.{end_is, one_more_quit, last_quits, all_to_quit, none_quits}
@@ -217,3 +217,13 @@ pub through : (manner known_manner : Manner) (jobs : List JobState) (parts : Lis
     → IsThrough manner jobs parts recording left leaves got gets known
 through manner known_manner jobs parts recording s last left leaves got gets refused known accepted is same told h =
     record { accepted = accepted; last = last; read = rw (is, same, told) at h }
+
+-- a session that was cut short, of jobs that were accepted
+pub begun : (manner known_manner : Manner) (jobs : List JobState) (parts : List ChannelPart) (recording : List ℕ) (s : ReplayState) (left got gets : Option (List ℕ)) (f : StepFault)
+    → MayBeDebugged jobs parts recording → s ≡ opened_on jobs parts recording → known_manner ≡ manner → IsCutShort known_manner s left got gets f
+    → IsBegun manner jobs parts recording left got gets f
+begun manner known_manner jobs parts recording s left got gets f accepted is same h = (
+  accepted,
+  subst (λ (m : Manner). IsCutShort m (opened_on jobs parts recording) left got gets f) same
+      (subst (λ (at : ReplayState). IsCutShort known_manner at left got gets f) is h),
+)

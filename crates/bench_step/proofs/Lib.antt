@@ -1,6 +1,8 @@
 pub mod Asking
 pub mod Moving
 pub mod NotIndexed
+pub mod OwnFaults
+pub mod Refusing
 pub mod Pairs
 pub mod Lines
 pub mod Ending

@@ -19,6 +19,7 @@ use Rattle.replay.specs.Moves.{ReplayState}
 use Rattle.bench_step.specs.Commands.{Asked, quit, asked}
 use Rattle.bench_step.specs.Session.{Replies, after_reply, reply_text, is_memory, is_end, MayTell, AreReplies}
 use Rattle.bench_step.specs.Session.{after_replies, AreMessagesTold, session_text, any_memory}
+use Rattle.bench_step.specs.Shown.{IsShown, jobs_under}
 use Rattle.bench_step.specs.declared.manners.Manner.{Manner}
 use Rattle.bench_step.specs.declared.replies.Reply.{Reply}
 use Rattle.bench_step.specs.declared.fault.StepFault.{StepFault}
@@ -97,12 +98,12 @@ pub record SessionState : Type 0 where
   pub debugger : ReplayState
   pub manner : Manner
 
--- they were, and all those lines were answered, for none of which memory was refused
+-- those whose states are shown were accepted, and all those lines were answered, for none of which memory was refused
 abbrev pub IsWholeSession : Manner → List JobState → List ChannelPart → List ℕ
     → Option (List ℕ) → Option (List ℕ) → Option (List ℕ) → Option (List ℕ) → Type 0
-IsWholeSession manner jobs parts recording left leaves got gets = IsThrough manner jobs parts recording left leaves
-    got gets
-    false
+IsWholeSession manner jobs parts recording left leaves got gets =
+    (shown : List JobState) × IsShown jobs parts recording shown
+    × IsThrough manner shown parts recording left leaves got gets false
 
 -- the fault of a reader whose error is of this kind
 abbrev pub IsReaders : ErrorKind → StepFault → Type 0
@@ -145,6 +146,18 @@ IsOpeningRefusal jobs parts recording fault.LineMemory = ⊥
 IsOpeningRefusal jobs parts recording fault.Input = ⊥
 IsOpeningRefusal jobs parts recording fault.Output = ⊥
 
+-- The same of the jobs whose states would have been shown. Y1 comes only where neither the jobs as they were given agree
+-- with report and recording, nor those under the faults that are due where the report says that actions were placed; it
+-- names the first difference of these.
+abbrev pub IsRefusal : List JobState → List ChannelPart → List ℕ → StepFault → Type 0
+IsRefusal jobs parts recording (fault.Mismatch channel number) = (¬ Agrees jobs parts (found_in recording))
+    × IsOpeningRefusal (jobs_under jobs parts) parts recording (fault.Mismatch channel number)
+IsRefusal jobs parts recording (fault.Refused r) = IsOpeningRefusal jobs parts recording (fault.Refused r)
+IsRefusal jobs parts recording fault.Memory = IsOpeningRefusal jobs parts recording fault.Memory
+IsRefusal jobs parts recording fault.LineMemory = ⊥
+IsRefusal jobs parts recording fault.Input = ⊥
+IsRefusal jobs parts recording fault.Output = ⊥
+
 -- nothing was read, and nothing printed
 pub record IsUntouched (left leaves got gets : Option (List ℕ)) : Type 0 where
   pub reader : leaves ≡ left
@@ -161,6 +174,7 @@ IsBegun manner jobs parts recording left got gets f = MayBeDebugged jobs parts r
 abbrev pub Ends : Manner → List JobState → List ChannelPart → List ℕ → Option (List ℕ) → Option (List ℕ)
     → Option (List ℕ) → Option (List ℕ) → StepFault → Type 0
 Ends manner jobs parts recording left leaves got gets f =
-    (IsOpeningRefusal jobs parts recording f × IsUntouched left leaves got gets)
-    ⊎ (IsBegun manner jobs parts recording left got gets f
-    ⊎ ((f ≡ fault.Memory) × IsThrough manner jobs parts recording left leaves got gets true))
+    (IsRefusal jobs parts recording f × IsUntouched left leaves got gets)
+    ⊎ ((shown : List JobState) × IsShown jobs parts recording shown
+    × (IsBegun manner shown parts recording left got gets f
+    ⊎ ((f ≡ fault.Memory) × IsThrough manner shown parts recording left leaves got gets true)))

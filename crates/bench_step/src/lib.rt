@@ -17,11 +17,13 @@ mod opening;
 mod replies;
 mod session;
 mod sessions;
+mod shown;
 
 pub use commands::Command;
 pub use console::Prompted;
 pub use fault::StepFault;
-pub use laws::replies_are_determined;
+pub use laws::{own_faults_are_shown, replies_are_determined};
 pub use manners::Manner;
 pub use replies::Reply;
 pub use sessions::step;
+pub use shown::jobs_under;

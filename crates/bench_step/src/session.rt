@@ -1,7 +1,8 @@
 //! A recording under the debugger, and the answer to a line.
-ghost use Rattle.bench_step.specs.Answering.{MayBeDebugged, IsLineAnswered, IsOpeningRefusal, opened_on};
+ghost use Rattle.bench_step.specs.Answering.{MayBeDebugged, IsLineAnswered, IsRefusal, opened_on};
 ghost use Rattle.bench_step.specs.Commands.{asked, asked_of, show_at};
 ghost use Rattle.bench_step.specs.Session.{Replies, after_reply, reply_text};
+ghost use Rattle.bench_step.specs.Shown.{IsShown};
 ghost use Rattle.std.specs.Io.KnownBytes.{Appends};
 ghost use Rattle.std.specs.Prelude.{◌≡◌, ◌++◌, IfOk, IfErr, OnOk};
 
@@ -74,14 +75,18 @@ impl<'a> Session<'a> {
     pub(crate) fn open(
         alloc: Global,
         manner: Manner,
-        jobs: &[Job],
+        jobs: Vec<Job>,
         report: &'a Report,
         recording: &'a [u8],
     ) -> Result<Session<'a>, StepFault>
-        ensures ok { IfOk result (λ s. s.debugger ≡ opened_on jobs.now report.now.channels recording.now) }
+        ensures shown { IfOk result
+            (λ s. IsShown jobs.items report.now.channels recording.now s.debugger.jobs) }
+        ensures ok { IfOk result
+            (λ s. s.debugger ≡ opened_on s.debugger.jobs report.now.channels recording.now) }
         ensures manner { IfOk result (λ s. s.manner ≡ manner) }
-        ensures accepted { OnOk result (MayBeDebugged jobs.now report.now.channels recording.now) }
-        ensures refused { IfErr result (IsOpeningRefusal jobs.now report.now.channels recording.now) }
+        ensures accepted { IfOk result
+            (λ s. MayBeDebugged s.debugger.jobs report.now.channels recording.now) }
+        ensures refused { IfErr result (IsRefusal jobs.items report.now.channels recording.now) }
     {
         let replay = open_replay(alloc, jobs, report, recording)?;
         match Decoder::make(alloc) {

@@ -54,20 +54,22 @@ fn answer_all<R: BufRead, W: Write>(
 /// stands where it stood, and goes on, and answers with that fault at the end of the lines, which is at `quit` too.
 ///
 /// Before the first line is read: the fault of a recording that can't be read, and then the first difference between
-/// jobs, report and recording (Y1).
+/// jobs, report and recording (Y1). The report has the actions of hosts at their numbers, but no faults: where the jobs
+/// as they are given do not agree, and a line plans a fault by time or by command, they are taken under the faults that
+/// are due where those actions were placed, which a post of a live run may have moved.
 pub fn step<R: BufRead, W: Write>(
     alloc: Global,
     manner: Manner,
-    jobs: &[Job],
+    jobs: Vec<Job>,
     report: &Report,
     recording: &[u8],
     input: &mut R,
     out: &mut W,
 ) -> Result<(), StepFault>
-    ensures whole { OnOk result (IsWholeSession manner jobs.now report.now.channels recording.now
+    ensures whole { OnOk result (IsWholeSession manner jobs.items report.now.channels recording.now
         (R.remaining input.old)
         (R.remaining input.new) (W.contents out.old) (W.contents out.new)) }
-    ensures ended { IfErr result (Ends manner jobs.now report.now.channels recording.now (R.remaining input.old)
+    ensures ended { IfErr result (Ends manner jobs.items report.now.channels recording.now (R.remaining input.old)
         (R.remaining input.new) (W.contents out.old) (W.contents out.new)) }
 {
     let mut session = Session::open(alloc, manner, jobs, report, recording)?;

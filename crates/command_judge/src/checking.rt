@@ -21,6 +21,8 @@ word by the names of its bits. Then follows what is probably a mistake: a planne
 action that no message reaches, a message to a terminal that is not there, a terminal that is never called, a frame
 that took longer than its period, and one that may take longer: each reply 12 us late, each retry used up, each poll
 asked as often as it may; and how much room the queue of `bench run --drop` needs for nothing to be refused.
+Where a line of a job is by time or by command, each action and each fault has the number of its line behind it; and
+what was never due is told, and a fault that is left out because four others come first.
 
 With --summary the messages are only counted, and what is probably a mistake goes further: a terminal that transmits
 from a subaddress where no words were put up, and messages that are answered with message_error and not sent again.

@@ -1,9 +1,9 @@
 //! What the commands of `bench` share: the tables of their options, the choice of messages, recordings that are read
-//! pass by pass, files that take their place once they are whole, and where they print; and it passes on their requests.
+//! pass by pass, files that take their place once they are whole, and where they print; it passes on their requests.
 //!
 //! It may know: words, requests, files, the packets of a stream with `ch11_check`, times, watched files, rules,
-//! dictionaries of signals, selections, words of a text. It has no tests: each command is tried by `.ci/commands`, and
-//! its faults by `.ci/faults`. It has no wrong bodies.
+//! dictionaries of signals, selections, words of a text. It has no tests: each command is tried by `.ci/commands`,
+//! and its faults by `.ci/faults`. It has no wrong bodies.
 #![tactic(auto)]
 
 pub mod context;

@@ -123,7 +123,7 @@ pub(crate) fn jobs_for<'a>(
     way: Way,
 ) -> Result<Vec<Job>, Fault<'a>> {
     let jobs = jobs_of(alloc, texts)?;
-    if way.live && jobs.iter().any(|job| job.is_resolved()) {
+    if way.live && jobs.iter().any(|job| job.has_moments()) {
         return Err(Fault::Usage(
             "--live takes no job with a line by time or by command: posted actions would move where it is due",
         ));

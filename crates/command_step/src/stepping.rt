@@ -2,6 +2,7 @@
 
 use bench_reasons::Explained;
 use bench_report::{Report, ReportError, ReportFault, read_report};
+pub use bench_step::jobs_under;
 use bench_step::{Prompted, step};
 use ch11_check::check;
 use clap::{ArgMatches, Command};
@@ -100,7 +101,7 @@ fn step_read<'a, R: AllocGlobal + Input<Reader: IsTerminal> + Print, E: Eprint +
 ) -> Result<(), Fault<'a>> {
     let report = judge_report(rt.alloc(), report)?;
     let jobs = jobs_of(rt.alloc(), texts)?;
-    walk(rt, errors, explains, &jobs, &report, recording)
+    walk(rt, errors, explains, jobs, &report, recording)
 }
 
 /// A recording is judged before the report and the jobs are, by a pass that keeps nothing of it.
@@ -125,7 +126,7 @@ fn walk<'a, R: AllocGlobal + Input<Reader: IsTerminal> + Print, E: Eprint + IsTe
     rt: &R,
     errors: &E,
     explains: bool,
-    jobs: &[Job],
+    jobs: Vec<Job>,
     report: &Report,
     recording: &[u8],
 ) -> Result<(), Fault<'a>> {

@@ -1,5 +1,6 @@
-//! Sessions of the debugger whose readers and writers fail: `bench_step`.
+//! Sessions of the debugger whose readers and writers fail, and one behind a post of a live run: `bench_step`.
 
 mod made;
+mod posted;
 mod refusals;
 mod streams;

@@ -13,12 +13,12 @@ use Rattle.bc_machine.specs.UnderWay.{IsUnderWay}
 use Rattle.job_moments.specs.declared.met.Met.{Met}
 use Rattle.job_moments.specs.Planning.{PlannedFault, PlanState}
 use Rattle.job_file.specs.declared.timed.TimedAction.{TimedAction}
-use Rattle.job_file.specs.declared.resolving.Run.{Run}
+use Rattle.job_file.specs.declared.job_run.JobRun.{JobRun}
 use Rattle.job_file.specs.ChannelJobs.{ChannelJob}
 use Rattle.job_file.specs.JobRanges.{may_act, IsFitTimed}
 use Rattle.job_file.specs.Jobs.{JobState, own_inserts, job_in}
 use Rattle.job_file.specs.Resolving.{standing, when_of, IsAtEnd, IsKept, IsWithin, IsPlannedUpTo, MayPlan}
-use Rattle.job_file.specs.Timed.{Standing, made_of, at_beginning, found_in, planned_in, run_out, resolved, says_nothing, arranged, faulted, turned, turned_times, most_turns}
+use Rattle.job_file.specs.Timed.{Standing, made_of, at_beginning, begun_beside, found_in, planned_in, run_out, resolved, plan_under, says_nothing, arranged, faulted, turned, turned_times, most_turns}
 use Rattle.job_file.specs.Machines.{AllRecords, IsOf}
 use Rattle.job_file.specs.Meaning.{bus_of, records, records_in}
 use Rattle.frame_asm.specs.Shapes.{code_of_tree}
@@ -36,14 +36,14 @@ the_standing w m = record { left = w; machine = m }
 abbrev the_plan : List PlannedFault → List Met → PlanState
 the_plan faults made = record { faults = faults; made = made }
 
-pub kept_at_start : (r : Run) (base : ChannelJob) (timed : Timed) → standing r ≡ at_beginning base timed → IsUnderWay r.machine
+pub kept_at_start : (r : JobRun) (more : ℕ) (base : ChannelJob) (timed : Timed) → standing r ≡ begun_beside more base timed → IsUnderWay r.machine
     → r.whens.made ≡ [] → r.faults ≡ record { faults = found_in timed; made = [] } → r.origin ≡ base.start
     → list_all (λ (p : PlannedFault). is_in_range p.fault) timed.faults ≡ true → IsKept r
-kept_at_start r base timed stands way met faults origin ranges =
-    let machine : r.machine ≡ (at_beginning base timed).machine = ap (λ (s : Standing). s.machine) stands in
+kept_at_start r more base timed stands way met faults origin ranges =
+    let machine : r.machine ≡ (begun_beside more base timed).machine = ap (λ (s : Standing). s.machine) stands in
     let none : made_of r.machine ≡ [] = ap made_of machine in
     let number : r.machine.point.number ≡ 0 = ap (λ (m : MachineState). m.point.number) machine in
-    let capacity : r.machine.capacity ≡ max (length base.actions) (length base.actions + length timed.whens) = ap (λ (m : MachineState). m.capacity) machine in
+    let capacity : r.machine.capacity ≡ max (length base.actions) (length base.actions + (length timed.whens + more)) = ap (λ (m : MachineState). m.capacity) machine in
     let placed : length r.machine.placed ≡ length base.actions = ap (λ (m : MachineState). length m.placed) machine in
     let left : length r.whens.left ≡ length timed.whens = sym (length-map r.whens.left when_of) ∙ ap (λ (s : Standing). length s.left) stands in
     record {
@@ -66,25 +66,53 @@ begins true faults found plan planned number e f = let none : length planned ≡
 begins false faults found plan planned number e f = inl e
 
 -- what a run begins with is the beginning
-pub begins_as : (w : List TimedAction) (m m0 : MachineState) (plan : List Planned) (count : ℕ) (base : ChannelJob) (timed : Timed)
-    → w ≡ timed.whens → count ≡ length w → plan ≡ planned_in base timed
+pub begins_as : (w : List TimedAction) (m m0 : MachineState) (plan : List Planned) (count more : ℕ) (base : ChannelJob) (timed : Timed)
+    → w ≡ timed.whens → count ≡ length w + more → plan ≡ planned_in base timed
     → m0 ≡ started (code_of_tree base.tree) (bus_of base) plan base.actions → m ≡ with_room m0 count
-    → the_standing w m ≡ at_beginning base timed
-begins_as w m m0 plan count base timed whens counts plans starts rooms =
+    → the_standing w m ≡ begun_beside more base timed
+begins_as w m m0 plan count more base timed whens counts plans starts rooms =
     ap (λ (v : MachineState). the_standing w v) rooms
     ∙ ap (λ (v : MachineState). the_standing w (with_room v count)) starts
     ∙ ap (λ (p : List Planned). the_standing w (with_room (started (code_of_tree base.tree) (bus_of base) p base.actions) count)) plans
     ∙ ap (λ (n : ℕ). the_standing w (with_room (started (code_of_tree base.tree) (bus_of base) (planned_in base timed) base.actions) n)) counts
-    ∙ ap (λ (l : List TimedAction). the_standing l (with_room (started (code_of_tree base.tree) (bus_of base) (planned_in base timed) base.actions) (length l))) whens
+    ∙ ap (λ (l : List TimedAction). the_standing l (with_room (started (code_of_tree base.tree) (bus_of base) (planned_in base timed) base.actions) (length l + more))) whens
 
-pub may_plan_at_start : (r : Run) (base : ChannelJob) (timed : Timed) → standing r ≡ at_beginning base timed → r.faults.faults ≡ found_in timed → MayPlan r
-may_plan_at_start r base timed stands faults =
+pub may_plan_at_start : (r : JobRun) (more : ℕ) (base : ChannelJob) (timed : Timed) → standing r ≡ begun_beside more base timed → r.faults.faults ≡ found_in timed → MayPlan r
+may_plan_at_start r more base timed stands faults =
     begins timed.is_timed timed.faults r.faults.faults base.plan r.machine.plan r.machine.point.number faults (ap (λ (s : Standing). s.machine.plan) stands)
 
 pub within_at_start : (s : Standing) (base : JobState) (timed : Timed) (most : ℕ) → s ≡ at_beginning (job_in base) timed → list_all (may_act base.addresses) base.actions ≡ true
     → IsFitTimed base.addresses timed → own_inserts base.actions + timed_inserts timed.whens ≤ most → IsWithin base.addresses most s
 within_at_start s base timed most is acts fit few =
     subst (λ (v : Standing). IsWithin base.addresses most v) (sym is) (record { placed = acts; left = fit.whens; few = few })
+
+-- with no room for more it is that of the job itself
+pub begins_at : (s : Standing) (base : ChannelJob) (timed : Timed) (placed : List Placed) (whens : List TimedAction)
+    → s ≡ begun_beside 0 (record base { actions = placed }) (record timed { whens = whens })
+    → s ≡ at_beginning (record base { actions = placed }) (record timed { whens = whens })
+begins_at s base timed placed whens is =
+    let none : length whens + 0 ≡ length whens = omega arith in
+    is ∙ ap (λ n. the_standing whens (with_room (started (code_of_tree base.tree) (bus_of base) (planned_in base timed) placed) n)) none
+
+pub begins_at_said : (s : Standing) (base : ChannelJob) (timed : Timed) (placed : List Placed) (whens : List TimedAction)
+    → s ≡ begun_beside 0 (record base { actions = placed }) (record timed { whens = whens })
+    → placed ≡ base.actions → whens ≡ timed.whens → s ≡ at_beginning base timed
+begins_at_said s base timed placed whens is acts left =
+    begins_at s base timed placed whens is
+    ∙ ap (λ (ps : List Placed). at_beginning (record base { actions = ps }) (record timed { whens = whens })) acts
+    ∙ ap (λ (ws : List TimedAction). at_beginning base (record timed { whens = ws })) left
+
+-- ---- where all actions are placed already
+
+pub under_found : (base : ChannelJob) (timed : Timed) (placed : List Placed) (m : MachineState) (plan : List Planned) → timed.is_timed ≡ true
+    → run_out (record base { actions = placed }) (record timed { whens = [] }) ≡ m → plan ≡ m.plan → plan ≡ plan_under base timed placed
+under_found base timed placed m plan says is plans =
+    plans ∙ ap (λ (v : MachineState). v.plan) (sym is)
+    ∙ sym (ap (λ (b : Bool). cond b (run_out (record base { actions = placed }) (record timed { whens = [] })).plan base.plan) says)
+
+pub under_same : (base : ChannelJob) (timed : Timed) (placed : List Placed) → timed.is_timed ≡ false → base.plan ≡ plan_under base timed placed
+under_same base timed placed says =
+    sym (ap (λ (b : Bool). cond b (run_out (record base { actions = placed }) (record timed { whens = [] })).plan base.plan) says)
 
 -- ---- the job at the end
 

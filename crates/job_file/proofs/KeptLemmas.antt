@@ -14,7 +14,8 @@ use Rattle.job_moments.specs.declared.met.Met.{Met}
 use Rattle.job_moments.specs.Planning.{PlannedFault, PlanState}
 use Rattle.job_moments.specs.Waits.{Awaited, Waits}
 use Rattle.mil_bus.specs.Exchange.{BusState}
-use Rattle.job_file.specs.declared.resolving.Run.{Run}
+use Rattle.job_file.specs.declared.job_run.Due.{Due}
+use Rattle.job_file.specs.declared.job_run.JobRun.{JobRun}
 use Rattle.job_file.specs.Resolving.{IsKept, IsPlannedUpTo, MayPlan, HasPlanned, number_behind, made_behind}
 use Rattle.job_file.specs.Timed.{made_of, coming_met, with_faults}
 use Rattle.job_file.proofs.TurnLemmas.{IsBehind, same_stepped}
@@ -26,19 +27,15 @@ placed_is (Ok x) m n a is full room = is
 placed_is (Err y) m n a is full room = absurd (omega (arith, full, room))
 
 -- where one was done
-pub kept_done : (r n : Run) (place : ℕ) (action : HostAction) → IsKept r → place < length r.whens.left
+pub kept_done : (r n : JobRun) (place : ℕ) (action : HostAction) → IsKept r → place < length r.whens.left
     → n.machine ≡ with_placed r.machine (r.machine.placed ++ at_next r.machine action ∷ []) → IsUnderWay n.machine
-    → n.whens.left ≡ remove r.whens.left place → n.whens.made ≡ r.whens.made → n.faults ≡ r.faults
-    → n.origin ≡ r.origin → IsKept n
+    → n.whens.left ≡ remove r.whens.left place → n.whens.made ≡ r.whens.made → n.faults ≡ r.faults → n.origin ≡ r.origin → IsKept n
 kept_done r n place action k within machine way left met faults origin =
     let made : made_of n.machine ≡ made_of r.machine = ap made_of machine in
     let number : n.machine.point.number ≡ r.machine.point.number = ap (λ (m : MachineState). m.point.number) machine in
     let capacity : n.machine.capacity ≡ r.machine.capacity = ap (λ (m : MachineState). m.capacity) machine in
-    let placed : length n.machine.placed ≡ length r.machine.placed + 1 =
-    ap (λ (m : MachineState). length m.placed) machine
-    ∙ length-append r.machine.placed (at_next r.machine action ∷ []) in
-    let fewer : length n.whens.left + 1 ≡ length r.whens.left =
-    ap (λ (ls : List (Awaited HostAction)). length ls + 1) left ∙ length-remove r.whens.left place within in
+    let placed : length n.machine.placed ≡ length r.machine.placed + 1 = ap (λ (m : MachineState). length m.placed) machine ∙ length-append r.machine.placed (at_next r.machine action ∷ []) in
+    let fewer : length n.whens.left + 1 ≡ length r.whens.left = ap (λ (ls : List (Awaited Due)). length ls + 1) left ∙ length-remove r.whens.left place within in
     record {
       under_way = way;
       made = met ∙ k.made ∙ sym made;
@@ -50,7 +47,7 @@ kept_done r n place action k within machine way left met faults origin =
     }
 
 -- where none was
-pub kept_left : (r : Run) (w : Waits HostAction) → IsKept r → w.left ≡ r.whens.left → w.made ≡ r.whens.made
+pub kept_left : (r : JobRun) (w : Waits Due) → IsKept r → w.left ≡ r.whens.left → w.made ≡ r.whens.made
     → IsKept (record r { whens = w })
 kept_left r w k left met =
     let same : length w.left ≡ length r.whens.left = ap length left in
@@ -65,17 +62,17 @@ kept_left r w k left met =
     }
 
 -- where faults were planned
-pub kept_planned : (r n : Run) (due : List Fault) → IsKept r → n.machine ≡ with_faults r.machine due → IsUnderWay n.machine
+pub kept_planned : (r n : JobRun) (due : List Fault) → IsKept r → n.machine ≡ with_faults r.machine due → IsUnderWay n.machine
     → n.whens ≡ r.whens → n.faults ≡ r.faults → n.origin ≡ r.origin → IsKept n
 kept_planned r n due k machine way whens faults origin =
     let made : made_of n.machine ≡ made_of r.machine = ap made_of machine in
     let number : n.machine.point.number ≡ r.machine.point.number = ap (λ (m : MachineState). m.point.number) machine in
     let capacity : n.machine.capacity ≡ r.machine.capacity = ap (λ (m : MachineState). m.capacity) machine in
     let placed : length n.machine.placed ≡ length r.machine.placed = ap (λ (m : MachineState). length m.placed) machine in
-    let same : length n.whens.left ≡ length r.whens.left = ap (λ (v : Waits HostAction). length v.left) whens in
+    let same : length n.whens.left ≡ length r.whens.left = ap (λ (v : Waits Due). length v.left) whens in
     record {
       under_way = way;
-      made = ap (λ (v : Waits HostAction). v.made) whens ∙ k.made ∙ sym made;
+      made = ap (λ (v : Waits Due). v.made) whens ∙ k.made ∙ sym made;
       met = ap (λ (v : PlanState). v.made) faults ∙ k.met ∙ sym made;
       number = ap length made ∙ k.number ∙ sym number;
       origin = ap (λ (m : MachineState). m.begun.start) machine ∙ k.origin ∙ sym origin;
@@ -88,17 +85,17 @@ longer None made number e = e
 longer (Some met) made number e = length-append made (met ∷ []) ∙ ap (λ n. n + 1) e
 
 -- behind a step
-pub kept_stepped : (r n : Run) (next : Option Met) → IsKept r → n.machine ≡ stepped r.machine → IsUnderWay n.machine → IsBehind next r.machine n.machine
+pub kept_stepped : (r n : JobRun) (next : Option Met) → IsKept r → n.machine ≡ stepped r.machine → IsUnderWay n.machine → IsBehind next r.machine n.machine
     → n.whens ≡ record { left = r.whens.left; made = made_behind next r.whens.made }
     → n.faults ≡ record { faults = r.faults.faults; made = made_behind next r.faults.made } → n.origin ≡ r.origin → IsKept n
 kept_stepped r n next k machine way behind whens faults origin =
     let same = same_stepped r.machine in
     let capacity : n.machine.capacity ≡ r.machine.capacity = ap (λ (m : MachineState). m.capacity) machine ∙ same.capacity in
     let placed : length n.machine.placed ≡ length r.machine.placed = ap (λ (m : MachineState). length m.placed) machine ∙ ap length same.placed in
-    let left : length n.whens.left ≡ length r.whens.left = ap (λ (v : Waits HostAction). length v.left) whens in
+    let left : length n.whens.left ≡ length r.whens.left = ap (λ (v : Waits Due). length v.left) whens in
     record {
       under_way = way;
-      made = ap (λ (v : Waits HostAction). v.made) whens ∙ ap (made_behind next) k.made ∙ sym behind.made;
+      made = ap (λ (v : Waits Due). v.made) whens ∙ ap (made_behind next) k.made ∙ sym behind.made;
       met = ap (λ (v : PlanState). v.made) faults ∙ ap (made_behind next) k.met ∙ sym behind.made;
       number = ap length behind.made ∙ longer next (made_of r.machine) r.machine.point.number k.number ∙ sym behind.number;
       origin = ap (λ (m : MachineState). m.begun.start) machine ∙ ap (λ (v : BusState). v.start) same.begun ∙ k.origin ∙ sym origin;
@@ -107,7 +104,7 @@ kept_stepped r n next k machine way behind whens faults origin =
     }
 
 -- what was planned for the message that was sent
-pub planned_behind : (r n : Run) (next : Option Met) → n.machine ≡ stepped r.machine → coming_met r.machine ≡ next → IsBehind next r.machine n.machine → n.faults.faults ≡ r.faults.faults → HasPlanned r → MayPlan n
+pub planned_behind : (r n : JobRun) (next : Option Met) → n.machine ≡ stepped r.machine → coming_met r.machine ≡ next → IsBehind next r.machine n.machine → n.faults.faults ≡ r.faults.faults → HasPlanned r → MayPlan n
 planned_behind r n next machine comes behind faults (inl none) = inl (faults ∙ none)
 planned_behind r n next machine comes behind faults (inr planned) =
     let plan : n.machine.plan ≡ r.machine.plan = ap (λ (m : MachineState). m.plan) machine ∙ (same_stepped r.machine).plan in

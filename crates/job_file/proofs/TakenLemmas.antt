@@ -15,7 +15,8 @@ use Rattle.job_moments.specs.Moments.{is_due}
 use Rattle.job_moments.specs.Waits.{Awaited, first_due, moments_of, given_at, left_at, Taken}
 use Rattle.job_moments.proofs.Lists.{position-map, map-remove}
 use Rattle.job_file.specs.declared.timed.TimedAction.{TimedAction}
-use Rattle.job_file.specs.declared.resolving.Run.{Run}
+use Rattle.job_file.specs.declared.job_run.Due.{Due}
+use Rattle.job_file.specs.declared.job_run.JobRun.{JobRun}
 use Rattle.job_file.specs.Resolving.{standing, when_of, whens_left}
 use Rattle.job_file.specs.Timed.{made_of, coming_met, due_now, done_at}
 use Rattle.job_file.proofs.DueLemmas.{due_is, stands, with_done, done_one}
@@ -23,14 +24,14 @@ use Rattle.job_file.proofs.DueLemmas.{due_is, stands, with_done, done_one}
 -- ---- which is due
 
 -- the moments find the same place as the actions
-place_is : (made : List Met) (next : Met) (left : List (Awaited HostAction))
+place_is : (made : List Met) (next : Met) (left : List (Awaited Due))
     → first_due made next (moments_of left)
     ≡ position (λ (w : TimedAction). is_due made next w.moment) (map when_of left)
 place_is made next left =
-    position-map (λ (a : Awaited HostAction). a.moment) (is_due made next) left
+    position-map (λ (a : Awaited Due). a.moment) (is_due made next) left
     ∙ sym (position-map when_of (λ (w : TimedAction). is_due made next w.moment) left)
 
-due_first : (r : Run) (next : Met) → coming_met r.machine ≡ Some next → r.whens.made ≡ made_of r.machine
+due_first : (r : JobRun) (next : Met) → coming_met r.machine ≡ Some next → r.whens.made ≡ made_of r.machine
     → due_now (standing r) ≡ first_due r.whens.made next (moments_of r.whens.left)
 due_first r next comes made =
     let due = λ (ms : List Met). position (λ (w : TimedAction). is_due ms next w.moment) (whens_left r.whens) in
@@ -40,29 +41,29 @@ due_first r next comes made =
 
 -- ---- where none is
 
-absent : (left : List (Awaited HostAction)) (i : ℕ) → slice_get left i ≡ None → length left ≤ i
+absent : (left : List (Awaited Due)) (i : ℕ) → slice_get left i ≡ None → length left ≤ i
 absent [] i e = omega arith
 absent (a ∷ rest) zero e = absurd cc
 absent (a ∷ rest) (suc i) e = let behind = absent rest i e in omega (arith, behind)
 
-none_at : (made : List Met) (next : Met) (old : List (Awaited HostAction)) (o : Option ℕ)
+none_at : (made : List Met) (next : Met) (old : List (Awaited Due)) (o : Option ℕ)
     → first_due made next (moments_of old) ≡ o → None ≡ given_at o old → o ≡ None
 none_at made next old None e first = refl
 none_at made next old (Some place) e first = none_there (slice_get old place) refl first
   where
-    none_there : (g : Option (Awaited HostAction)) → slice_get old place ≡ g
-        → None ≡ option_map (λ (a : Awaited HostAction). a.payload) g → Some place ≡ None
+    none_there : (g : Option (Awaited Due)) → slice_get old place ≡ g
+        → None ≡ option_map (λ (a : Awaited Due). a.payload) g → Some place ≡ None
     none_there None there is =
         let within = (position-Some (is_due made next) (moments_of old) place (Time 0) e).0 in
-        let long = length-map old (λ (a : Awaited HostAction). a.moment) in
+        let long = length-map old (λ (a : Awaited Due). a.moment) in
         absurd (omega (arith, within, long, absent old place there))
     none_there (Some one) there is = absurd cc
 
-pub record IsLeft (r : Run) (left : List (Awaited HostAction)) : Type 0 where
+pub record IsLeft (r : JobRun) (left : List (Awaited Due)) : Type 0 where
   pub due : due_now (standing r) ≡ None
   pub same : left ≡ r.whens.left
 
-pub none_taken : (r : Run) (next : Met) (left : List (Awaited HostAction)) → coming_met r.machine ≡ Some next
+pub none_taken : (r : JobRun) (next : Met) (left : List (Awaited Due)) → coming_met r.machine ≡ Some next
     → r.whens.made ≡ made_of r.machine → Taken r.whens.made next r.whens.left left None → IsLeft r left
 none_taken r next left comes made taken =
     let found = first_due r.whens.made next (moments_of r.whens.left) in
@@ -74,38 +75,38 @@ none_taken r next left comes made taken =
 
 -- ---- where one is
 
-pub record IsTaken (r : Run) (left : List (Awaited HostAction)) (action : HostAction) : Type 0 where
+pub record IsTaken (r : JobRun) (left : List (Awaited Due)) (given : Due) : Type 0 where
   pub place : ℕ
-  pub one : Awaited HostAction
+  pub one : Awaited Due
   pub due : due_now (standing r) ≡ Some place
   pub there : slice_get r.whens.left place ≡ Some one
   pub others : left ≡ remove r.whens.left place
-  pub is : one.payload ≡ action
+  pub is : one.payload ≡ given
 
-taken_at : (r : Run) (left : List (Awaited HostAction)) (action : HostAction) (o : Option ℕ) → due_now (standing r) ≡ o
-    → Some action ≡ given_at o r.whens.left → left ≡ left_at o r.whens.left → IsTaken r left action
-taken_at r left action None due first others = absurd cc
-taken_at r left action (Some place) due first others = one_there (slice_get r.whens.left place) refl first
+taken_at : (r : JobRun) (left : List (Awaited Due)) (due : Due) (o : Option ℕ) → due_now (standing r) ≡ o
+    → Some due ≡ given_at o r.whens.left → left ≡ left_at o r.whens.left → IsTaken r left due
+taken_at r left due None found first others = absurd cc
+taken_at r left due (Some place) found first others = one_there (slice_get r.whens.left place) refl first
   where
-    one_there : (g : Option (Awaited HostAction)) → slice_get r.whens.left place ≡ g
-        → Some action ≡ option_map (λ (a : Awaited HostAction). a.payload) g → IsTaken r left action
+    one_there : (g : Option (Awaited Due)) → slice_get r.whens.left place ≡ g
+        → Some due ≡ option_map (λ (a : Awaited Due). a.payload) g → IsTaken r left due
     one_there None there given = absurd cc
     one_there (Some one) there given =
-        let same : one.payload ≡ action = cc in
-        record { place = place; one = one; due = due; there = there; others = others; is = same }
+        let same : one.payload ≡ due = cc in
+        record { place = place; one = one; due = found; there = there; others = others; is = same }
 
-pub one_taken : (r : Run) (next : Met) (left : List (Awaited HostAction)) (action : HostAction)
+pub one_taken : (r : JobRun) (next : Met) (left : List (Awaited Due)) (due : Due)
     → coming_met r.machine ≡ Some next → r.whens.made ≡ made_of r.machine
-    → Taken r.whens.made next r.whens.left left (Some action) → IsTaken r left action
-one_taken r next left action comes made taken =
-    taken_at r left action (first_due r.whens.made next (moments_of r.whens.left)) (due_first r next comes made)
+    → Taken r.whens.made next r.whens.left left (Some due) → IsTaken r left due
+one_taken r next left due comes made taken =
+    taken_at r left due (first_due r.whens.made next (moments_of r.whens.left)) (due_first r next comes made)
     taken.first taken.others
 
 -- an action is placed at the next number
 abbrev placed_now : MachineState → HostAction → MachineState
 placed_now m action = with_placed m (m.placed ++ at_next m action ∷ [])
 
-module _ (r : Run) (left : List (Awaited HostAction)) (action : HostAction) (t : IsTaken r left action) where
+module _ (r : JobRun) (left : List (Awaited Due)) (due : Due) (t : IsTaken r left due) where
   pub within : t.place < length r.whens.left
   within = slice_get_within r.whens.left t.place t.one t.there
 
@@ -113,14 +114,14 @@ module _ (r : Run) (left : List (Awaited HostAction)) (action : HostAction) (t :
   there_when = slice_get-map when_of r.whens.left t.place ∙ ap (option_map when_of) t.there
 
   -- where it is placed, it is done
-  pub done_is : (m : MachineState) → m ≡ placed_now r.machine action
+  pub done_is : (m : MachineState) → m ≡ placed_now r.machine due.action
       → stands (map when_of left) m ≡ with_done (standing r) t.place (when_of t.one)
   done_is m placed =
       ap (λ (v : MachineState). stands (map when_of left) v) placed
-      ∙ ap (λ (ls : List (Awaited HostAction)). stands (map when_of ls) (placed_now r.machine action)) t.others
-      ∙ ap (λ (ws : List TimedAction). stands ws (placed_now r.machine action))
+      ∙ ap (λ (ls : List (Awaited Due)). stands (map when_of ls) (placed_now r.machine due.action)) t.others
+      ∙ ap (λ (ws : List TimedAction). stands ws (placed_now r.machine due.action))
       (map-remove when_of r.whens.left t.place)
-      ∙ sym (ap (λ (a : HostAction). stands (remove (whens_left r.whens) t.place) (placed_now r.machine a)) t.is)
+      ∙ sym (ap (λ (d : Due). stands (remove (whens_left r.whens) t.place) (placed_now r.machine d.action)) t.is)
 
   pub done_now : with_done (standing r) t.place (when_of t.one) ≡ done_at (due_now (standing r)) (standing r)
   done_now =

@@ -20,6 +20,7 @@ pub mod Faults
 pub mod Scripts
 pub mod Jobs
 pub mod Rooms
+pub mod Beside
 pub mod PlainJob
 pub mod Meaning
 pub mod Machines

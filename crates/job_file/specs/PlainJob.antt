@@ -10,6 +10,8 @@ state_in j = record {
   actions = j.actions;
   plan = j.plan;
   script = j.script;
+  own = j.own;
+  timed = j.timed;
 }
 
 abbrev pub IsKeptJob : Inside → Type 0

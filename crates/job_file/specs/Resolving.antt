@@ -10,27 +10,27 @@ use Rattle.bc_machine.specs.UnderWay.{IsUnderWay}
 use Rattle.job_moments.specs.declared.met.Met.{Met}
 use Rattle.job_moments.specs.Planning.{PlannedFault}
 use Rattle.job_moments.specs.Waits.{Awaited, Waits}
-use Rattle.bc_machine.specs.declared.placed.HostAction.{HostAction}
 use Rattle.job_file.specs.declared.timed.TimedAction.{TimedAction}
-use Rattle.job_file.specs.declared.resolving.Run.{Run}
+use Rattle.job_file.specs.declared.job_run.Due.{Due}
+use Rattle.job_file.specs.declared.job_run.JobRun.{JobRun}
 use Rattle.job_file.specs.JobRanges.{is_for, may_act}
 use Rattle.job_file.specs.Jobs.{own_inserts}
 use Rattle.job_file.specs.Timed.{Standing, made_of, coming_met, turned_times}
 use Rattle.job_file.specs.TimedLines.{timed_inserts}
 
 -- an action that is still to come, as the text has it
-abbrev pub when_of : Awaited HostAction → TimedAction
-when_of a = record { moment = a.moment; action = a.payload }
+abbrev pub when_of : Awaited Due → TimedAction
+when_of a = record { moment = a.moment; action = a.payload.action }
 
-abbrev pub whens_left : Waits HostAction → List TimedAction
+abbrev pub whens_left : Waits Due → List TimedAction
 whens_left w = map when_of w.left
 
 -- where it stands
-abbrev pub standing : Run → Standing
+abbrev pub standing : JobRun → Standing
 standing r = record { left = whens_left r.whens; machine = r.machine }
 
 -- there is room for the actions that are still to come; all messages were met
-pub record IsKept (r : Run) : Type 0 where
+pub record IsKept (r : JobRun) : Type 0 where
   pub under_way : IsUnderWay r.machine
   pub made : r.whens.made ≡ made_of r.machine
   pub met : r.faults.made ≡ made_of r.machine
@@ -60,11 +60,11 @@ made_behind None made = made
 made_behind (Some next) made = made ++ next ∷ []
 
 -- faults of messages to come are planned from the beginning on, or as they come
-abbrev pub MayPlan : Run → Type 0
+abbrev pub MayPlan : JobRun → Type 0
 MayPlan r = (r.faults.faults ≡ []) ⊎ IsPlannedUpTo r.machine.point.number r.machine.plan
 
 -- and so behind the next step
-abbrev pub HasPlanned : Run → Type 0
+abbrev pub HasPlanned : JobRun → Type 0
 HasPlanned r = (r.faults.faults ≡ [])
     ⊎ IsPlannedUpTo (number_behind (coming_met r.machine) r.machine.point.number) r.machine.plan
 

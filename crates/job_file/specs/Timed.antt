@@ -13,6 +13,7 @@ use Rattle.frame_load.specs.Budget.{budget}
 use Rattle.bc_machine.specs.NextMessage.{coming_talk}
 use Rattle.bc_machine.specs.Planning.{next_number, with_plan}
 use Rattle.bc_machine.specs.Posting.{with_placed, with_room, at_next}
+use Rattle.bc_machine.specs.declared.placed.Placed.{Placed}
 use Rattle.bc_machine.specs.Running.{MachineState, started, stepped}
 use Rattle.job_moments.specs.declared.met.Met.{Met}
 use Rattle.job_moments.specs.Moments.{is_due}
@@ -115,6 +116,14 @@ at_beginning base timed = record {
       (length timed.whens);
 }
 
+-- the same, with room for so many actions more
+abbrev pub begun_beside : ℕ → ChannelJob → Timed → Standing
+begun_beside more base timed = record {
+  left = timed.whens;
+  machine = with_room (started (code_of_tree base.tree) (bus_of base) (planned_in base timed) base.actions)
+      (length timed.whens + more);
+}
+
 -- by so many turns it has ended: each step of its code is one, and each message
 abbrev pub most_turns : ChannelJob → ℕ
 most_turns base = budget (code_of_tree base.tree).operations + 1000000 + 1
@@ -140,3 +149,14 @@ resolved base timed = record base {
   actions = if says_nothing timed then base.actions else (run_out base timed).placed;
   plan = if says_nothing timed then base.plan else (run_out base timed).plan;
 }
+
+-- ---- where all actions are placed already
+
+-- the plan of a job where the placed actions are these, whatever its lines say of them by time and by command: the
+-- faults that are due then, at the numbers of the messages that they are due at; where none is by time or by command,
+-- the job's plan
+abbrev pub plan_under : ChannelJob → Timed → List Placed → List Planned
+plan_under base timed placed =
+    if timed.is_timed
+    then (run_out (record base { actions = placed }) (record timed { whens = [] })).plan
+    else base.plan

@@ -5,16 +5,19 @@ ghost use Rattle.frame_asm.specs.Shapes.{code_of_tree};
 ghost use Rattle.frame_load.specs.Budget.{worst_messages};
 ghost use Rattle.frame_tree.specs.Bounds.{IsSound};
 ghost use Rattle.job_file.specs.Drafts.{shown};
-ghost use Rattle.job_file.specs.JobRanges.{may_act, IsFit};
-ghost use Rattle.job_file.specs.Jobs.{own_inserts, tree_in, job_in};
+ghost use Rattle.job_file.specs.JobRanges.{may_act, IsFit, IsFitTimed};
+ghost use Rattle.job_file.specs.Jobs.{own_inserts, said_actions, said_inserts, tree_in, job_in};
 ghost use Rattle.job_file.specs.Machines.{IsOf, IsLatestOutcome};
 ghost use Rattle.job_file.specs.Meaning.{bus_of};
+ghost use Rattle.job_file.specs.Reading.{all_inserts};
 ghost use Rattle.job_file.specs.Rooms.{most_items};
 ghost use Rattle.job_file.specs.Scripts.{tree_spelled, IsProgramOf};
 ghost use Rattle.job_file.specs.Spelled.{job_with};
+ghost use Rattle.job_file.specs.Timed.{says_nothing};
+ghost use Rattle.job_file.specs.TimedLines.{nothing_yet, timed_inserts};
 ghost use Rattle.mil_bus.specs.Addresses.{is_fit};
 ghost use Rattle.std.specs.List.{list_all};
-ghost use Rattle.std.specs.Prelude.{◌≡◌, ◌+◌, ◌≤◌, [], true, Some, IfOk};
+ghost use Rattle.std.specs.Prelude.{◌≡◌, ◌+◌, ◌≤◌, [], true, false, not, Some, IfOk};
 
 use crate::drafts::Draft;
 use crate::scripts::Script;
@@ -37,8 +40,9 @@ pub struct Job {
     plan: Plan,
     program: Program,
     script: Script,
-    /// Whether a line of its text was by time or by command.
-    is_resolved: bool,
+    /// The actions that its lines place by number, where a line is by time or by command; else none.
+    own: Actions,
+    timed: TimedLines,
 }
 
 impl Model for Job {
@@ -58,22 +62,24 @@ impl Model for Job {
 }
 
 impl Job {
-    /// The job of a draft that names its channel, with the program of its script, as far as it is said by number; and
-    /// what is said by time and by command.
+    /// The job of a draft that names its channel, with the program of its script, as far as it is said by number; what
+    /// is said by time and by command is still to be found.
     pub(crate) fn make(
+        alloc: Global,
         channel: u16,
         draft: Draft,
         program: Program,
         script: Script,
-    ) -> (Job, TimedLines)
+    ) -> Job
         requires channel { draft.channel ≡ Some channel }
         requires fit { IsFit (shown draft) }
         requires program { IsProgramOf script.text program }
-        requires few { own_inserts draft.actions + worst_messages program.operations ≤ 1000000 }
-        ensures job { job_in result.0 ≡ job_with channel (shown draft) (tree_spelled script.text) }
-        ensures timed { result.1 ≡ draft.timed }
+        requires few { all_inserts draft.actions draft.timed.whens + worst_messages program.operations ≤ 1000000 }
+        ensures job { job_in result ≡ job_with channel (shown draft) (tree_spelled script.text) }
+        ensures own { result.own ≡ [] }
+        ensures timed { result.timed ≡ draft.timed }
     {
-        let job = Job {
+        Job {
             channel,
             start: draft.start.unwrap_or(0),
             addresses: draft.addresses,
@@ -81,9 +87,9 @@ impl Job {
             plan: draft.plan,
             program,
             script,
-            is_resolved: false,
-        };
-        (job, draft.timed)
+            own: Actions::new(alloc),
+            timed: draft.timed,
+        }
     }
 
     /// The number of the channel, 1 to 65,535.
@@ -96,8 +102,37 @@ impl Job {
 
     /// Whether a line of its text says by time or by command when something is due, so that its actions and faults
     /// stand at numbers that no line names: where other messages come between, as in a live run, they are not those.
-    pub fn is_resolved(&self) -> bool {
-        self.is_resolved
+    pub fn has_moments(&self) -> bool
+        ensures { result ≡ not (says_nothing self.now.timed) }
+    {
+        !self.timed.is_empty()
+    }
+
+    /// What its lines say by time and by command.
+    pub(crate) fn timed(&self) -> &TimedLines
+        ensures value { result.now ≡ self.now.timed }
+        ensures fit { IsFitTimed self.now.addresses result.now }
+    {
+        &self.timed
+    }
+
+    /// The actions that its lines place by number.
+    pub(crate) fn said_actions(&self) -> &Actions
+        ensures value { result.now ≡ said_actions self.now }
+        ensures fit { list_all (may_act self.now.addresses) result.now ≡ true }
+    {
+        if self.timed.is_empty() {
+            &self.actions
+        } else {
+            &self.own
+        }
+    }
+
+    /// How many messages its lines have inserted, by number, by time and by command.
+    fn said_inserts(&self) -> u64
+        ensures { result ≡ said_inserts self.now }
+    {
+        self.said_actions().inserts() + self.timed.inserts()
     }
 
     /// When the first message starts, 0 to 2^47 ticks of 0.1 µs.
@@ -141,13 +176,14 @@ impl Job {
     }
 
     /// How much room of a run's queue the channel takes at most where up to so many actions are posted to it, at most
-    /// 1,000,001 items more than these: one for each message that its script may send, one for each that the job or a
-    /// post may have inserted, and its end mark.
+    /// 1,000,001 items more than these: one for each message that its script may send, one for each that a line of the
+    /// job or a post may have inserted, and its end mark.
     pub fn most_items(&self, posts: u32) -> u64
         ensures value { result ≡ most_items posts self.now }
         ensures high { result ≤ 1000001 + posts }
     {
-        self.program().worst_messages() + self.actions.inserts() + u64::from(posts) + 1
+        let inserts = self.actions.inserts().max(self.said_inserts());
+        self.program().worst_messages() + inserts + u64::from(posts) + 1
     }
 
     /// A controller at the beginning of the job's program, on a bus with new terminals, under these planned faults and
@@ -209,16 +245,22 @@ impl Job {
             plan: self.plan,
             program: self.program,
             script: self.script,
-            is_resolved: self.is_resolved,
+            own: self.own,
+            timed: self.timed,
         };
         Ok((rest, machine))
     }
 
-    /// The same job with other actions and another plan.
+    /// The same job with other actions and another plan, where its own actions were those that its lines place by
+    /// number.
     pub(crate) fn by_number(self, actions: Actions, plan: Plan) -> Job
+        requires said { says_nothing self.timed ≡ false }
+        requires own { self.own ≡ [] }
         requires acts { list_all (may_act self.addresses) actions ≡ true }
         requires few { own_inserts actions + worst_messages (code_of_tree (tree_in self)).operations ≤ 1000000 }
-        ensures { result ≡ record self { actions = actions; plan = plan } }
+        requires few_said { own_inserts self.actions + timed_inserts self.timed.whens
+            + worst_messages (code_of_tree (tree_in self)).operations ≤ 1000000 }
+        ensures { result ≡ record self { actions = actions; plan = plan; own = self.actions } }
     {
         Job {
             channel: self.channel,
@@ -228,7 +270,43 @@ impl Job {
             plan,
             program: self.program,
             script: self.script,
-            is_resolved: true,
+            own: self.actions,
+            timed: self.timed,
+        }
+    }
+
+    /// The same job without what its lines say by time and by command, and without the list of its faults beside its
+    /// plan. It takes no memory.
+    pub(crate) fn without_lines(self, alloc: Global) -> Job
+        ensures { result ≡ record self { timed = nothing_yet } }
+    {
+        Job {
+            channel: self.channel,
+            start: self.start,
+            addresses: self.addresses,
+            actions: self.actions,
+            plan: self.plan,
+            program: self.program,
+            script: self.script,
+            own: self.own,
+            timed: TimedLines::none(alloc),
+        }
+    }
+
+    /// The same job with another plan.
+    pub(crate) fn with_plan(self, plan: Plan) -> Job
+        ensures { result ≡ record self { plan = plan } }
+    {
+        Job {
+            channel: self.channel,
+            start: self.start,
+            addresses: self.addresses,
+            actions: self.actions,
+            plan,
+            program: self.program,
+            script: self.script,
+            own: self.own,
+            timed: self.timed,
         }
     }
 }

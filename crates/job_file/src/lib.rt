@@ -7,8 +7,10 @@
 //! `edits/`.
 #![tactic(auto)]
 
+mod by_line;
 mod drafts;
 mod error;
+mod job_run;
 mod jobs;
 mod keywords;
 mod laws;
@@ -24,7 +26,9 @@ mod texts;
 mod timed;
 mod whens;
 
+pub use by_line::{SaidLines, said_lines};
 pub use error::{JobError, JobsError, LineFault};
+pub use job_run::{Due, JobRun};
 pub use jobs::Job;
 pub use laws::job_runs;
 pub use reading::read_job;

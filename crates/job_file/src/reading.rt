@@ -150,8 +150,8 @@ fn complete(
     if draft.has_more_inserts(left) {
         return Err(JobError::Inserts { line });
     }
-    let (job, timed) = Job::make(channel, draft, program, Script::of(script));
-    match resolve(alloc, job, timed) {
+    let job = Job::make(alloc, channel, draft, program, Script::of(script));
+    match resolve(alloc, job) {
         Ok(job) => Ok(job),
         Err(_) => Err(JobError::Memory),
     }

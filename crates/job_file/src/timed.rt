@@ -1,12 +1,13 @@
 //! What the lines of a job say by time and by command.
 ghost use Rattle.job_file.specs.Timed.{says_nothing};
 ghost use Rattle.job_file.specs.TimedLines.{timed_inserts, with_when, with_fault};
+ghost use Rattle.job_file.specs.TimedParts.{planned_by, IsSaid};
 ghost use Rattle.job_moments.specs.Planning.{MayStand};
-ghost use Rattle.std.specs.Prelude.{◌≡◌, ◌∷◌, [], false, true, OnOk, OnErr};
+ghost use Rattle.std.specs.Prelude.{◌≡◌, ◌∷◌, [], false, true, map, All, OnOk, OnErr};
 
 use bc_machine::HostAction;
 use controller_host::Control;
-use job_moments::{Moment, Occasion, Occasions};
+use job_moments::{Moment, Occasion};
 use mil_line::Fault;
 use std::alloc::{AllocError, Global};
 use std::marker::Model;
@@ -30,24 +31,31 @@ impl TimedAction {
     }
 }
 
+/// A fault that a line plans, and when it is due.
+#[derive(Clone, Copy, Debug)]
+pub struct TimedFault {
+    pub occasion: Occasion,
+    pub fault: Fault,
+}
+
 /// What the lines of a job say by time and by command; and the faults of all its lines, of which those by number count
 /// among the first four at a message.
 #[derive(Drop)]
 pub struct TimedLines {
     whens: Vec<TimedAction>,
-    faults: Occasions,
+    faults: Vec<TimedFault>,
     is_timed: bool,
 }
 
 impl Model for TimedLines {
     ghost use Rattle.job_file.specs.TimedLines.{Timed};
-    ghost use Rattle.job_file.specs.TimedParts.{timed_in, AreNotMet};
+    ghost use Rattle.job_file.specs.TimedParts.{timed_in, AllMayStand};
 
     ghost Value = { Timed };
 
     ghost view = { timed_in };
 
-    ghost invariant = { AreNotMet };
+    ghost invariant = { AllMayStand };
 }
 
 impl TimedLines {
@@ -57,7 +65,7 @@ impl TimedLines {
     {
         TimedLines {
             whens: Vec::new(alloc),
-            faults: Occasions::none(alloc),
+            faults: Vec::new(alloc),
             is_timed: false,
         }
     }
@@ -79,7 +87,10 @@ impl TimedLines {
         ensures added { OnOk result (self.new ≡ with_fault occasion fault self.old) }
         ensures same { OnErr result (self.new ≡ self.old) }
     {
-        self.faults.push(occasion, fault)
+        match self.faults.push(TimedFault { occasion, fault }) {
+            Ok(()) => Ok(()),
+            Err(_) => Err(AllocError),
+        }
     }
 
     /// From now on one of the faults is by time or by command.
@@ -107,12 +118,25 @@ impl TimedLines {
         self.whens.is_empty() && !self.is_timed
     }
 
-    /// The actions, the faults, and whether one of these is by time or by command.
-    pub(crate) fn parts(self) -> (Vec<TimedAction>, Occasions, bool)
-        ensures whens { result.0.items ≡ self.whens }
-        ensures faults { result.1 ≡ record { faults = self.faults; made = [] } }
-        ensures is_timed { result.2 ≡ self.is_timed }
+    /// The actions, in the order of the text.
+    pub(crate) fn whens(&self) -> &[TimedAction]
+        ensures { result.now ≡ self.now.whens }
     {
-        (self.whens, self.faults, self.is_timed)
+        self.whens.as_slice()
+    }
+
+    /// The faults of all lines, in the order of the text.
+    pub(crate) fn faults(&self) -> &[TimedFault]
+        ensures faults { map planned_by result.now ≡ self.now.faults }
+        ensures said { All IsSaid result.now }
+    {
+        self.faults.as_slice()
+    }
+
+    /// Whether one of the faults is by time or by command.
+    pub(crate) fn is_timed(&self) -> bool
+        ensures { result ≡ self.now.is_timed }
+    {
+        self.is_timed
     }
 }

@@ -1,10 +1,10 @@
 -- Chunks whose lines are the same, have a line more, or are as they must be.
-use Rattle.std.proofs.Common.{◌≡◌, ℕ, suc, ◌+◌, ◌<◌, List, [], ◌∷◌, ◌++◌, length, get_or, set, take, drop, remove, All, Bool, false, refl, sym, ap, subst, ◌∙◌, arith, append_assoc, length-append}
-use Rattle.std.proofs.lemmas.List.{get_or_append_left, get_or-append-add, append-nil, take_more, take_all, take_more_set, length-set}
+use Rattle.std.proofs.Common.{◌≡◌, ℕ, suc, ◌+◌, ◌<◌, List, [], ◌∷◌, ◌++◌, length, get_or, set, take, drop, remove, All, Bool, false, refl, sym, ap, subst, ◌∙◌, arith, append_assoc}
+use Rattle.std.proofs.lemmas.List.{append-nil, take_more, take_all, take_more_set, length-set}
 use Rattle.std.specs.Prelude.{Result, Ok, Err}
 use Rattle.std.specs.Result.{is_err}
 use Rattle.std.proofs.lemmas.List.Concat.{flat_map-append}
-use Rattle.std.proofs.lemmas.List.Elements.{All-append, All-same, All-cons, All-head, All-tail, All-nil, All-more, All-take, All-drop}
+use Rattle.std.proofs.lemmas.List.Elements.{All-append, All-same, All-cons, All-nil, All-more, All-take, All-drop}
 use Rattle.judge_rules.specs.declared.rules.Selector.{Selector}
 use Rattle.job_moments.specs.declared.chunks.Chunk.{Chunk}
 use Rattle.job_moments.specs.declared.met.Met.{Met}
@@ -12,56 +12,14 @@ use Rattle.job_moments.specs.declared.quiet.Quiet.{Quiet}
 use Rattle.job_moments.specs.Chunks.{lines_in, lines_of, behind, Puts, Knows}
 use Rattle.job_moments.specs.Counting.{Counted}
 use Rattle.job_moments.specs.Quiet.{IsPart, IsQuiet, Sleeps}
+use Rattle.job_moments.proofs.Joined.{all_front, all_rest, all_joined, all_pieces}
 use Rattle.job_moments.proofs.Sleeping.{sleeps_unknown, sleeps_later, sleeps_part, sleeps_now}
-
--- ---- what is true of each item of joined lists
-
-pub all_front : {X : Type 0} (P : X → Type 0) (xs ys : List X) → All P (xs ++ ys) → All P xs
-all_front P xs ys all k d within =
-    subst P (get_or_append_left xs ys d k within) (all k d (omega (arith, within, length-append xs ys)))
-
-pub all_rest : {X : Type 0} (P : X → Type 0) (xs ys : List X) → All P (xs ++ ys) → All P ys
-all_rest P xs ys all k d within =
-    subst P (get_or-append-add xs ys k d) (all (length xs + k) d (omega (arith, within, length-append xs ys)))
 
 module _ {L : Type 0} where
   -- ---- the lines of chunks
 
   pub lines_append : (xs ys : List (Chunk L)) → lines_of (xs ++ ys) ≡ lines_of xs ++ lines_of ys
   lines_append xs ys = flat_map-append lines_in xs ys
-
-  -- of one chunk more
-  pub lines_more : (chunks : List (Chunk L)) (i : ℕ) (d : Chunk L) → i < length chunks
-      → lines_of (take (i + 1) chunks) ≡ lines_of (take i chunks) ++ lines_in (get_or chunks i d)
-  lines_more chunks i d within =
-      ap lines_of (take_more chunks i d within)
-      ∙ lines_append (take i chunks) (get_or chunks i d ∷ [])
-      ∙ ap (λ (ls : List L). lines_of (take i chunks) ++ ls) (append-nil (lines_in (get_or chunks i d)))
-
-  pub same_lines_of : (old new : List (Chunk L)) → length new ≡ length old
-      → ((k : ℕ) (d : Chunk L) → k < length old → lines_in (get_or new k d) ≡ lines_in (get_or old k d))
-      → lines_of new ≡ lines_of old
-  same_lines_of [] [] long each = refl
-  same_lines_of [] (n ∷ ns) long each = absurd (omega (arith, long))
-  same_lines_of (o ∷ os) [] long each = absurd (omega (arith, long))
-  same_lines_of (o ∷ os) (n ∷ ns) long each =
-      let first : lines_in n ≡ lines_in o = each 0 o (omega arith) in
-      let rest : lines_of ns ≡ lines_of os = same_lines_of os ns (omega (arith, long)) (λ k d lt. each (suc k) d (omega (arith, lt))) in
-      ap (λ (ls : List L). ls ++ lines_of ns) first ∙ ap (λ (ls : List L). lines_in o ++ ls) rest
-
-  pub all_lines : (P : L → Type 0) (chunks : List (Chunk L)) → All (λ (c : Chunk L). All P (lines_in c)) chunks → All P (lines_of chunks)
-  all_lines P [] all = All-nil P
-  all_lines P (c ∷ cs) all =
-      All-append P (lines_in c) (lines_of cs)
-      (All-head (λ (d : Chunk L). All P (lines_in d)) c cs all)
-      (all_lines P cs (All-tail (λ (d : Chunk L). All P (lines_in d)) c cs all))
-
-  pub all_parts : (P : L → Type 0) (chunks : List (Chunk L)) → All P (lines_of chunks) → All (λ (c : Chunk L). All P (lines_in c)) chunks
-  all_parts P [] all = All-nil (λ (d : Chunk L). All P (lines_in d))
-  all_parts P (c ∷ cs) all =
-      All-cons (λ (d : Chunk L). All P (lines_in d)) c cs
-      (all_front P (lines_in c) (lines_of cs) all)
-      (all_parts P cs (all_rest P (lines_in c) (lines_of cs) all))
 
   -- ---- a line more
 
@@ -79,11 +37,11 @@ module _ {L : Type 0} where
       let parts : All Kept (p.front ++ p.rest) = All-same Kept (p.front ++ p.rest) old (sym p.old_is) known in
       let front : All Kept p.front = all_front Kept p.front p.rest parts in
       let rest : All Kept p.rest = all_rest Kept p.front p.rest parts in
-      let before : All Stands (lines_of p.rest) = all_lines Stands p.rest (λ k d lt. (rest k d lt).stand) in
+      let before : All Stands (lines_of p.rest) = all_joined lines_in Stands p.rest (λ k d lt. (rest k d lt).stand) in
       let lines : All Stands (lines_of p.changed) =
       All-same Stands (lines_of p.changed) (lines_of p.rest ++ more) p.lines (All-append Stands (lines_of p.rest) more before stand) in
       let changed : All Kept p.changed = λ k d lt. record {
-        stand = all_parts Stands p.changed lines k d lt;
+        stand = all_pieces lines_in Stands p.changed lines k d lt;
         sleeps = λ j e within. sleeps_unknown (get_or p.changed k d).quiet made (due (get_or (lines_in (get_or p.changed k d)) j e)) (p.unknown k d lt);
       } in
       All-same Kept new (p.front ++ p.changed) p.new_is (All-append Kept p.front p.changed front changed)

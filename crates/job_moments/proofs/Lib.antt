@@ -1,6 +1,9 @@
 pub mod Chunking
 pub mod Counters
+pub mod Grouping
+pub mod Joined
 pub mod Lists
+pub mod Places
 pub mod Planned
 pub mod Selectors
 pub mod Sleeping

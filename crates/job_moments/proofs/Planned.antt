@@ -1,17 +1,15 @@
 -- Rules whose faults are due, and faults due with one rule more.
 use Rattle.std.proofs.Common.{◌≡◌, ℕ, ◌+◌, ◌<◌, ◌≤◌, Bool, true, false, List, [], ◌∷◌, ◌++◌, length, get_or, take, All, sym, ap, ◌∙◌, arith, append_assoc}
 use Rattle.std.specs.Prelude.{Some, None, if◌then◌else◌}
-use Rattle.std.specs.List.{filter_map, cons_option}
+use Rattle.std.specs.List.{filter_map, cons_option, flat_map}
 use Rattle.std.proofs.lemmas.List.{map-append, take_more, take-append-le, take_all, append-nil, length-take, length_push}
 use Rattle.std.proofs.lemmas.List.Elements.{filter_map-append, All-tail}
 use Rattle.mil_line.specs.declared.faults.Fault.{Fault}
-use Rattle.job_moments.specs.declared.chunks.Chunk.{Chunk}
 use Rattle.job_moments.specs.declared.met.Met.{Met}
 use Rattle.job_moments.specs.declared.planning.Rule.{Rule}
-use Rattle.job_moments.specs.Chunks.{lines_in, lines_of}
-use Rattle.job_moments.specs.Planning.{PlannedFault, is_occasion, fault_at, faults_at}
+use Rattle.job_moments.specs.Planning.{PlannedFault, PlanState, is_occasion, fault_at, faults_at}
 use Rattle.job_moments.specs.Rules.{planned_of, plans_of, occasion_of}
-use Rattle.job_moments.proofs.Chunking.{lines_more}
+use Rattle.job_moments.proofs.Joined.{joined_more}
 
 take_push_few : {X : Type 0} (n : ℕ) (xs : List X) (y : X) → length (take n xs) < n
     → take n (xs ++ y ∷ []) ≡ take n xs ++ y ∷ []
@@ -48,6 +46,11 @@ due_full made next ps p full =
     ap (take 4) (filter_map-append (fault_at made next) ps (p ∷ []))
     ∙ take-append-le 4 all (filter_map (fault_at made next) (p ∷ [])) (omega (arith, full, length-take 4 all))
 
+pub same_plans : (one other : PlanState) → one.faults ≡ other.faults → one.made ≡ other.made → one ≡ other
+same_plans one other faults made =
+    ap (λ (ps : List PlannedFault). record { faults = ps; made = one.made }) faults
+    ∙ ap (λ (ms : List Met). record { faults = other.faults; made = ms }) made
+
 -- rules that are not due
 pub due_none : (made : List Met) (next : Met) (ps : List PlannedFault) (rules : List Rule)
     → All (λ (r : Rule). occasion_of r made next ≡ false) rules
@@ -58,7 +61,7 @@ due_none made next ps (r ∷ rs) none =
     ∙ due_none made next (ps ++ planned_of r ∷ []) rs (All-tail (λ (s : Rule). occasion_of s made next ≡ false) r rs none)
     ∙ due_same made next ps (planned_of r) (none 0 r (omega arith))
 
--- the planned faults of one rule more, and of one chunk more
+-- the planned faults of one rule more, and of one more of the items that have rules each, as chunks and groups
 pub plans_more : (ps : List PlannedFault) (rules : List Rule) (i : ℕ) (d : Rule) → i < length rules
     → ps ++ plans_of (take (i + 1) rules) ≡ (ps ++ plans_of (take i rules)) ++ planned_of (get_or rules i d) ∷ []
 plans_more ps rules i d within =
@@ -66,7 +69,14 @@ plans_more ps rules i d within =
     ∙ ap (λ (qs : List PlannedFault). ps ++ qs) (map-append planned_of (take i rules) (get_or rules i d ∷ []))
     ∙ sym (append_assoc ps (plans_of (take i rules)) (planned_of (get_or rules i d) ∷ []))
 
-pub plans_of_more : (chunks : List (Chunk Rule)) (i : ℕ) (d : Chunk Rule) → i < length chunks
-    → plans_of (lines_of (take (i + 1) chunks)) ≡ plans_of (lines_of (take i chunks)) ++ plans_of (lines_in (get_or chunks i d))
-plans_of_more chunks i d within =
-    ap plans_of (lines_more chunks i d within) ∙ map-append planned_of (lines_of (take i chunks)) (lines_in (get_or chunks i d))
+pub plans_of_more : {X : Type 0} (f : X → List Rule) (xs : List X) (i : ℕ) (d : X) → i < length xs
+    → plans_of (flat_map f (take (i + 1) xs)) ≡ plans_of (flat_map f (take i xs)) ++ plans_of (f (get_or xs i d))
+plans_of_more f xs i d within =
+    ap plans_of (joined_more f xs i d within) ∙ map-append planned_of (flat_map f (take i xs)) (f (get_or xs i d))
+
+-- the same behind others
+pub plans_behind : {X : Type 0} (f : X → List Rule) (before : List PlannedFault) (xs : List X) (i : ℕ) (d : X) → i < length xs
+    → before ++ plans_of (flat_map f (take (i + 1) xs)) ≡ (before ++ plans_of (flat_map f (take i xs))) ++ plans_of (f (get_or xs i d))
+plans_behind f before xs i d within =
+    ap (λ (qs : List PlannedFault). before ++ qs) (plans_of_more f xs i d within)
+    ∙ sym (append_assoc before (plans_of (flat_map f (take i xs))) (plans_of (f (get_or xs i d))))

@@ -1,20 +1,18 @@
 -- The first line that is due, and what is left where it is taken out.
 use Rattle.std.proofs.Common.{◌≡◌, ℕ, suc, zero, ◌+◌, ◌<◌, ◌≤◌, Bool, true, false, List, [], ◌∷◌, ◌++◌, length, get_or, set, take, drop, remove, All, refl, sym, ap, subst, ◌∙◌, arith, append_assoc, length-append}
 use Rattle.std.specs.Prelude.{Option, Some, None, is_some, slice_get, if◌then◌else◌}
-use Rattle.std.specs.List.{position}
+use Rattle.std.specs.List.{flat_map, position}
 use Rattle.std.specs.Option.{option_map}
 use Rattle.std.proofs.lemmas.List.{get_or_append_left, get_or_at, get_or_default, get_or-set_same, get_or-set_other, length-set, map-append, take-append-drop, drop_more}
-use Rattle.std.proofs.lemmas.List.Elements.{All-append, All-map}
-use Rattle.job_moments.specs.declared.chunks.Chunk.{Chunk}
+use Rattle.std.proofs.lemmas.List.Elements.{All-append, All-map, All-same, All-tail}
 use Rattle.job_moments.specs.declared.met.Met.{Met}
 use Rattle.job_moments.specs.declared.moments.Moment.{Moment}
 use Rattle.job_moments.specs.declared.moments.Moment.TheVariants.{Time}
 use Rattle.job_moments.specs.declared.waiting.Line.{Line}
 use Rattle.job_moments.specs.Awaiting.{awaited, awaited_of, due_of, IsStill, IsFirstAt, IsPicked, Picks}
-use Rattle.job_moments.specs.Chunks.{lines_in, lines_of}
 use Rattle.job_moments.specs.Moments.{is_due}
-use Rattle.job_moments.specs.Waits.{Awaited, first_due, moments_of, given_at, left_at, Taken}
-use Rattle.job_moments.proofs.Chunking.{same_lines_of}
+use Rattle.job_moments.specs.Waits.{Awaited, Waits, first_due, moments_of, given_at, left_at, Taken}
+use Rattle.job_moments.proofs.Joined.{all_front, all_rest, same_joined}
 use Rattle.job_moments.proofs.Lists.{position_is, position_none, position-map}
 
 -- ---- an item between others
@@ -36,6 +34,11 @@ module _ {X : Type 0} where
   remove_at (y ∷ ys) x rest = ap (λ (zs : List X). y ∷ zs) (remove_at ys x rest)
 
 module _ {T : Type 0} where
+  pub same_waits : (one other : Waits T) → one.left ≡ other.left → one.made ≡ other.made → one ≡ other
+  same_waits one other left made =
+      ap (λ (ls : List (Awaited T)). record { left = ls; made = one.made }) left
+      ∙ ap (λ (ms : List Met). record { left = other.left; made = ms }) made
+
   -- ---- by the place of the first
 
   taken_at : (made : List Met) (next : Met) (front : List (Awaited T)) (one : Awaited T) (rest : List (Awaited T))
@@ -80,7 +83,7 @@ module _ {T : Type 0} where
             ∙ ap (λ (left : List (Awaited T)). left_at (first_due made next (moments_of left)) left) (sym olds);
       }
 
-  -- ---- among the lines of chunks
+  -- ---- among more lines
 
   picked_behind : (made : List Met) (next : Met) (front old new : List (Line T)) (payload : T)
       → All (IsStill made next) front → IsPicked made next old new payload
@@ -109,64 +112,15 @@ module _ {T : Type 0} where
     given = p.given;
   }
 
-  -- a chunk none of whose lines was due
-  pub record IsPassed (made : List Met) (next : Met) (old new : Chunk (Line T)) : Type 0 where
-    pub lines : lines_in new ≡ lines_in old
-    pub still : All (IsStill made next) (lines_in old)
-
-  -- the first line that is due stands in the chunk of a place
-  pub picked_at : (made : List Met) (next : Met) (i : ℕ) (old new : List (Chunk (Line T))) (payload : T)
-      → length new ≡ length old → i < length old
-      → ((k : ℕ) (d : Chunk (Line T)) → k < i → IsPassed made next (get_or old k d) (get_or new k d))
-      → ((d : Chunk (Line T)) → IsPicked made next (lines_in (get_or old i d)) (lines_in (get_or new i d)) payload)
-      → ((k : ℕ) (d : Chunk (Line T)) → i < k → get_or new k d ≡ get_or old k d)
-      → IsPicked made next (lines_of old) (lines_of new) payload
-  picked_at made next i [] new payload long there before at behind = absurd (omega (arith, there))
-  picked_at made next i (o ∷ os) [] payload long there before at behind = absurd (omega (arith, long))
-  picked_at made next zero (o ∷ os) (n ∷ ns) payload long there before at behind =
-      let rest : lines_of ns ≡ lines_of os =
-      same_lines_of os ns (omega (arith, long)) (λ k d lt. ap lines_in (behind (suc k) d (omega arith))) in
-      subst (λ (ls : List (Line T)). IsPicked made next (lines_in o ++ lines_of os) (lines_in n ++ ls) payload) (sym rest)
-      (picked_before made next (lines_of os) (lines_in o) (lines_in n) payload (at o))
-  picked_at made next (suc i) (o ∷ os) (n ∷ ns) payload long there before at behind =
-      let first = before 0 o (omega arith) in
-      let rest : IsPicked made next (lines_of os) (lines_of ns) payload =
-      picked_at made next i os ns payload (omega (arith, long)) (omega (arith, there))
-      (λ k d lt. before (suc k) d (omega (arith, lt))) at (λ k d lt. behind (suc k) d (omega (arith, lt))) in
-      subst (λ (ls : List (Line T)). IsPicked made next (lines_in o ++ lines_of os) (ls ++ lines_of ns) payload) (sym first.lines)
-      (picked_behind made next (lines_in o) (lines_of os) (lines_of ns) payload first.still rest)
-
-  -- in the same way, of what may be given
-  pub picks_at : (made : List Met) (next : Met) (i : ℕ) (old new : List (Chunk (Line T))) (given : Option T) → is_some given ≡ true
-      → length new ≡ length old → i < length old
-      → ((k : ℕ) (d : Chunk (Line T)) → k < i → IsPassed made next (get_or old k d) (get_or new k d))
-      → ((d : Chunk (Line T)) → Picks made next (lines_in (get_or old i d)) (lines_in (get_or new i d)) given)
-      → ((k : ℕ) (d : Chunk (Line T)) → i < k → get_or new k d ≡ get_or old k d)
-      → Picks made next (lines_of old) (lines_of new) given
-  picks_at made next i old new None some long there before at behind = absurd cc
-  picks_at made next i old new (Some payload) some long there before at behind =
-      picked_at made next i old new payload long there before at behind
-
-  -- where the chunk of a place is changed, behind those that were passed
-  pub picks_set : (made : List Met) (next : Met) (i : ℕ) (old now : List (Chunk (Line T))) (e new : Chunk (Line T)) (given : Option T)
-      → is_some given ≡ true → length now ≡ length old → i < length old
-      → ((k : ℕ) (d : Chunk (Line T)) → k < i → IsPassed made next (get_or old k d) (get_or now k d))
-      → ((k : ℕ) (d : Chunk (Line T)) → i ≤ k → get_or now k d ≡ get_or old k d)
-      → Picks made next (lines_in (get_or now i e)) (lines_in new) given
-      → Picks made next (lines_of old) (lines_of (set now i new)) given
-  picks_set made next i old now e new given some long there done rest picked =
-      picks_at made next i old (set now i new) given some (length-set now i new ∙ long) there
-      (λ k d lt. subst (IsPassed made next (get_or old k d)) (sym (get_or-set_other now i k new d (λ is. omega (arith, is, lt)))) (done k d lt))
-      (λ d. subst (λ (c : Chunk (Line T)). Picks made next (lines_in (get_or old i d)) (lines_in c) given)
-      (sym (get_or-set_same now i new d (omega (arith, long, there))))
-      (subst (λ (c : Chunk (Line T)). Picks made next (lines_in c) (lines_in new) given)
-      (get_or_default now i e d (omega (arith, long, there)) ∙ rest i d (omega arith)) picked))
-      (λ k d lt. get_or-set_other now i k new d (λ is. omega (arith, is, lt)) ∙ rest k d (omega (arith, lt)))
-
-  pub passed : (made : List Met) (next : Met) (old new : Chunk (Line T)) (given : Option T) → is_some given ≡ false
-      → Picks made next (lines_in old) (lines_in new) given → IsPassed made next old new
-  passed made next old new None none picked = record { lines = picked.1; still = picked.0 }
-  passed made next old new (Some payload) none picked = absurd cc
+  -- what is true of each line is true of those that are left
+  pub picks_all : (P : Line T → Type 0) (made : List Met) (next : Met) (old new : List (Line T)) (given : Option T)
+      → Picks made next old new given → All P old → All P new
+  picks_all P made next old new None picked all = All-same P new old picked.1 all
+  picks_all P made next old new (Some payload) p all =
+      let parts : All P (p.front ++ p.one ∷ p.rest) = All-same P (p.front ++ p.one ∷ p.rest) old (sym p.old_is) all in
+      All-same P new (p.front ++ p.rest) p.new_is (All-append P p.front p.rest
+      (all_front P p.front (p.one ∷ p.rest) parts)
+      (All-tail P p.one p.rest (all_rest P p.front (p.one ∷ p.rest) parts)))
 
   -- in one chunk
   pub picked_one : (made : List Met) (next : Met) (lines new : List (Line T)) (place : ℕ) (one : Line T)
@@ -200,3 +154,65 @@ module _ {T : Type 0} where
       → length new + (if is_some given then 1 else 0) ≡ length old
   as_many made next old new None picked = omega (arith, ap length picked.1)
   as_many made next old new (Some payload) picked = fewer made next old new payload picked
+
+-- ---- among the lines of chunks, or of groups
+
+module _ {T X : Type 0} (f : X → List (Line T)) where
+  -- an item none of whose lines was due
+  pub record IsPassed (made : List Met) (next : Met) (old new : X) : Type 0 where
+    pub lines : f new ≡ f old
+    pub still : All (IsStill made next) (f old)
+
+  -- the first line that is due stands in the item of a place
+  pub picked_at : (made : List Met) (next : Met) (i : ℕ) (old new : List X) (payload : T)
+      → length new ≡ length old → i < length old
+      → ((k : ℕ) (d : X) → k < i → IsPassed made next (get_or old k d) (get_or new k d))
+      → ((d : X) → IsPicked made next (f (get_or old i d)) (f (get_or new i d)) payload)
+      → ((k : ℕ) (d : X) → i < k → get_or new k d ≡ get_or old k d)
+      → IsPicked made next (flat_map f old) (flat_map f new) payload
+  picked_at made next i [] new payload long there before at behind = absurd (omega (arith, there))
+  picked_at made next i (o ∷ os) [] payload long there before at behind = absurd (omega (arith, long))
+  picked_at made next zero (o ∷ os) (n ∷ ns) payload long there before at behind =
+      let rest : flat_map f ns ≡ flat_map f os =
+      same_joined f os ns (omega (arith, long)) (λ k d lt. ap f (behind (suc k) d (omega arith))) in
+      subst (λ (ls : List (Line T)). IsPicked made next (f o ++ flat_map f os) (f n ++ ls) payload) (sym rest)
+      (picked_before made next (flat_map f os) (f o) (f n) payload (at o))
+  picked_at made next (suc i) (o ∷ os) (n ∷ ns) payload long there before at behind =
+      let first = before 0 o (omega arith) in
+      let rest : IsPicked made next (flat_map f os) (flat_map f ns) payload =
+      picked_at made next i os ns payload (omega (arith, long)) (omega (arith, there))
+      (λ k d lt. before (suc k) d (omega (arith, lt))) at (λ k d lt. behind (suc k) d (omega (arith, lt))) in
+      subst (λ (ls : List (Line T)). IsPicked made next (f o ++ flat_map f os) (ls ++ flat_map f ns) payload) (sym first.lines)
+      (picked_behind made next (f o) (flat_map f os) (flat_map f ns) payload first.still rest)
+
+  -- in the same way, of what may be given
+  pub picks_at : (made : List Met) (next : Met) (i : ℕ) (old new : List X) (given : Option T) → is_some given ≡ true
+      → length new ≡ length old → i < length old
+      → ((k : ℕ) (d : X) → k < i → IsPassed made next (get_or old k d) (get_or new k d))
+      → ((d : X) → Picks made next (f (get_or old i d)) (f (get_or new i d)) given)
+      → ((k : ℕ) (d : X) → i < k → get_or new k d ≡ get_or old k d)
+      → Picks made next (flat_map f old) (flat_map f new) given
+  picks_at made next i old new None some long there before at behind = absurd cc
+  picks_at made next i old new (Some payload) some long there before at behind =
+      picked_at made next i old new payload long there before at behind
+
+  -- where the item of a place is changed, behind those that were passed
+  pub picks_set : (made : List Met) (next : Met) (i : ℕ) (old now : List X) (e new : X) (given : Option T)
+      → is_some given ≡ true → length now ≡ length old → i < length old
+      → ((k : ℕ) (d : X) → k < i → IsPassed made next (get_or old k d) (get_or now k d))
+      → ((k : ℕ) (d : X) → i ≤ k → get_or now k d ≡ get_or old k d)
+      → Picks made next (f (get_or now i e)) (f new) given
+      → Picks made next (flat_map f old) (flat_map f (set now i new)) given
+  picks_set made next i old now e new given some long there done rest picked =
+      picks_at made next i old (set now i new) given some (length-set now i new ∙ long) there
+      (λ k d lt. subst (IsPassed made next (get_or old k d)) (sym (get_or-set_other now i k new d (λ is. omega (arith, is, lt)))) (done k d lt))
+      (λ d. subst (λ (c : X). Picks made next (f (get_or old i d)) (f c) given)
+      (sym (get_or-set_same now i new d (omega (arith, long, there))))
+      (subst (λ (c : X). Picks made next (f c) (f new) given)
+      (get_or_default now i e d (omega (arith, long, there)) ∙ rest i d (omega arith)) picked))
+      (λ k d lt. get_or-set_other now i k new d (λ is. omega (arith, is, lt)) ∙ rest k d (omega (arith, lt)))
+
+  pub passed : (made : List Met) (next : Met) (old new : X) (given : Option T) → is_some given ≡ false
+      → Picks made next (f old) (f new) given → IsPassed made next old new
+  passed made next old new None none picked = record { lines = picked.1; still = picked.0 }
+  passed made next old new (Some payload) none picked = absurd cc

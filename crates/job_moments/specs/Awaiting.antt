@@ -3,10 +3,12 @@ use Rattle.std.specs.Prelude.{◌≡◌, ℕ, ◌<◌, ◌++◌, ◌∷◌, Bool
 use Rattle.std.specs.Prelude.{slice_index_or, Option, Some, None}
 use Rattle.judge_rules.specs.declared.rules.Selector.{Selector}
 use Rattle.job_moments.specs.declared.chunks.Chunk.{Chunk}
+use Rattle.job_moments.specs.declared.groups.Group.{Group}
 use Rattle.job_moments.specs.declared.met.Met.{Met}
 use Rattle.job_moments.specs.declared.waiting.Line.{Line}
-use Rattle.job_moments.specs.Chunks.{lines_of, Knows}
+use Rattle.job_moments.specs.Chunks.{Knows}
 use Rattle.job_moments.specs.Counting.{Counted, HasCounter}
+use Rattle.job_moments.specs.Groups.{lines_of_groups, KnowsInside}
 use Rattle.job_moments.specs.Moments.{counted_for, is_due}
 use Rattle.job_moments.specs.Waits.{Awaited}
 
@@ -58,6 +60,10 @@ module _ {T : Type 0} where
   abbrev pub KnowsChunk : Counted → Chunk (Line T) → Type 0
   KnowsChunk counts c = Knows (HasItsCounter counts.selectors) due_of counts.made c
 
-  pub record AllKnow (chunks : List (Chunk (Line T))) (counts : Counted) (number : ℕ) : Type 0 where
-    pub known : All (KnowsChunk counts) chunks
-    pub count : number ≡ length (lines_of chunks)
+  -- the same of the chunks of a group, and of all their lines
+  abbrev pub KnowsGroup : Counted → Group (Line T) → Type 0
+  KnowsGroup counts g = KnowsInside (HasItsCounter counts.selectors) due_of counts.made g
+
+  pub record AllKnow (groups : List (Group (Line T))) (counts : Counted) (number : ℕ) : Type 0 where
+    pub known : All (KnowsGroup counts) groups
+    pub count : number ≡ length (lines_of_groups groups)

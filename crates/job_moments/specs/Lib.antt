@@ -1,6 +1,7 @@
 pub mod Awaiting
 pub mod Chunks
 pub mod Counting
+pub mod Groups
 pub mod Moments
 pub mod Planning
 pub mod Quiet

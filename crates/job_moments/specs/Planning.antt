@@ -2,7 +2,7 @@
 -- among the messages that a selector is about, or at each of these in a time. Of those that are due at one message the
 -- first four of the text count.
 use Rattle.std.specs.Prelude.{◌≡◌, ℕ, ◌+◌, ◌-◌, ◌%◌, ◌==◌, ◌&&◌, ◌≤◌, ◌<◌, ⊤, nat_le, Bool, false, not, if◌then◌else◌}
-use Rattle.std.specs.Prelude.{List, length, take, Option, Some, None}
+use Rattle.std.specs.Prelude.{List, [], ◌∷◌, ◌++◌, length, take, Option, Some, None}
 use Rattle.judge_rules.specs.declared.rules.Selector.{Selector}
 use Rattle.std.specs.List.{filter_map, list_any}
 use Rattle.mil_line.specs.declared.faults.Fault.{Fault}
@@ -41,6 +41,15 @@ fault_at made next p = if is_occasion made next p.occasion then Some p.fault els
 -- the first four of the text that are due at the next message
 abbrev pub faults_at : List Met → Met → List PlannedFault → List Fault
 faults_at made next faults = take 4 (filter_map (fault_at made next) faults)
+
+-- the place of a planned fault, where it is due at the next message
+abbrev pub place_at : List Met → Met → ℕ → PlannedFault → List ℕ
+place_at made next place p = if is_occasion made next p.occasion then place ∷ [] else []
+
+-- the places of all of these that are due at the next message, of which the first has this place
+abbrev pub places_from : List Met → Met → ℕ → List PlannedFault → List ℕ
+places_from made next first [] = []
+places_from made next first (p ∷ ps) = place_at made next first p ++ places_from made next (first + 1) ps
 
 -- turns are some places apart
 abbrev pub AreApart : Turns → Type 0

@@ -6,7 +6,7 @@ use crate::quiet::Quiet;
 use std::alloc::{AllocError, Global};
 
 /// How many lines may stand in a chunk.
-const ROOM: usize = 64;
+const ROOM: usize = 32;
 
 /// Lines that follow one another in the text, and messages in front of which none of them is due.
 #[derive(Drop)]
@@ -31,7 +31,7 @@ impl<L: Drop> Chunk<L> {
 }
 
 /// Whether the last of these chunks, where there is one, has room for a line more.
-fn has_room<L: Drop>(chunks: &[Chunk<L>]) -> bool
+pub(crate) fn has_room<L: Drop>(chunks: &[Chunk<L>]) -> bool
     ensures { result ≡ true → 0 < length chunks.now }
 {
     match chunks.last() {

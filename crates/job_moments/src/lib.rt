@@ -7,9 +7,11 @@
 
 mod chunks;
 mod counts;
+mod groups;
 mod met;
 mod moments;
 mod occasions;
+mod placing;
 mod planning;
 mod quiet;
 mod waiting;

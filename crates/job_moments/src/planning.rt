@@ -1,14 +1,17 @@
 //! Which planned faults are due at a message.
 ghost use Rattle.job_moments.specs.Chunks.{lines_in, lines_of};
-ghost use Rattle.job_moments.specs.Planning.{faults_at, is_occasion, MayStand, PlannedFault};
+ghost use Rattle.job_moments.specs.Groups.{lines_inside, lines_of_groups};
+ghost use Rattle.job_moments.specs.Planning.{faults_at, is_occasion, places_from, MayStand, PlannedFault};
 ghost use Rattle.job_moments.specs.Quiet.{IsPart, Sleeps};
-ghost use Rattle.job_moments.specs.Rules.{occasion_of, planned_of, plans_of, HasItsCounter, KnowsChunk};
+ghost use Rattle.job_moments.specs.Rules.{occasion_of, planned_of, plans_of, HasItsCounter, KnowsChunk, KnowsGroup};
 ghost use Rattle.std.specs.Prelude.{◌≡◌, ◌<◌, ◌≤◌, ◌++◌, ◌∷◌, [], All, List, length, OnOk, OnErr};
 
-use crate::chunks::{Chunk, put};
+use crate::chunks::Chunk;
 use crate::counts::Counts;
+use crate::groups::{Group, put_behind, quiet_for_all};
 use crate::met::Met;
 use crate::occasions::Occasion;
+use crate::placing::add_due_places;
 use crate::quiet::Quiet;
 use arrayvec::ArrayVec;
 use mil_line::Fault;
@@ -17,7 +20,7 @@ use std::marker::Model;
 
 /// A planned fault, and the place of the counter of its occasion.
 #[derive(Drop)]
-struct Rule {
+pub(crate) struct Rule {
     occasion: Occasion,
     counter: usize,
     fault: Fault,
@@ -25,7 +28,7 @@ struct Rule {
 
 impl Rule {
     /// Whether it is due at the message that comes next.
-    fn is_due(&self, counts: &Counts, next: &Met) -> bool
+    pub(crate) fn is_due(&self, counts: &Counts, next: &Met) -> bool
         requires few { length counts.now.made < 1000000 }
         requires counter { HasItsCounter counts.now.selectors self.now }
         ensures { result ≡ is_occasion counts.now.made next.now self.now.occasion }
@@ -80,15 +83,39 @@ fn add_chunk(faults: &mut ArrayVec<Fault, 4>, chunk: &Chunk<Rule>, counts: &Coun
     }
 }
 
-/// The faults of the first four rules that are due at the message that comes next.
-fn due(chunks: &[Chunk<Rule>], counts: &Counts, next: &Met) -> ArrayVec<Fault, 4>
+/// Adds the faults of these chunks that are due at the message that comes next, as long as fewer than four are there.
+fn add_chunks(faults: &mut ArrayVec<Fault, 4>, chunks: &[Chunk<Rule>], counts: &Counts, next: &Met)
     requires few { length counts.now.made < 1000000 }
     requires known { All (KnowsChunk counts.now) chunks.now }
-    ensures { result.items ≡ faults_at counts.now.made next.now (plans_of (lines_of chunks.now)) }
+    ensures { (before : List PlannedFault) → faults.old.items ≡ faults_at counts.now.made next.now before
+        → faults.new.items ≡ faults_at counts.now.made next.now (before ++ plans_of (lines_of chunks.now)) }
+{
+    for chunk in chunks {
+        add_chunk(faults, chunk, counts, next);
+    }
+}
+
+/// Adds the faults of a group that are due at the message that comes next, as long as fewer than four are there.
+fn add_group(faults: &mut ArrayVec<Fault, 4>, group: &Group<Rule>, counts: &Counts, next: &Met)
+    requires few { length counts.now.made < 1000000 }
+    requires known { KnowsGroup counts.now group.now }
+    ensures { (before : List PlannedFault) → faults.old.items ≡ faults_at counts.now.made next.now before
+        → faults.new.items ≡ faults_at counts.now.made next.now (before ++ plans_of (lines_inside group.now)) }
+{
+    if !group.quiet.has(counts.number(), next) {
+        add_chunks(faults, &group.chunks, counts, next);
+    }
+}
+
+/// The faults of the first four rules that are due at the message that comes next.
+fn due(groups: &[Group<Rule>], counts: &Counts, next: &Met) -> ArrayVec<Fault, 4>
+    requires few { length counts.now.made < 1000000 }
+    requires known { All (KnowsGroup counts.now) groups.now }
+    ensures { result.items ≡ faults_at counts.now.made next.now (plans_of (lines_of_groups groups.now)) }
 {
     let mut faults = ArrayVec::new();
-    for chunk in chunks {
-        add_chunk(&mut faults, chunk, counts, next);
+    for group in groups {
+        add_group(&mut faults, group, counts, next);
     }
     faults
 }
@@ -131,12 +158,38 @@ fn learn_all(chunks: &mut [Chunk<Rule>], counts: &Counts, last: &Met)
     }
 }
 
+/// Behind one message more a group learns at which messages none of its rules will be due, where it doesn't know it of
+/// those that are like the last.
+fn learn_inside(group: &mut Group<Rule>, counts: &Counts, last: &Met)
+    requires few { length counts.now.made ≤ 1000000 }
+    requires known { KnowsGroup counts.now group.old }
+    ensures lines { lines_inside group.new ≡ lines_inside group.old }
+    ensures known { KnowsGroup counts.now group.new }
+{
+    if !group.quiet.has(counts.number(), last) {
+        learn_all(&mut group.chunks, counts, last);
+        group.quiet = quiet_for_all(&group.chunks);
+    }
+}
+
+/// Behind one message more each of these groups learns at which messages none of its rules will be due.
+fn learn_groups(groups: &mut [Group<Rule>], counts: &Counts, last: &Met)
+    requires few { length counts.now.made ≤ 1000000 }
+    requires known { All (KnowsGroup counts.now) groups.old }
+    ensures lines { lines_of_groups groups.new ≡ lines_of_groups groups.old }
+    ensures known { All (KnowsGroup counts.now) groups.new }
+{
+    for group in groups.iter_mut() {
+        learn_inside(group, counts, last);
+    }
+}
+
 /// The planned faults of a job, in the order of its text, and the messages that were made. The rules stand in chunks of
-/// at most 64, of which each knows at which messages none of its rules is due: so a message costs as much as there are
-/// chunks, and selectors that are counted.
+/// at most 32, and these in groups of at most 32, of which each knows at which messages none of its rules is due: so a
+/// message costs as much as there are groups, and selectors that are counted.
 #[derive(Drop)]
 pub struct Occasions {
-    chunks: Vec<Chunk<Rule>>,
+    groups: Vec<Group<Rule>>,
     /// How many rules they have.
     number: usize,
     counts: Counts,
@@ -148,12 +201,12 @@ impl Model for Occasions {
 
     ghost Value = { PlanState };
 
-    ghost use Rattle.job_moments.specs.Chunks.{lines_of};
+    ghost use Rattle.job_moments.specs.Groups.{lines_of_groups};
     ghost use Rattle.job_moments.specs.Rules.{plans_of, AllKnow};
 
-    ghost view = { λ p. record { faults = plans_of (lines_of p.chunks.items); made = p.counts.made } };
+    ghost view = { λ p. record { faults = plans_of (lines_of_groups p.groups.items); made = p.counts.made } };
 
-    ghost invariant = { λ p. AllKnow p.chunks.items p.counts p.number };
+    ghost invariant = { λ p. AllKnow p.groups.items p.counts p.number };
 }
 
 impl Occasions {
@@ -162,7 +215,7 @@ impl Occasions {
         ensures { result ≡ record { faults = []; made = [] } }
     {
         Occasions {
-            chunks: Vec::new(alloc),
+            groups: Vec::new(alloc),
             number: 0,
             counts: Counts::none(alloc),
             alloc,
@@ -190,7 +243,7 @@ impl Occasions {
             counter,
             fault,
         };
-        put(&mut self.chunks, rule, self.alloc)?;
+        put_behind(&mut self.groups, rule, self.alloc)?;
         self.number = number;
         Ok(())
     }
@@ -207,7 +260,19 @@ impl Occasions {
         requires { length self.now.made < 1000000 }
         ensures { result.items ≡ faults_at self.now.made next.now self.now.faults }
     {
-        due(&self.chunks, &self.counts, next)
+        due(&self.groups, &self.counts, next)
+    }
+
+    /// Adds the places of all planned faults that are due at a message, beyond the first four too: counted from 0, in
+    /// the order in which they were put in. It fails for want of memory alone; then some of them may have been added.
+    pub fn places(&self, next: &Met, places: &mut Vec<usize>) -> Result<(), AllocError>
+        requires { length self.now.made < 1000000 }
+        ensures { OnOk result (places.new.items
+            ≡ places.old.items ++ places_from self.now.made next.now 0 self.now.faults) }
+    {
+        // So many as a `usize` counts, for the proof.
+        let _number = self.number;
+        add_due_places(places, &self.groups, &self.counts, next)
     }
 
     /// One message more was made.
@@ -216,6 +281,6 @@ impl Occasions {
         ensures { self.new ≡ record { faults = self.old.faults; made = self.old.made ++ met.now ∷ [] } }
     {
         self.counts.meet(met);
-        learn_all(&mut self.chunks, &self.counts, met);
+        learn_groups(&mut self.groups, &self.counts, met);
     }
 }

@@ -1,4 +1,4 @@
-//! Messages in front of which nothing of a chunk is due.
+//! Messages in front of which nothing of a chunk or a group is due.
 ghost use Rattle.job_moments.specs.Quiet.{IsPart, IsQuiet};
 ghost use Rattle.std.specs.Prelude.{◌≡◌, ◌+◌, ◌<◌, ◌≤◌, List, length, true};
 
@@ -41,6 +41,18 @@ impl Quiet {
         ensures { (made : List Met) → number ≡ length made → result ≡ true → IsQuiet self.now made next.now }
     {
         self.from <= next.start && next.start < self.until && number < self.wake
+    }
+
+    /// Those of them that are among others too.
+    pub(crate) fn within(self, other: Quiet) -> Quiet
+        ensures one { IsPart result self }
+        ensures other { IsPart result other }
+    {
+        Quiet {
+            from: self.from.max(other.from),
+            until: self.until.min(other.until),
+            wake: self.wake.min(other.wake),
+        }
     }
 
     /// Those of them that start before a tick.

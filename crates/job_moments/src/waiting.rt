@@ -1,13 +1,15 @@
 //! Moments that are still to come.
-ghost use Rattle.job_moments.specs.Awaiting.{due_of, HasItsCounter, IsFirst, KnowsChunk, Picks};
+ghost use Rattle.job_moments.specs.Awaiting.{due_of, HasItsCounter, IsFirst, KnowsChunk, KnowsGroup, Picks};
 ghost use Rattle.job_moments.specs.Chunks.{lines_in, lines_of};
+ghost use Rattle.job_moments.specs.Groups.{lines_inside, lines_of_groups};
 ghost use Rattle.job_moments.specs.Moments.{is_due};
 ghost use Rattle.job_moments.specs.Quiet.{IsPart, Sleeps};
 ghost use Rattle.job_moments.specs.Waits.{Taken};
 ghost use Rattle.std.specs.Prelude.{◌≡◌, ◌<◌, ◌≤◌, ◌++◌, ◌∷◌, [], All, length, OnOk, OnErr};
 
-use crate::chunks::{Chunk, put};
+use crate::chunks::Chunk;
 use crate::counts::Counts;
+use crate::groups::{Group, put_behind, quiet_for_all};
 use crate::met::Met;
 use crate::moments::Moment;
 use crate::quiet::Quiet;
@@ -106,12 +108,47 @@ fn take_first<T: Drop>(chunks: &mut [Chunk<Line<T>>], counts: &Counts, next: &Me
     None
 }
 
+/// Takes out the first line of a group that is due in front of a message, and gives what is due. Where none is, the
+/// group learns in front of which messages none will be.
+fn take_inside<T: Drop>(group: &mut Group<Line<T>>, counts: &Counts, next: &Met) -> Option<T>
+    requires few { length counts.now.made < 1000000 }
+    requires known { KnowsGroup counts.now group.old }
+    ensures taken { Picks counts.now.made next.now (lines_inside group.old) (lines_inside group.new) result }
+    ensures known { KnowsGroup counts.now group.new }
+{
+    if group.quiet.has(counts.number(), next) {
+        return None;
+    }
+    let payload = take_first(&mut group.chunks, counts, next);
+    if payload.is_none() {
+        group.quiet = quiet_for_all(&group.chunks);
+    }
+    payload
+}
+
+/// Takes out the first line of these groups that is due in front of a message, and gives what is due.
+fn take_from<T: Drop>(groups: &mut [Group<Line<T>>], counts: &Counts, next: &Met) -> Option<T>
+    requires few { length counts.now.made < 1000000 }
+    requires known { All (KnowsGroup counts.now) groups.old }
+    ensures taken { Picks counts.now.made next.now (lines_of_groups groups.old) (lines_of_groups groups.new) result }
+    ensures known { All (KnowsGroup counts.now) groups.new }
+{
+    for group in groups.iter_mut() {
+        let payload = take_inside(group, counts, next);
+        if payload.is_some() {
+            return payload;
+        }
+    }
+    None
+}
+
 /// Moments that are still to come, each with what is due at it, in the order of the text, and the messages that were
-/// made. The lines stand in chunks of at most 64, of which each knows in front of which messages none of its lines is
-/// due: so a message costs as much as there are chunks, and selectors that are counted.
+/// made. The lines stand in chunks of at most 32, and these in groups of at most 32, of which each knows in front of
+/// which messages none of its lines is due: so a message costs as much as there are groups, and selectors that are
+/// counted.
 #[derive(Drop)]
 pub struct Waiting<T: Drop> {
-    chunks: Vec<Chunk<Line<T>>>,
+    groups: Vec<Group<Line<T>>>,
     /// How many lines they have.
     number: usize,
     counts: Counts,
@@ -124,11 +161,11 @@ impl<T: Drop> Model for Waiting<T> {
     ghost Value = { Waits T };
 
     ghost use Rattle.job_moments.specs.Awaiting.{awaited_of, AllKnow};
-    ghost use Rattle.job_moments.specs.Chunks.{lines_of};
+    ghost use Rattle.job_moments.specs.Groups.{lines_of_groups};
 
-    ghost view = { λ w. record { left = awaited_of (lines_of w.chunks.items); made = w.counts.made } };
+    ghost view = { λ w. record { left = awaited_of (lines_of_groups w.groups.items); made = w.counts.made } };
 
-    ghost invariant = { λ w. AllKnow w.chunks.items w.counts w.number };
+    ghost invariant = { λ w. AllKnow w.groups.items w.counts w.number };
 }
 
 impl<T: Drop> Waiting<T> {
@@ -137,7 +174,7 @@ impl<T: Drop> Waiting<T> {
         ensures { result ≡ record { left = []; made = [] } }
     {
         Waiting {
-            chunks: Vec::new(alloc),
+            groups: Vec::new(alloc),
             number: 0,
             counts: Counts::none(alloc),
             alloc,
@@ -164,7 +201,7 @@ impl<T: Drop> Waiting<T> {
             counter,
             payload,
         };
-        put(&mut self.chunks, line, self.alloc)?;
+        put_behind(&mut self.groups, line, self.alloc)?;
         self.number = number;
         Ok(())
     }
@@ -183,7 +220,7 @@ impl<T: Drop> Waiting<T> {
         ensures taken { Taken self.old.made next.now self.old.left self.new.left result }
         ensures made { self.new.made ≡ self.old.made }
     {
-        let payload = take_first(&mut self.chunks, &self.counts, next);
+        let payload = take_from(&mut self.groups, &self.counts, next);
         if payload.is_some() {
             self.number -= 1;
         }

@@ -7,19 +7,22 @@ use std::alloc::Global;
 use std::io::{BufRead, Write};
 use std::process::Abort;
 
-/// The texts of jobs, and that of the report of their run.
+/// The texts of jobs, those of jobs that make the messages of their run by number alone, and that of its report.
 #[derive(Clone, Copy)]
 pub(crate) struct RunTexts {
     pub(crate) jobs: &'static [&'static str],
+    pub(crate) recorded: &'static [&'static str],
     pub(crate) report: &'static str,
 }
 
+const DROPPED_JOB: &str =
+    "channel 1\nterminal 5\nfault 1 drop 0 3\nscript\nsend A rx 5 1 [0001 0002 0003]\nsend A mode 5 2\n\
+     send A mode 5 2\n";
+
 /// A message that loses a word on its way, and two questions for the status.
 pub(crate) const DROPPED: RunTexts = RunTexts {
-    jobs: &[
-        "channel 1\nterminal 5\nfault 1 drop 0 3\nscript\nsend A rx 5 1 [0001 0002 0003]\nsend A mode 5 2\n\
-         send A mode 5 2\n",
-    ],
+    jobs: &[DROPPED_JOB],
+    recorded: &[DROPPED_JOB],
     report: "channel 1\nmade 3\npackets 1\n",
 };
 
@@ -45,14 +48,14 @@ pub(crate) fn subject_of(rt: &impl Abort, alloc: Global, texts: &RunTexts) -> Su
     let jobs = jobs_of(rt, alloc, texts.jobs);
     let report = read_report(alloc, texts.report.as_bytes());
     let report = report.ok().expect(rt, "a report");
-    let file = recorded(rt, alloc, texts.jobs);
+    let file = recorded(rt, alloc, texts.recorded);
     Subject { jobs, report, file }
 }
 
 impl Subject {
     /// How a session of these lines ends, and what is left of them.
     pub(crate) fn session<'a, W: Write>(
-        &self,
+        self,
         alloc: Global,
         lines: &'a str,
         out: &mut W,
@@ -64,19 +67,12 @@ impl Subject {
 
     /// How a session of the lines of a reader ends, which come from a file.
     pub(crate) fn session_of<R: BufRead, W: Write>(
-        &self,
+        self,
         alloc: Global,
         input: &mut R,
         out: &mut W,
     ) -> Result<(), StepFault> {
-        step(
-            alloc,
-            Manner::Given,
-            &self.jobs,
-            &self.report,
-            &self.file,
-            input,
-            out,
-        )
+        let Subject { jobs, report, file } = self;
+        step(alloc, Manner::Given, jobs, &report, &file, input, out)
     }
 }

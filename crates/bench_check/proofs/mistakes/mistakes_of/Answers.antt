@@ -3,7 +3,6 @@ use Rattle.std.specs.List.{flat_map}
 use Rattle.mil_line.specs.Plans.{Planned}
 use Rattle.bc_machine.specs.declared.placed.Placed.{Placed}
 use Rattle.bench_check.specs.declared.frames.Overrun.{Overrun}
-use Rattle.bench_check.specs.declared.mistakes.Mistake.{Mistake}
 use Rattle.bench_check.specs.Mistakes as spec
 use Rattle.bench_check.proofs.Pieces.{two_put}
 use Rattle.bench_check.proofs.mistakes.mistakes_of.Goals as goal
@@ -20,7 +19,7 @@ returns c =
     let s = spec.strangers_below job.addresses f.calls 31 in
     let u = flat_map (spec.uncalled_at f.calls) job.addresses in
     let w = spec.further c.args.is_all job.addresses f.oddities in
-    let x0 = c.new-found.result.items in
+    let x0 = c.args.lines.items in
     let x1 = c.add_unmet.new.found.items in
     let x2 = c.add_tight.new.found.items in
     let x3 = c.add_late.new.found.items in
@@ -43,4 +42,3 @@ returns c =
     (two_put x4 n (s ++ (u ++ w)) x5 x8 p5
     (two_put x5 s (u ++ w) x6 x8 p6
     (two_put x6 u w x7 x8 p7 p8))))))
-    ∙ ap (λ (v : List Mistake). v ++ (a ++ (b ++ (d ++ (e ++ (n ++ (s ++ (u ++ w)))))))) c.new-found.ensures.items

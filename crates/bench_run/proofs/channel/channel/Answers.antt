@@ -4,7 +4,7 @@ use Rattle.mil_trunk.specs.Tags.{has, bound_of}
 use Rattle.mil_trunk.specs.Ends.{tags_of, bounds_of}
 use Rattle.job_file.specs.Jobs.{job_in}
 use Rattle.bench_report.specs.Reports.{Rises}
-use Rattle.bench_run.specs.Live.{with_posts}
+use Rattle.job_file.specs.Beside.{with_posts}
 use Rattle.bench_run.specs.Runs.{records_of}
 use Rattle.job_file.specs.Rooms.{most_items}
 use Rattle.bench_run.specs.Threads.{RecordsOfferedSoFar}

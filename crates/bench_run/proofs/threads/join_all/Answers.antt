@@ -12,7 +12,8 @@ use Rattle.bench_settings.specs.Kept.{kept_records}
 use Rattle.bench_run.specs.declared.entry.Entry.{Entry}
 use Rattle.bench_mail.specs.declared.mailbox.Mailbox.{Mailbox}
 use Rattle.bench_mail.specs.declared.mailbox.Inbox.{Inbox}
-use Rattle.bench_run.specs.Live.{with_posts, ArePlaced}
+use Rattle.job_file.specs.Beside.{with_posts}
+use Rattle.bench_run.specs.Live.{ArePlaced}
 use Rattle.bench_run.specs.Entries.{index_of, entries_to_the_end}
 use Rattle.bench_run.specs.Runs.{records_of, most_in_all, others_than}
 use Rattle.bench_run.specs.Threads.{IsPromised, IsThreadReport, IsThreadEnded}

@@ -2,7 +2,7 @@ use Rattle.std.proofs.Common.{◌≡◌, ◌<◌, length, sym, ap, subst, ◌∙
 use Rattle.std.proofs.lemmas.List.{get_or_default}
 use Rattle.job_moments.specs.Chunks.{lines_in}
 use Rattle.job_moments.specs.Rules.{KnowsChunk}
-use Rattle.job_moments.proofs.Chunking.{same_lines_of}
+use Rattle.job_moments.proofs.Joined.{same_joined}
 use Rattle.job_moments.proofs.Lists.{set_done, set_rest}
 use Rattle.job_moments.proofs.planning.learn_all.Goals as goal
 
@@ -29,5 +29,5 @@ loop-chunk-preserved c =
     }
 
 pub returns-clause-lines : goal.returns-clause-lines
-returns-clause-lines c = same_lines_of _ _ (omega (arith, c.loop-chunk.auto.chunks))
+returns-clause-lines c = same_joined lines_in _ _ (omega (arith, c.loop-chunk.auto.chunks))
     (λ k d lt. c.loop-chunk.invariant.done k d (omega (arith, lt, c.loop-chunk-test.false, c.loop-chunk.auto.chunks)))

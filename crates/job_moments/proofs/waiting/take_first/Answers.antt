@@ -2,7 +2,7 @@ use Rattle.std.proofs.Common.{◌≡◌, ◌<◌, length, get_or, sym, subst, �
 use Rattle.std.proofs.lemmas.List.{get_or_default}
 use Rattle.job_moments.specs.Awaiting.{IsStill, KnowsChunk, Picks}
 use Rattle.job_moments.specs.Chunks.{lines_in}
-use Rattle.job_moments.proofs.Chunking.{same_lines_of, all_lines}
+use Rattle.job_moments.proofs.Joined.{all_joined, same_joined}
 use Rattle.job_moments.proofs.Lists.{set_done, set_rest, set_all}
 use Rattle.job_moments.proofs.Taking.{IsPassed, passed, picks_set}
 use Rattle.job_moments.proofs.waiting.take_first.Goals as goal
@@ -24,8 +24,8 @@ loop-chunk-preserved g c =
     let long : length now ≡ length old = omega (arith, c.loop-chunk.auto.chunks) in
     let there : i < length old = omega (arith, c.loop-chunk-test.true, long) in
     record {
-      done = set_done (IsPassed made next) old now i new long there c.loop-chunk.invariant.done
-          (λ d. passed made next (get_or old i d) new c.take_one-payload.result (sym c.is_some.ensures ∙ c.if-is_some.false)
+      done = set_done (IsPassed lines_in made next) old now i new long there c.loop-chunk.invariant.done
+          (λ d. passed lines_in made next (get_or old i d) new c.take_one-payload.result (sym c.is_some.ensures ∙ c.if-is_some.false)
           (subst (λ o. Picks made next (lines_in o) (lines_in new) c.take_one-payload.result)
           (get_or_default now i c.chunk-item.result d (omega (arith, long, there)) ∙ c.loop-chunk.invariant.rest i d (omega arith))
           c.take_one-payload.ensures.taken));
@@ -37,7 +37,7 @@ loop-chunk-preserved g c =
 pub returns-then-is_some-clause-taken : goal.returns-then-is_some-clause-taken
 returns-then-is_some-clause-taken g c =
     let long : length c.loop-chunk.chunks ≡ length c.args.chunks.now = omega (arith, c.loop-chunk.auto.chunks) in
-    picks_set c.args.counts.now.made c.args.next.now c.loop-chunk.chunk-index c.args.chunks.now c.loop-chunk.chunks c.chunk-item.result
+    picks_set lines_in c.args.counts.now.made c.args.next.now c.loop-chunk.chunk-index c.args.chunks.now c.loop-chunk.chunks c.chunk-item.result
     c.take_one-payload.new.chunk c.take_one-payload.result (sym c.is_some.ensures ∙ c.if-is_some.true) long
     (omega (arith, c.loop-chunk-test.true, long)) c.loop-chunk.invariant.done c.loop-chunk.invariant.rest c.take_one-payload.ensures.taken
 
@@ -51,8 +51,8 @@ pub returns-clause-taken : goal.returns-clause-taken
 returns-clause-taken g c =
     let old = c.args.chunks.now in
     let still = IsStill c.args.counts.now.made c.args.next.now in (
-      all_lines still old (λ k d lt. (c.loop-chunk.invariant.done k d (omega (arith, lt, c.loop-chunk-test.false, c.loop-chunk.auto.chunks))).still),
-      same_lines_of old c.loop-chunk.chunks (omega (arith, c.loop-chunk.auto.chunks))
+      all_joined lines_in still old (λ k d lt. (c.loop-chunk.invariant.done k d (omega (arith, lt, c.loop-chunk-test.false, c.loop-chunk.auto.chunks))).still),
+      same_joined lines_in old c.loop-chunk.chunks (omega (arith, c.loop-chunk.auto.chunks))
           (λ k d lt. (c.loop-chunk.invariant.done k d (omega (arith, lt, c.loop-chunk-test.false, c.loop-chunk.auto.chunks))).lines),
     )
 

@@ -1,0 +1,383 @@
+//! The controller of a job under way, with what its lines say by time and by command.
+ghost use Rattle.bc_machine.specs.Planning.{next_number, with_fault};
+ghost use Rattle.bc_machine.specs.Posting.{at_next, with_placed};
+ghost use Rattle.bc_machine.specs.Running.{HasEnded, stepped};
+ghost use Rattle.bc_machine.specs.UnderWay.{IsUnderWay, TellsStep};
+ghost use Rattle.bc_machine.specs.declared.Stepped.TheVariants.{Halted};
+ghost use Rattle.job_file.specs.Jobs.{job_in};
+ghost use Rattle.job_file.specs.Resolving.{standing, turns_left, made_behind, whens_left, IsKept, IsWithin, IsAtEnd};
+ghost use Rattle.job_file.specs.Resolving.{MayPlan, HasPlanned};
+ghost use Rattle.job_file.specs.Timed.{arranged, begun_beside, coming_met, done_at, due_now, faulted, found_in};
+ghost use Rattle.job_file.specs.Timed.{planned_in, turned, with_faults};
+ghost use Rattle.job_file.specs.TimedParts.{planned_by, IsSaid};
+ghost use Rattle.mil_line.specs.Plans.{faults_of};
+ghost use Rattle.mil_line.specs.Ranges.{is_in_range, is_number};
+ghost use Rattle.std.specs.Prelude.{◌≡◌, ◌≢◌, ◌+◌, ◌<◌, ◌≤◌, ◌&&◌, ◌++◌, ◌∷◌, [], ℕ, List, Ok, Some, None, true, false};
+ghost use Rattle.std.specs.Prelude.{map, length, All};
+ghost use Rattle.std.specs.List.{list_all};
+ghost use Rattle.std.specs.Prelude.{IfSome, IfNone, IfOk, OnOk};
+
+use crate::jobs::Job;
+use crate::timed::{TimedAction, TimedFault};
+use bc_machine::{
+    Actions, BusSetting, Ended, HostAction, Machine, Stepped, next_message_is_sent,
+    next_message_stays,
+};
+use frame_load::loadable_runs;
+use job_moments::{Met, Occasions, Waiting};
+use mil_line::{Fault, LineError, Plan};
+use std::alloc::{AllocError, Global};
+
+/// An action that is due, and the place of its line among those of the job that have an action by time or by command,
+/// counted from 0.
+#[derive(Debug, Drop)]
+pub struct Due {
+    pub place: usize,
+    pub action: HostAction,
+}
+
+impl Due {
+    /// The same once more. It takes no memory.
+    fn copy(&self) -> Due
+        ensures { result ≡ self.now }
+    {
+        Due {
+            place: self.place,
+            action: self.action.copy(),
+        }
+    }
+}
+
+/// The controller of a job under way, and what its lines say by time and by command that is still to come. Whoever runs
+/// it does, in front of each message, what is due (`do_first` until it gives none), then places what else there is,
+/// then plans the faults that are due (`plan`), and then lets it step.
+#[derive(Drop)]
+pub struct JobRun {
+    pub machine: Machine,
+    /// The actions that are still to come, and when each is due.
+    whens: Waiting<Due>,
+    faults: Occasions,
+    /// The job's start tick.
+    origin: u64,
+}
+
+/// Plans one more fault for the next message. It fails for want of memory alone.
+fn plan_one(machine: &mut Machine, fault: Fault) -> Result<(), AllocError>
+    requires few { length (faults_of (next_number machine.old) machine.old.plan) < 4 }
+    requires range { (is_number (next_number machine.old) && is_in_range fault) ≡ true }
+    ensures planned { OnOk result (machine.new ≡ with_fault machine.old fault) }
+    ensures under_way { IsUnderWay machine.new }
+{
+    match machine.plan_next(fault) {
+        Ok(()) => Ok(()),
+        Err(LineError::Memory) => Err(AllocError),
+        Err(LineError::TooMany) => unreachable!(),
+        Err(LineError::OutOfRange) => unreachable!(),
+    }
+}
+
+/// Plans these faults for the next message. It fails for want of memory alone.
+fn plan_all(machine: &mut Machine, faults: &[Fault]) -> Result<(), AllocError>
+    requires few { 1 ≤ length faults.now
+        → length (faults_of (next_number machine.old) machine.old.plan) + length faults.now ≤ 4 }
+    requires number { is_number (next_number machine.old) ≡ true }
+    requires ranges { list_all is_in_range faults.now ≡ true }
+    requires under_way { IsUnderWay machine.old }
+    ensures planned { OnOk result (machine.new ≡ with_faults machine.old faults.now) }
+    ensures under_way { IsUnderWay machine.new }
+{
+    for fault in faults {
+        plan_one(machine, *fault)?;
+    }
+    Ok(())
+}
+
+impl JobRun {
+    /// The message that comes next; None where the next step sends none. Its time counts from the job's start tick.
+    pub fn next(&self) -> Option<Met>
+        requires { IsKept self.now }
+        ensures next { result ≡ coming_met self.now.machine }
+        ensures few { IfSome result (λ _. self.now.machine.point.number < 1000000) }
+    {
+        loadable_runs::<BusSetting>();
+        next_message_is_sent();
+        match self.machine.next_message() {
+            Some(next) => Some(Met::of(next.start.saturating_sub(self.origin), &next.message)),
+            None => None,
+        }
+    }
+
+    /// Places the first action that is due at the next number, and gives it; None where none is due in front of the next
+    /// message, or no message comes next. It takes no memory.
+    pub fn do_first(&mut self) -> Option<Due>
+        requires { IsKept self.old }
+        ensures done { standing self.new ≡ done_at (due_now (standing self.old)) (standing self.old) }
+        ensures none { IfNone result (due_now (standing self.old) ≡ None) }
+        ensures placed { IfSome result (λ due. self.new.machine ≡ with_placed self.old.machine
+            (self.old.machine.placed ++ at_next self.old.machine due.action ∷ [])) }
+        ensures few { IfSome result (λ _. self.old.machine.point.number < 1000000) }
+        ensures faults { self.new.faults ≡ self.old.faults }
+        ensures kept { IsKept self.new }
+        ensures within { (addresses : List ℕ) (most : ℕ) → IsWithin addresses most (standing self.old)
+            → IsWithin addresses most (standing self.new) }
+    {
+        let Some(next) = self.next() else {
+            return None;
+        };
+        match self.whens.take_due(&next) {
+            Some(due) => {
+                let placed = due.copy();
+                // There is room for each of them.
+                let _ = self.machine.place(due.action);
+                Some(placed)
+            }
+            None => None,
+        }
+    }
+
+    /// How many actions are still to come.
+    pub fn left(&self) -> usize
+        ensures { result ≡ length (standing self.now).left }
+    {
+        self.whens.len()
+    }
+
+    /// Places all that is due in front of the next message. It takes no memory.
+    pub fn arrange(&mut self)
+        requires { IsKept self.old }
+        ensures arranged { standing self.new ≡ arranged (standing self.old) }
+        ensures faults { self.new.faults ≡ self.old.faults }
+        ensures kept { IsKept self.new }
+        ensures within { (addresses : List ℕ) (most : ℕ) → IsWithin addresses most (standing self.old)
+            → IsWithin addresses most (standing self.new) }
+    {
+        'times: for time in 0..self.whens.len() {
+            if self.do_first().is_none() {
+                return;
+            }
+        }
+    }
+
+    /// Plans the faults that are due at the next message. It fails for want of memory alone.
+    pub fn plan(&mut self) -> Result<(), AllocError>
+        requires kept { IsKept self.old }
+        requires planned { MayPlan self.old }
+        ensures faulted { OnOk result (self.new.machine ≡ faulted self.old.faults.faults self.old.machine) }
+        ensures whens { self.new.whens ≡ self.old.whens }
+        ensures faults { self.new.faults ≡ self.old.faults }
+        ensures kept { OnOk result (IsKept self.new) }
+        ensures planned { OnOk result (HasPlanned self.new) }
+    {
+        // A fault more does not change what comes next, for the proof.
+        next_message_stays();
+        match self.next() {
+            Some(next) => {
+                let due = self.faults.faults(&next);
+                plan_all(&mut self.machine, due.as_slice())?;
+                Ok(())
+            }
+            None => Ok(()),
+        }
+    }
+
+    /// The message that was sent, if one was, counts for what is still to come.
+    fn meet(&mut self, next: Option<Met>)
+        requires whens { IfSome next (λ _. length self.old.whens.made < 1000000) }
+        requires faults { IfSome next (λ _. length self.old.faults.made < 1000000) }
+        ensures whens { self.new.whens ≡ record {
+          left = self.old.whens.left;
+          made = made_behind next self.old.whens.made;
+        } }
+        ensures faults { self.new.faults ≡ record {
+          faults = self.old.faults.faults;
+          made = made_behind next self.old.faults.made;
+        } }
+        ensures machine { self.new.machine ≡ self.old.machine }
+        ensures origin { self.new.origin ≡ self.old.origin }
+    {
+        if let Some(met) = next {
+            self.whens.meet(&met);
+            self.faults.meet(&met);
+        }
+    }
+
+    /// One step of the controller, and what it came to. It takes no memory.
+    pub fn step(&mut self) -> Stepped
+        requires kept { IsKept self.old }
+        requires planned { HasPlanned self.old }
+        ensures stepped { self.new.machine ≡ stepped self.old.machine }
+        ensures tells { TellsStep self.old.machine self.new.machine result }
+        ensures whens { self.new.whens.left ≡ self.old.whens.left }
+        ensures faults { self.new.faults.faults ≡ self.old.faults.faults }
+        ensures kept { IsKept self.new }
+        ensures planned { MayPlan self.new }
+        ensures less { result ≢ Halted → turns_left self.new.machine < turns_left self.old.machine }
+        ensures ended { result ≡ Halted → HasEnded self.new.machine }
+    {
+        let next = self.next();
+        next_message_is_sent();
+        match self.machine.step() {
+            Stepped::Halted => Stepped::Halted,
+            step => {
+                self.meet(next);
+                step
+            }
+        }
+    }
+
+    /// One step; whether the controller goes on.
+    fn goes_on(&mut self) -> bool
+        requires kept { IsKept self.old }
+        requires planned { HasPlanned self.old }
+        ensures stepped { self.new.machine ≡ stepped self.old.machine }
+        ensures whens { self.new.whens.left ≡ self.old.whens.left }
+        ensures faults { self.new.faults.faults ≡ self.old.faults.faults }
+        ensures kept { IsKept self.new }
+        ensures planned { MayPlan self.new }
+        ensures less { result ≡ true → turns_left self.new.machine < turns_left self.old.machine }
+        ensures ended { result ≡ false → HasEnded self.new.machine }
+    {
+        match self.step() {
+            Stepped::Halted => false,
+            _ => true,
+        }
+    }
+
+    /// One step, behind what is due in front of it; whether the controller goes on. It fails for want of memory alone.
+    fn turn(&mut self) -> Result<bool, AllocError>
+        requires kept { IsKept self.old }
+        requires planned { MayPlan self.old }
+        ensures turned { IfOk result (λ _. standing self.new ≡ turned self.old.faults.faults (standing self.old)) }
+        ensures faults { IfOk result (λ _. self.new.faults.faults ≡ self.old.faults.faults) }
+        ensures kept { IfOk result (λ _. IsKept self.new) }
+        ensures planned { IfOk result (λ _. MayPlan self.new) }
+        ensures within { IfOk result (λ _. (addresses : List ℕ) (most : ℕ)
+            → IsWithin addresses most (standing self.old) → IsWithin addresses most (standing self.new)) }
+        ensures less { result ≡ Ok true → turns_left self.new.machine < turns_left self.old.machine }
+        ensures ended { result ≡ Ok false → HasEnded self.new.machine }
+    {
+        self.arrange();
+        self.plan()?;
+        Ok(self.goes_on())
+    }
+
+    /// Goes on until the controller has ended. It fails for want of memory alone.
+    pub(crate) fn go(&mut self) -> Result<(), AllocError>
+        requires kept { IsKept self.old }
+        requires planned { MayPlan self.old }
+        ensures ended { OnOk result (IsAtEnd self.old.faults.faults (standing self.old) (standing self.new)) }
+        ensures kept { OnOk result (IsKept self.new) }
+        ensures within { OnOk result ((addresses : List ℕ) (most : ℕ)
+            → IsWithin addresses most (standing self.old) → IsWithin addresses most (standing self.new)) }
+    {
+        'turns: loop {
+            let goes_on = self.turn()?;
+            if !goes_on {
+                return Ok(());
+            }
+        }
+    }
+}
+
+/// These actions as they are still to come, each with its place and its moment. It fails for want of memory alone.
+fn awaiting(alloc: Global, whens: &[TimedAction]) -> Result<Waiting<Due>, AllocError>
+    ensures whens { IfOk result (λ w. whens_left w ≡ whens.now) }
+    ensures made { IfOk result (λ w. w.made ≡ []) }
+{
+    let mut waiting = Waiting::none(alloc);
+    for (place, when) in whens.iter().enumerate() {
+        let due = Due {
+            place,
+            action: when.action.copy(),
+        };
+        waiting.push(when.moment, due)?;
+    }
+    Ok(waiting)
+}
+
+/// These planned faults, before any message. It fails for want of memory alone.
+fn occasions(alloc: Global, faults: &[TimedFault]) -> Result<Occasions, AllocError>
+    requires { All IsSaid faults.now }
+    ensures { IfOk result (λ o. o ≡ record { faults = map planned_by faults.now; made = [] }) }
+{
+    let mut all = Occasions::none(alloc);
+    for one in faults {
+        all.push(one.occasion, one.fault)?;
+    }
+    Ok(all)
+}
+
+impl Job {
+    /// Where a line is by time or by command, the planned faults of all lines, those by number too, and when each is
+    /// due, before any message; else none. It fails for want of memory alone.
+    pub fn occasions(&self, alloc: Global) -> Result<Occasions, AllocError>
+        ensures { IfOk result (λ o. o ≡ record { faults = self.now.timed.faults; made = [] }) }
+    {
+        Ok(occasions(alloc, self.timed().faults())?)
+    }
+
+    /// Whether one of its faults is by time or by command, so that its plan has those alone that came to be due.
+    pub fn finds_faults(&self) -> bool
+        ensures { result ≡ self.now.timed.is_timed }
+    {
+        self.timed().is_timed()
+    }
+}
+
+/// The plan that a run begins with, and the planned faults that it looks for: where a line plans one by time or by
+/// command it looks for those of all lines, and its plan is empty.
+fn planned_first(alloc: Global, job: &Job) -> Result<(Plan, Occasions), AllocError>
+    ensures plan { IfOk result (λ r. r.0 ≡ planned_in (job_in job.now) job.now.timed) }
+    ensures faults { IfOk result (λ r. r.1 ≡ record { faults = found_in job.now.timed; made = [] }) }
+{
+    if job.finds_faults() {
+        return Ok((Plan::make(alloc), job.occasions(alloc)?));
+    }
+    Ok((job.plan().copy()?, Occasions::none(alloc)))
+}
+
+impl JobRun {
+    /// The controller of a job before any message, where these actions are placed, these others are still to come, and
+    /// there is room for so many more. It fails for want of memory alone.
+    pub(crate) fn begin(
+        alloc: Global,
+        job: &Job,
+        placed: &Actions,
+        whens: &[TimedAction],
+        more: u32,
+    ) -> Result<JobRun, AllocError>
+        ensures beginning { IfOk result (λ r. standing r
+            ≡ begun_beside more (record (job_in job.now) { actions = placed.now })
+            (record job.now.timed { whens = whens.now })) }
+        ensures faults { IfOk result (λ r. r.faults.faults ≡ found_in job.now.timed) }
+        ensures kept { IfOk result (λ r. IsKept r) }
+        ensures planned { IfOk result (λ r. MayPlan r) }
+    {
+        // Room for more than 2^32 of them is refused like any that is too much.
+        let Ok(count) = u32::try_from(whens.len()) else {
+            return Err(AllocError);
+        };
+        let Some(count) = count.checked_add(more) else {
+            return Err(AllocError);
+        };
+        // Its faults are in their ranges.
+        let _said = job.timed();
+        let (plan, faults) = planned_first(alloc, job)?;
+        let mut machine = job.machine_under(alloc, plan, placed)?;
+        machine.room(count)?;
+        Ok(JobRun {
+            machine,
+            whens: awaiting(alloc, whens)?,
+            faults,
+            origin: job.start(),
+        })
+    }
+
+    /// The plan and the actions at the end.
+    pub(crate) fn end(self) -> Ended
+        ensures plan { result.plan ≡ self.machine.plan }
+        ensures actions { result.placed ++ result.posted ≡ self.machine.placed }
+    {
+        self.machine.end()
+    }
+}
