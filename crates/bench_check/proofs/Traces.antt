@@ -1,5 +1,5 @@
 -- What placing what is due leaves as it is, of the controller of a job under way.
-use Rattle.std.proofs.Common.{◌≡◌, ℕ, ◌+◌, ◌-◌, ◌<◌, List, [], refl, sym, ap, subst, ◌∙◌, arith, ◌⊎◌}
+use Rattle.std.proofs.Common.{◌≡◌, ℕ, List, [], refl, sym, ap, subst, ◌∙◌, arith, ◌⊎◌}
 use Rattle.std.specs.Prelude.{Option, Some, None, slice_get}
 use Rattle.frame_load.specs.Budget.{budget}
 use Rattle.mil_line.specs.Plans.{Planned}

@@ -3,10 +3,8 @@ use Rattle.std.proofs.Common.{◌≡◌, ℕ, List, [], ◌∷◌, ◌++◌, con
 use Rattle.std.specs.Prelude.{Bool, true, false, ◌||◌}
 use Rattle.job_file.specs.Jobs.{JobState, job_in}
 use Rattle.job_file.specs.Timed.{run_out, plan_under}
-use Rattle.ch11_reader.specs.Indexed.{found_in}
 use Rattle.bench_report.specs.Reports.{ChannelPart}
-use Rattle.replay.specs.Accord.{Agrees}
-use Rattle.bench_step.specs.Shown.{jobs_under, any_timed, IsShown, OwnFaultsAreShown}
+use Rattle.bench_step.specs.Shown.{jobs_under, any_timed, OwnFaultsAreShown}
 
 neither : (a b : Bool) → (a || b) ≡ false → (a ≡ false) × (b ≡ false)
 neither true b none = absurd cc

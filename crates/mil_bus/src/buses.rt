@@ -130,8 +130,8 @@ impl Bus {
         before
     }
 
-    /// When the next talk would start by its gap alone, in ticks: behind the last word on either line by this gap, or by
-    /// the least gap where that is longer; before any talk, at the start tick.
+    /// When the next talk would start by its gap alone, in ticks: behind the last word on either line by this gap, or
+    /// by the least gap where that is longer; before any talk, at the start tick.
     pub fn next_start(&self, gap: Gap) -> u64
         requires { clock_of self.now.start self.now.talks < 2 ^ 60 }
         ensures value { result ≡ next_start self.now.start self.now.talks gap }
