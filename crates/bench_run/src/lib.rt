@@ -6,14 +6,18 @@
 //! trunk, reports, what runs share, mailboxes. Its tests: `run_tests`. Its wrong bodies: `edits/`.
 #![tactic(auto)]
 
+mod beside;
+mod by_number;
 mod channel;
 mod ending;
 mod entry;
 mod error;
+mod finishing;
 mod gate;
 mod holding;
 mod posting;
 mod ready;
+mod reporting;
 mod running;
 mod scope;
 mod threads;
