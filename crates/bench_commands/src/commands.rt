@@ -55,21 +55,39 @@ where
     R::Reader: 'static,
 {
     match command_line::read(rt.alloc(), words) {
-        Ok(asked) => match obey(rt, errors, &asked) {
-            Ok(()) => ExitCode::SUCCESS,
-            Err(fault @ Fault::NotHeld) => ExitCode::from(fault.status()),
-            Err(fault @ Fault::Suspicious) => ExitCode::from(fault.status()),
-            Err(fault @ Fault::Differ) => ExitCode::from(fault.status()),
-            Err(fault) if fault.status() == USAGE => misused(rt, errors, &fault),
-            Err(fault) => {
-                let status = stop(errors, &fault);
-                point(rt, errors, &asked, &fault);
-                tell_of_part(rt, errors, &asked, &fault);
-                tell_of_cut(errors, &asked, &fault);
-                status
-            }
-        },
+        Ok(asked) => run_asked(rt, errors, &asked),
         Err(error) => explain(rt, errors, &error),
+    }
+}
+
+/// Does what is asked, and says how the process ends.
+fn run_asked<R: Host, E: Errors>(rt: &R, errors: &E, asked: &Asked<'_>) -> ExitCode
+where
+    R::Reader: 'static,
+{
+    match obey(rt, errors, asked) {
+        Ok(()) => ExitCode::SUCCESS,
+        Err(fault) => give_up(rt, errors, asked, &fault),
+    }
+}
+
+/// Says why a command gave up, and what helps then; where a command has told of what it found, the status alone.
+fn give_up<R: Host, E: Errors>(
+    rt: &R,
+    errors: &E,
+    asked: &Asked<'_>,
+    fault: &Fault<'_>,
+) -> ExitCode {
+    match fault {
+        Fault::NotHeld | Fault::Suspicious | Fault::Differ => ExitCode::from(fault.status()),
+        _ if fault.status() == USAGE => misused(rt, errors, fault),
+        _ => {
+            let status = stop(errors, fault);
+            point(rt, errors, asked, fault);
+            tell_of_part(rt, errors, asked, fault);
+            tell_of_cut(errors, asked, fault);
+            status
+        }
     }
 }
 

@@ -26,7 +26,6 @@ use Rattle.job_file.specs.Resolving.{standing, IsKept}
 use Rattle.job_file.specs.Timed.{Standing, met_of, made_of, coming_met, due_now, done_at, done_times, with_action_now, arranged}
 use Rattle.job_file.specs.TimedLines.{timed_inserts}
 use Rattle.job_file.proofs.DueLemmas.{stands, none_comes, all_done, inserts_but, own_more}
-use Rattle.job_file.proofs.Fewness.{few}
 use Rattle.job_file.proofs.RunLemmas.{none_met}
 use Rattle.bench_mail.specs.Mail.{times_empty}
 use Rattle.bench_run.specs.declared.posting.Posts.{Posts}

@@ -6,7 +6,7 @@ pub mod PlacedPosts
 pub mod Messages
 pub mod Stages
 pub mod PlacedStages
-pub mod Lanes
+pub mod Courses
 pub mod Reports
 pub mod Arriving
 pub mod Turning

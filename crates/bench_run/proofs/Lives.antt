@@ -20,7 +20,7 @@ use Rattle.bench_run.specs.Entries.{index_of, entries_to_the_end}
 use Rattle.bench_run.specs.Runs.{ArePairs, records_of, most_in_all, others_than}
 use Rattle.job_file.specs.Rooms.{most_items}
 use Rattle.bench_mail.specs.Mail.{IsInboxOf}
-use Rattle.job_file.specs.Beside.{with_posts, as_played, IsLiveIn}
+use Rattle.job_file.specs.Beside.{with_posts, IsLiveIn}
 use Rattle.job_file.specs.Timed.{says_nothing}
 use Rattle.bench_run.specs.Live.{IsRunAs, LiveChannel, live_job, ArePlaced, AreRunAs, AreInboxesOf}
 use Rattle.bench_run.specs.Threads.{IsThreadReport, IsCountedIn, AreEnded}

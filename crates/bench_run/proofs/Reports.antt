@@ -1,11 +1,10 @@
 -- The placed actions of a report.
-use Rattle.std.proofs.Common.{◌≡◌, ℕ, ◌≤◌, ◌<◌, List, [], ◌∷◌, ◌++◌, refl, sym, ap, ◌∙◌, subst, arith}
-use Rattle.std.specs.Prelude.{◌==◌, All}
+use Rattle.std.proofs.Common.{◌≡◌, ℕ, List, [], ◌++◌, sym, ap, ◌∙◌, subst, arith}
+use Rattle.std.specs.Prelude.{◌==◌}
 use Rattle.std.proofs.lemmas.List.Elements.{filter-append}
 use Rattle.bc_machine.specs.declared.placed.Placed.{Placed}
 use Rattle.bc_machine.specs.Hosting.{placed_at, placed_up_to}
 use Rattle.bc_machine.proofs.Left.{up_to_nothing}
-use Rattle.bench_report.specs.Reports.{IsPlace}
 use Rattle.bench_settings.specs.Placing.{IsOrdered}
 use Rattle.bench_settings.proofs.Ordered.{up_to_same}
 

@@ -2,7 +2,7 @@
 use denote.RattleType.{RattleType}
 use denote.Param.Send.{IsSend, IsSync, sendable, number_array_send, view_send, view_sync}
 use denote.Param.{ArrayAt}
-use denote.Param.SendFields.{declared_send, declared_sync, as_row_send}
+use denote.Param.SendFields.{declared_send, declared_sync, variants_send, as_row_send}
 use denote.Struct.Field.{row_field}
 use Rattle.std.specs.declared.default.Default.{Ghosts}
 use Rattle.std.proofs.Crossing.{crosses}
@@ -34,7 +34,9 @@ use Rattle.job_file.specs.contracts.jobs.Job as job
 use Rattle.job_file.specs.contracts.job_run.Due as due
 use Rattle.job_file.specs.contracts.job_run.JobRun as job_run
 use Rattle.job_file.specs.contracts.timed.TimedAction as timed_action
-use Rattle.bench_run.specs.contracts.channel.Lane as lane
+use Rattle.job_file.specs.contracts.timed.TimedFault as timed_fault
+use Rattle.job_file.specs.contracts.timed.TimedLines as timed_lines
+use Rattle.bench_run.specs.contracts.channel.Course as course
 use Rattle.bench_run.specs.contracts.entry.Entry as entry
 use Rattle.bench_run.specs.contracts.entry.EntryTagged.TheImpl.{ghosts}
 use Rattle.bench_run.specs.contracts.channel.Room as room
@@ -115,8 +117,8 @@ occasions_send = search (sendable, crosses) depth 40 fits 20000
 job_run_send : IsSend job_run.the_row
 job_run_send = declared_send job_run.the_type (machine_send, (waiting_send, (occasions_send, (search (sendable, crosses) depth 40 fits 10000, tt))))
 
-lane_send : IsSend lane.the_row
-lane_send = search (machine_send, job_run_send, sendable, crosses) depth 40 fits 10000
+course_send : IsSend course.the_row
+course_send = variants_send course.enum ((machine_send, tt), ((job_run_send, tt), tt))
 
 program_sync : IsSync program.the_row
 program_sync = search (sendable, crosses) depth 40 fits 10000
@@ -142,8 +144,14 @@ plan_sync = search (maps.crosses, sendable, crosses) depth 40 fits 10000
 timed_action_sync : IsSync timed_action.the_row
 timed_action_sync = declared_sync timed_action.the_type (search (sendable, crosses) depth 40 fits 10000, (host_action_sync, tt))
 
+timed_fault_sync : IsSync timed_fault.the_row
+timed_fault_sync = search (sendable, crosses) depth 40 fits 10000
+
+timed_lines_sync : IsSync timed_lines.the_row
+timed_lines_sync = search (timed_action_sync, timed_fault_sync, sendable, crosses) depth 40 fits 20000
+
 pub job_sync : IsSync job.the_row
-job_sync = search (program_sync, actions_sync, plan_sync, timed_action_sync, sendable, crosses) depth 40 fits 10000
+job_sync = search (program_sync, actions_sync, plan_sync, timed_lines_sync, sendable, crosses) depth 40 fits 20000
 
 post_send : IsSend post.the_row
 post_send = declared_send post.the_type (search (sendable, crosses) depth 40 fits 10000, (host_action_send, tt))
@@ -158,7 +166,7 @@ posts_send : IsSend posts.the_row
 posts_send = declared_send posts.the_type (inbox_send, (search (sendable, crosses) depth 40 fits 10000, (search (schedule_send, sendable, crosses) depth 40 fits 10000, tt)))
 
 pub room_send : IsSend room.the_row
-room_send = declared_send room.the_type (search (sendable, crosses) depth 40 fits 10000, (lane_send, (search (sendable, crosses) depth 40 fits 10000, (posts_send, tt))))
+room_send = declared_send room.the_type (search (sendable, crosses) depth 40 fits 10000, (course_send, (search (sendable, crosses) depth 40 fits 10000, (posts_send, tt))))
 
 posts_sync : IsSync (trunk.the_row post.the_row post_impl.ghosts)
 posts_sync = search (post_send, crossing.the_sync, crossing.the_field_sync, sendable, crosses) depth 40 fits 10000

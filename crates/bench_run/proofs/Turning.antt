@@ -49,7 +49,7 @@ use Rattle.bench_run.specs.declared.entry.Entry.TheVariants.{End}
 use Rattle.bench_mail.specs.declared.mailbox.Mailbox.{Mailbox}
 use Rattle.bench_settings.specs.Placing.{placed_up_to}
 use Rattle.mil_trunk.specs.Ends.{IsTicketOf, tags_of, bounds_of, sent}
-use Rattle.bench_run.proofs.Lanes.{sent_all, beside_means}
+use Rattle.bench_run.proofs.Courses.{sent_all, beside_means}
 use Rattle.bench_run.proofs.Messages.{inserts_more, few_beside}
 use Rattle.bench_run.proofs.PlacedPosts.{nothing_posted, nothing_taken, taken_on, all_placed}
 use Rattle.bench_run.proofs.Stages.{so_far_alike, last_stage}

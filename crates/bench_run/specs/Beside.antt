@@ -7,7 +7,7 @@ use Rattle.ch11_f1.specs.declared.Record.{Record}
 use Rattle.bc_machine.specs.declared.Stepped.{Stepped}
 use Rattle.bc_machine.specs.declared.Stepped.TheVariants.{Ran, Sent, Inserted, Halted}
 use Rattle.bc_machine.specs.Posting.{at_next}
-use Rattle.bc_machine.specs.Running.{MachineState, HasEnded, stepped}
+use Rattle.bc_machine.specs.Running.{HasEnded, stepped}
 use Rattle.bc_machine.specs.UnderWay.{IsUnderWay, TellsStep}
 use Rattle.frame_asm.specs.Shapes.{code_of_tree}
 use Rattle.job_file.specs.declared.job_run.JobRun.{JobRun}

@@ -27,8 +27,8 @@ use Rattle.bench_run.specs.declared.entry.Entry.{Entry}
 use Rattle.bench_run.specs.declared.channel.Ended.{Ended}
 use Rattle.bench_run.specs.declared.threads.Offers.{Offers}
 use Rattle.bench_run.specs.declared.channel.Room.{Room}
-use Rattle.bench_run.specs.declared.channel.Lane.{Lane}
-use Rattle.bench_run.specs.declared.channel.Lane.TheVariants.{ByNumber, AsItComes}
+use Rattle.bench_run.specs.declared.channel.Course.{Course}
+use Rattle.bench_run.specs.declared.channel.Course.TheVariants.{ByNumber, AsItComes}
 use Rattle.bench_mail.specs.declared.mailbox.Mailbox.{Mailbox}
 use Rattle.bench_mail.specs.declared.mailbox.Inbox.{Inbox}
 use Rattle.bench_run.specs.declared.posting.Posts.{Posts}
@@ -130,14 +130,14 @@ pub record StartsBeside (is_live : Bool) (most : ℕ) (job : JobState) (r : JobR
   pub kept : IsKept r
   pub planned : MayPlan r
 
-abbrev pub IsLaneOf : Bool → JobState → Posts → Lane → Type 0
-IsLaneOf is_live job p (ByNumber m) = StartsByNumber is_live job m p
-IsLaneOf is_live job p (AsItComes r) = StartsBeside is_live p.left job r
+abbrev pub IsCourseOf : Bool → JobState → Posts → Course → Type 0
+IsCourseOf is_live job p (ByNumber m) = StartsByNumber is_live job m p
+IsCourseOf is_live job p (AsItComes r) = StartsBeside is_live p.left job r
 
 -- what a thread takes along fits its job: the controller at the job's beginning, an empty list with room for all
 -- numbers, and ordered actions
 pub record IsRoom (job : JobState) (room : Room) : Type 0 where
-  pub lane : IsLaneOf room.is_live job room.posts room.lane
+  pub course : IsCourseOf room.is_live job room.posts room.course
   pub empty : room.refused.items ≡ []
   pub capacity : most_items room.posts.left job ≤ vec_capacity room.refused
   pub fit : IsOrdered room.posts.ordered.actions

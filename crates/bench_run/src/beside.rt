@@ -7,7 +7,7 @@ ghost use Rattle.bench_mail.specs.Mail.{IsInboxOf};
 ghost use Rattle.bench_run.specs.Beside.{Arrives, HasRoom, StepsOn, records_told};
 ghost use Rattle.bench_run.specs.Runs.{records_of};
 ghost use Rattle.bench_run.specs.Threads.{MayOffer, Offered, RecordsOfferedSoFar};
-ghost use Rattle.bench_run.specs.declared.channel.Lane.TheVariants.{AsItComes};
+ghost use Rattle.bench_run.specs.declared.channel.Course.TheVariants.{AsItComes};
 ghost use Rattle.bench_settings.specs.Placing.{IsOrdered};
 ghost use Rattle.ch11_f1.specs.declared.Record.{Record};
 ghost use Rattle.job_file.specs.Jobs.{JobState};
@@ -160,7 +160,7 @@ pub(crate) fn as_it_comes<R: Wait, G: Gate>(
     posts: Posts,
 ) -> Ended
     requires { MayOffer context.now.trunk.now ticket way.now.index way.now.job.now way.now.mailbox.now
-        (record { is_live = way.now.is_live; lane = AsItComes run; refused = refused; posts = posts }) }
+        (record { is_live = way.now.is_live; course = AsItComes run; refused = refused; posts = posts }) }
     ensures { Offered context.now.trunk.now ticket way.now.index way.now.is_live way.now.job.now way.now.mailbox.now
         posts.left posts.inbox result }
 {

@@ -1,6 +1,6 @@
 //! A channel's thread of a job whose actions and faults all stand at their numbers.
 ghost use Rattle.bench_run.specs.Threads.{MayOffer, Offered};
-ghost use Rattle.bench_run.specs.declared.channel.Lane.TheVariants.{ByNumber};
+ghost use Rattle.bench_run.specs.declared.channel.Course.TheVariants.{ByNumber};
 
 use crate::channel::{Context, Ended, Way, offer_message};
 use crate::entry::Entry;
@@ -23,7 +23,7 @@ pub(crate) fn by_number<R: Wait, G: Gate>(
     posts: Posts,
 ) -> Ended
     requires { MayOffer context.now.trunk.now ticket way.now.index way.now.job.now way.now.mailbox.now
-        (record { is_live = way.now.is_live; lane = ByNumber machine; refused = refused; posts = posts }) }
+        (record { is_live = way.now.is_live; course = ByNumber machine; refused = refused; posts = posts }) }
     ensures { Offered context.now.trunk.now ticket way.now.index way.now.is_live way.now.job.now way.now.mailbox.now
         posts.left posts.inbox result }
 {

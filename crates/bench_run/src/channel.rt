@@ -34,7 +34,7 @@ pub(crate) struct Context<'s, R, G> {
 /// How a channel's thread runs its job: with all actions and faults at their numbers, or so that what its lines say by
 /// time and by command is done as it comes to be due.
 #[derive(Drop)]
-pub(crate) enum Lane {
+pub(crate) enum Course {
     ByNumber(Machine),
     AsItComes(JobRun),
 }
@@ -44,7 +44,7 @@ pub(crate) enum Lane {
 #[derive(Drop)]
 pub(crate) struct Room {
     pub(crate) is_live: bool,
-    pub(crate) lane: Lane,
+    pub(crate) course: Course,
     pub(crate) refused: Vec<u32>,
     pub(crate) posts: Posts,
 }
@@ -85,7 +85,7 @@ pub(crate) fn channel<R: Wait, G: Gate>(
 {
     let Room {
         is_live,
-        lane,
+        course,
         refused,
         posts,
     } = room;
@@ -95,9 +95,9 @@ pub(crate) fn channel<R: Wait, G: Gate>(
         job,
         mailbox,
     };
-    match lane {
-        Lane::ByNumber(machine) => by_number(context, &way, ticket, machine, refused, posts),
-        Lane::AsItComes(run) => as_it_comes(context, &way, ticket, run, refused, posts),
+    match course {
+        Course::ByNumber(machine) => by_number(context, &way, ticket, machine, refused, posts),
+        Course::AsItComes(run) => as_it_comes(context, &way, ticket, run, refused, posts),
     }
 }
 

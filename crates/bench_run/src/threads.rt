@@ -3,7 +3,7 @@ ghost use Rattle.bench_settings.specs.Lawful.{channels_of};
 ghost use Rattle.bench_run.specs.Entries.{index_of};
 ghost use Rattle.bench_run.specs.Live.{AreInboxesOf};
 ghost use Rattle.bench_run.specs.Runs.{ArePairs};
-ghost use Rattle.bench_run.specs.Threads.{MayOffer, Offered, IsPromiseOf, IsLaneOf, IsRoom, IsTakenIn};
+ghost use Rattle.bench_run.specs.Threads.{MayOffer, Offered, IsPromiseOf, IsCourseOf, IsRoom, IsTakenIn};
 ghost use Rattle.bench_run.specs.Threads.{HasOnly, ArePromised, AreEnded};
 ghost use Rattle.bench_run.specs.declared.channel.Room.{Room};
 ghost use Rattle.bench_run.specs.declared.threads.Joined.{Joined};
@@ -15,11 +15,11 @@ ghost use Rattle.mil_trunk.specs.Tags.{has};
 ghost use Rattle.mil_trunk.specs.Views.{with_tag};
 ghost use Rattle.std.specs.List.{AllByRecursion};
 ghost use Rattle.bench_run.specs.declared.posting.Posts.{Posts};
-ghost use Rattle.bench_settings.specs.Placing.{placed_up_to};
+ghost use Rattle.bench_settings.specs.Placing.{placed_up_to, IsOrdered};
 ghost use Rattle.std.specs.Prelude.{vec_capacity, IfSome, IfOk};
 ghost use Rattle.std.specs.Prelude.{◌≡◌, ◌≢◌, ℕ, ◌+◌, ◌<◌, ◌≤◌, ◌||◌, [], true, false, Some, length, map, vec_len};
 
-use crate::channel::{Context, Ended, Lane, Room, channel};
+use crate::channel::{Context, Course, Ended, Room, channel};
 use crate::ending::Before;
 use crate::entry::Entry;
 use crate::gate::Gate;
@@ -103,16 +103,46 @@ fn goes_beside(job: &Job, is_live: bool) -> bool
 }
 
 /// How a thread runs its job: in a live run with lines by time and by command as they come to be due.
-fn lane_for(alloc: Global, job: &Job, is_live: bool, most: u32) -> Result<Lane, AllocError>
-    ensures { IfOk result (λ lane. (p : Posts) → p.left ≡ most
-        → p.ordered.actions ≡ placed_up_to 1000000 job.now.actions → IsLaneOf is_live job.now p lane) }
+fn course_for(alloc: Global, job: &Job, is_live: bool, most: u32) -> Result<Course, AllocError>
+    ensures { IfOk result (λ course. (p : Posts) → p.left ≡ most
+        → p.ordered.actions ≡ placed_up_to 1000000 job.now.actions → IsCourseOf is_live job.now p course) }
 {
     if goes_beside(job, is_live) {
-        return Ok(Lane::AsItComes(job.begin(alloc, most)?));
+        return Ok(Course::AsItComes(job.begin(alloc, most)?));
     }
     let mut machine = job.machine(alloc, job.actions())?;
     machine.room(most)?;
-    Ok(Lane::ByNumber(machine))
+    Ok(Course::ByNumber(machine))
+}
+
+/// A job's placed actions by rising number, with room for so many more. It fails for want of memory alone.
+fn ordered_for(job: &Job, most: u32) -> Result<Schedule, AllocError>
+    ensures ordered { IfOk result (λ s. s.actions ≡ placed_up_to 1000000 job.now.actions) }
+    ensures fit { IfOk result (λ s. IsOrdered s.actions) }
+{
+    let mut ordered = Schedule::of(ordered_actions(job)?);
+    ordered.room(most)?;
+    Ok(ordered)
+}
+
+/// How a thread runs its job, an empty list with room for the numbers of all messages, and the job's placed actions
+/// with room for so many posts. It fails for want of memory alone.
+fn work_for(
+    alloc: Global,
+    job: &Job,
+    is_live: bool,
+    most: u32,
+) -> Result<(Course, Vec<u32>, Schedule), AllocError>
+    ensures course { IfOk result (λ r. (p : Posts) → p.left ≡ most
+        → p.ordered.actions ≡ placed_up_to 1000000 job.now.actions → IsCourseOf is_live job.now p r.0) }
+    ensures empty { IfOk result (λ r. r.1.items ≡ []) }
+    ensures capacity { IfOk result (λ r. most_items most job.now ≤ vec_capacity r.1) }
+    ensures ordered { IfOk result (λ r. r.2.actions ≡ placed_up_to 1000000 job.now.actions) }
+    ensures fit { IfOk result (λ r. IsOrdered r.2.actions) }
+{
+    let refused = Vec::with_capacity(alloc, job.most_items(most) as usize)?;
+    let ordered = ordered_for(job, most)?;
+    Ok((course_for(alloc, job, is_live, most)?, refused, ordered))
 }
 
 fn room_for(
@@ -127,13 +157,10 @@ fn room_for(
     ensures most { IfOk result (λ room. room.posts.left ≡ most) }
     ensures live { IfOk result (λ room. room.is_live ≡ is_live) }
 {
-    let lane = lane_for(alloc, job, is_live, most)?;
-    let refused = Vec::with_capacity(alloc, job.most_items(most) as usize)?;
-    let mut ordered = Schedule::of(ordered_actions(job)?);
-    ordered.room(most)?;
+    let (course, refused, ordered) = work_for(alloc, job, is_live, most)?;
     Ok(Room {
         is_live,
-        lane,
+        course,
         refused,
         posts: Posts {
             inbox,

@@ -1,4 +1,4 @@
-use Rattle.std.proofs.Common.{◌≡◌, true, false, refl, sym, ap, ◌∙◌, subst}
+use Rattle.std.proofs.Common.{refl, sym, ◌∙◌}
 use Rattle.bench_run.proofs.Arriving.{arrives_there, arrives_nowhere}
 use Rattle.bench_run.proofs.Turning.{stands_there, none_there}
 use Rattle.bench_run.proofs.beside.arrive.Goals as goal

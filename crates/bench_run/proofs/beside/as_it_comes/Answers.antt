@@ -1,22 +1,20 @@
-use Rattle.std.proofs.Common.{◌≡◌, ◌<◌, ◌≤◌, ◌+◌, Bool, true, false, true≢false, length, refl, sym, ap, ◌∙◌, subst, arith}
+use Rattle.std.proofs.Common.{◌≡◌, ◌<◌, ◌+◌, Bool, false, true≢false, length, refl, sym, ap, ◌∙◌, subst, arith}
 use Rattle.mil_trunk.specs.Tags.{has, bound_of}
 use Rattle.mil_trunk.specs.Ends.{tags_of, bounds_of}
-use Rattle.bc_machine.specs.Running.{MachineState, HasEnded}
+use Rattle.bc_machine.specs.Running.{HasEnded}
 use Rattle.std.specs.Prelude.{Some, slice_get, cond, ◌*◌}
-use Rattle.bench_report.specs.Reports.{Rises}
 use Rattle.bench_mail.specs.Mail.{IsInboxOf}
 use Rattle.job_file.specs.Beside.{as_played}
-use Rattle.job_file.specs.Jobs.{tree_in}
 use Rattle.job_file.specs.Rooms.{most_items}
 use Rattle.job_file.specs.Resolving.{turns_left}
 use Rattle.job_file.specs.Timed.{Standing}
 use Rattle.job_file.proofs.Fewness.{few}
-use Rattle.bench_run.specs.Beside.{GoesOnBeside, records_told}
+use Rattle.bench_run.specs.Beside.{records_told}
 use Rattle.bench_run.specs.Runs.{records_of}
 use Rattle.bench_run.specs.Threads.{RecordsOfferedSoFar}
 use Rattle.bench_run.proofs.Turning.{may_plan_arrived, same_number, told_number, told_small, goes_on_beside, offered_before, told_record, fewer_turns, starts_beside, as_now, ends_beside, both_so}
 use Rattle.bench_settings.specs.Placing.{placed_up_to}
-use Rattle.bench_run.proofs.Lanes.{sent_all}
+use Rattle.bench_run.proofs.Courses.{sent_all}
 use Rattle.bench_run.proofs.Messages.{few_beside}
 use Rattle.bench_run.proofs.Stages.{first_stage, few_sent, by_given}
 use Rattle.bench_run.proofs.beside.as_it_comes.Goals as goal
@@ -27,9 +25,9 @@ turns-init g c =
     let fits = c.requires.fits in
     record {
       stage = record {
-        goes_on = starts_beside c.args.way.now.is_live c.args.posts.left c.args.posts.inbox job c.args.run c.args.posts fits.lane refl refl;
+        goes_on = starts_beside c.args.way.now.is_live c.args.posts.left c.args.posts.inbox job c.args.run c.args.posts fits.course refl refl;
         so_far = first_stage c.args.context.now.trunk.now (tags_of c.args.ticket) (bounds_of c.args.ticket) c.args.way.now.index (as_played job c.args.run.machine) c.args.run.machine.point.number c.args.ticket c.args.refused.items
-            (ap (λ (v : Standing). v.machine.point.number) fits.lane.beginning) fits.empty c.requires.ours refl refl c.requires.unsent;
+            (ap (λ (v : Standing). v.machine.point.number) fits.course.beginning) fits.empty c.requires.ours refl refl c.requires.unsent;
       };
       inbox = c.requires.inbox;
       ordered = fits.fit;
@@ -179,7 +177,7 @@ returns g c =
     let out = c.outcome_of.ensures in
     let ended : HasEnded c.turns.run.machine = i.ended (i.done c.turns-test.false) in
     ends_beside c.args.context.now.trunk.now c.args.ticket c.args.way.now.index c.args.way.now.is_live job c.args.way.now.mailbox.now c.args.posts.left c.args.posts.inbox c.turns.run c.turns.ticket c.turns.refused.items c.turns.posts c.finish-2.result
-    i.stage ended c.job_runs.ensures.whole c.job_runs.ensures.counts c.program-sound.ensures.sound c.requires.fits.lane.live c.requires.fits.lane.timed i.inbox
+    i.stage ended c.job_runs.ensures.whole c.job_runs.ensures.counts c.program-sound.ensures.sound c.requires.fits.course.live c.requires.fits.course.timed i.inbox
     end.ticket end.tags end.bounds end.sent end.channel.0 end.channel.1 (end.made ∙ out.made.0) (end.refused ∙ ap (λ v. v.items) out.refused)
     (λ yes. end.placed c.turns.run.machine.placed (out.whole (sym end.is_whole ∙ yes)) ∙ ap (λ n. placed_up_to n c.turns.run.machine.placed) out.made.0)
     (end.inbox ∙ out.inbox)

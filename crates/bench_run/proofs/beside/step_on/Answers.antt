@@ -1,4 +1,3 @@
-use Rattle.std.proofs.Common.{◌≡◌, refl, sym, ap, ◌∙◌, subst}
 use Rattle.bench_run.proofs.Turning.{steps_on}
 use Rattle.bench_run.proofs.beside.step_on.Goals as goal
 

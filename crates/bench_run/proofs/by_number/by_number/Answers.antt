@@ -8,7 +8,7 @@ use Rattle.job_file.specs.Beside.{with_posts}
 use Rattle.bench_run.specs.Runs.{records_of}
 use Rattle.job_file.specs.Rooms.{most_items}
 use Rattle.bench_run.specs.Threads.{RecordsOfferedSoFar}
-use Rattle.bench_run.proofs.Lanes.{sent_all, by_number_means}
+use Rattle.bench_run.proofs.Courses.{sent_all, by_number_means}
 use Rattle.bench_run.proofs.Stages.{first_stage, last_stage, few_sent, by_ticket, by_given}
 use Rattle.bench_mail.specs.Mail.{IsInboxOf}
 use Rattle.bench_run.proofs.Messages.{few_offered}
@@ -20,8 +20,8 @@ pub messages-init : goal.messages-init
 messages-init g c =
     let room = c.args in
     record {
-      stage = stage_first c.args.context.now.trunk.now (tags_of c.args.ticket) (bounds_of c.args.ticket) c.args.way.now.index room.posts.left room.posts.inbox c.args.way.now.job.now room.machine c.args.ticket room.refused.items room.posts refl refl c.requires.fits.lane.first c.requires.fits.lane.machine c.requires.fits.lane.ordered
-          (first_stage c.args.context.now.trunk.now (tags_of c.args.ticket) (bounds_of c.args.ticket) c.args.way.now.index (with_posts c.args.way.now.job.now []) room.machine.point.number c.args.ticket room.refused.items c.requires.fits.lane.first c.requires.fits.empty c.requires.ours refl refl c.requires.unsent);
+      stage = stage_first c.args.context.now.trunk.now (tags_of c.args.ticket) (bounds_of c.args.ticket) c.args.way.now.index room.posts.left room.posts.inbox c.args.way.now.job.now room.machine c.args.ticket room.refused.items room.posts refl refl c.requires.fits.course.first c.requires.fits.course.machine c.requires.fits.course.ordered
+          (first_stage c.args.context.now.trunk.now (tags_of c.args.ticket) (bounds_of c.args.ticket) c.args.way.now.index (with_posts c.args.way.now.job.now []) room.machine.point.number c.args.ticket room.refused.items c.requires.fits.course.first c.requires.fits.empty c.requires.ours refl refl c.requires.unsent);
       inbox = c.requires.inbox;
       ordered = c.requires.fits.fit;
       room = refl;
@@ -97,13 +97,13 @@ messages-preserved g c =
     }
 
 pub finish-requires-clause-ticket : goal.finish-requires-clause-ticket
-finish-requires-clause-ticket g c = c.messages.invariant.stage.so_far.ours
+finish-requires-clause-ticket g c κs within = c.messages.invariant.stage.so_far.ours
 
 pub finish-requires-clause-tag : goal.finish-requires-clause-tag
-finish-requires-clause-tag g c = ap (λ tags. has tags c.args.way.now.index) c.messages.invariant.stage.so_far.tags ∙ c.requires.tag
+finish-requires-clause-tag g c κs within = ap (λ tags. has tags c.args.way.now.index) c.messages.invariant.stage.so_far.tags ∙ c.requires.tag
 
 pub finish-requires-clause-bound : goal.finish-requires-clause-bound
-finish-requires-clause-bound g c =
+finish-requires-clause-bound g c κs within =
     let job = c.args.way.now.job.now in
     let n = c.messages.machine.point.number in
     let stage = c.messages.invariant.stage in
@@ -115,7 +115,7 @@ finish-requires-clause-bound g c =
     omega (arith, made, bound, few)
 
 pub finish-requires-clause-refused : goal.finish-requires-clause-refused
-finish-requires-clause-refused g c =
+finish-requires-clause-refused g c κs within =
     let made : c.number-made.result ≡ c.messages.machine.point.number = c.number-made.ensures.value ∙ c.in_default.ensures.same ∙ ap (λ z. z.number) c.place_all.ensures.point in
     subst (λ n. Rises 0 n c.messages.refused.items) (sym made) c.messages.invariant.stage.so_far.rising
 
@@ -140,7 +140,7 @@ returns g c =
       whole = λ _. record {
         posts = posted.posts;
         live = live;
-        means = by_number_means c.args.way.now.is_live room.posts.left job posted.posts c.requires.fits.lane.plain;
+        means = by_number_means c.args.way.now.is_live room.posts.left job posted.posts c.requires.fits.course.plain;
         few = omega (arith, few, whole);
         placed = placed_all room.posts.left room.posts.inbox job c.finish.result.part.made m c.place_all.new.self c.finish.result.inbox posted (sym made ∙ sym end.made) end.inbox;
         offered = last_stage c.args.context.now.trunk.now c.args.ticket c.args.way.now.index live c.number-made.result c.messages.ticket c.finish.result.ticket c.messages.refused.items c.finish.result.part

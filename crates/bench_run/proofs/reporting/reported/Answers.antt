@@ -1,4 +1,4 @@
-use Rattle.std.proofs.Common.{◌≡◌, ◌++◌, [], length, refl, sym, ap, ◌∙◌}
+use Rattle.std.proofs.Common.{[], sym, ap, ◌∙◌}
 use Rattle.bench_settings.specs.Placing.{placed_up_to}
 use Rattle.bench_run.proofs.Reports.{nothing_up_to, nothing_ordered, alike_up_to}
 use Rattle.bench_run.proofs.reporting.reported.Goals as goal

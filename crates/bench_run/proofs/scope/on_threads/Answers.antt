@@ -1,9 +1,11 @@
-use Rattle.std.proofs.Common.{◌≡◌, ◌∙◌, List, length, sym, ap, subst, arith, rules}
+use Rattle.std.proofs.Common.{◌≡◌, ◌∙◌, true, List, length, sym, ap, subst, arith, rules}
+use Rattle.std.specs.List.{AllByRecursion}
 use Rattle.std.specs.Prelude.{vec_len}
 use Rattle.std.proofs.lemmas.List.{length-map}
 use Rattle.mil_trunk.specs.Ends.{capacity_of, bounds_of, sent, received}
 use Rattle.bench_report.specs.Reports.{ChannelPart}
 use Rattle.bench_run.specs.declared.channel.Room.{Room}
+use Rattle.bench_run.specs.declared.threads.Joined.{Joined}
 use Rattle.bench_mail.specs.declared.mailbox.Inbox.{Inbox}
 use Rattle.bench_run.specs.Live.{AreInboxesOf}
 use Rattle.bench_run.specs.Threads.{IsPromised, IsRoom}
@@ -34,7 +36,7 @@ conclude-requires-clause-all g c =
     let is_live = c.args.before.now.is_live in
     let all = all_live (capacity_of trunk) queue is_live most jobs c.args.before.now.boxes.now olds joined.items (sent rest) got (bounds_of rest)
     c.requires.ready.capacity_is c.requires.lawful.ranges.few (ended.ticket.1 ∙ c.start_all-handles.ensures.bounds ∙ c.requires.ready.bounds)
-    c.requires.mailboxes olds_long all_joined ended.ended (c.are_whole.ensures c.if-not-are_whole.false) c.settle-taker.ensures.settled c.settle-taker.ensures.barred in
+    c.requires.mailboxes olds_long all_joined ended.ended (subst (AllByRecursion (λ (j : Joined). j.is_whole ≡ true)) c.deref.ensures.value (c.are_whole.ensures c.if-not-are_whole.false)) c.settle-taker.ensures.settled c.settle-taker.ensures.barred in
     subst (λ (z : List Inbox × List ChannelPart). IsAllLive queue is_live most jobs olds z.0 z.1 got) (λ i. (sym c.parted-parts.ensures.inboxes i, sym c.parted-parts.ensures.parts i)) all
 
 pub conclude-requires-clause-ends : goal.conclude-requires-clause-ends

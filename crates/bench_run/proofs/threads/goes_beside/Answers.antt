@@ -1,5 +1,5 @@
-use Rattle.std.proofs.Common.{◌≡◌, true≢false, sym, ◌∙◌}
-use Rattle.bench_run.proofs.Lanes.{is_so, is_not}
+use Rattle.std.proofs.Common.{true≢false, sym, ◌∙◌}
+use Rattle.bench_run.proofs.Courses.{is_so, is_not}
 use Rattle.bench_run.proofs.threads.goes_beside.Goals as goal
 
 pub returns-then-not-is_live : goal.returns-then-not-is_live

@@ -15,7 +15,7 @@ use Rattle.bench_run.specs.Entries.{index_of, entries_to_the_end}
 use Rattle.bench_mail.specs.Mail.{IsInboxOf}
 use Rattle.bench_run.specs.Runs.{most_in_all, others_than}
 use Rattle.bench_run.specs.Threads.{IsPromised, IsThreadEnded}
-use Rattle.bench_run.proofs.Lanes.{ended_as}
+use Rattle.bench_run.proofs.Courses.{ended_as}
 use Rattle.bench_run.proofs.Rows.{row_push, row_first, row_rest, place_below, same_some, none_at}
 use Rattle.bench_run.proofs.Sums.{others_bounds, own_entries, other_entries}
 use Rattle.bench_run.proofs.threads.join_all.Goals as goal

@@ -1,5 +1,5 @@
-use Rattle.std.proofs.Common.{◌≡◌, refl}
-use Rattle.bench_run.proofs.Lanes.{taken_in}
+use Rattle.std.proofs.Common.{refl}
+use Rattle.bench_run.proofs.Courses.{taken_in}
 use Rattle.bench_run.proofs.threads.join_one.Goals as goal
 
 pub returns-clause-ended : goal.returns-clause-ended

@@ -1,7 +1,6 @@
 -- What a channel's thread came to, whichever way it ran its job.
-use Rattle.std.proofs.Common.{◌≡◌, ℕ, ◌+◌, ◌≤◌, Bool, true, false, List, [], ◌∷◌, ◌++◌, length, map, take, refl, sym, ap, ◌∙◌, subst}
+use Rattle.std.proofs.Common.{◌≡◌, ℕ, ◌≤◌, Bool, true, false, List, [], ◌∷◌, ◌++◌, take, refl, sym, ap, ◌∙◌, subst}
 use Rattle.std.specs.Prelude.{not, vec_capacity}
-use Rattle.ch11_f1.specs.declared.Record.{Record}
 use Rattle.mil_trunk.specs.declared.trunk.Trunk.{Trunk}
 use Rattle.mil_trunk.specs.declared.trunk.Ticket.{Ticket}
 use Rattle.mil_trunk.specs.Ends.{IsTicketOf, capacity_of, tags_of, bounds_of, sent}
@@ -30,10 +29,10 @@ use Rattle.bench_run.specs.declared.channel.Ended.{Ended}
 use Rattle.bench_run.specs.declared.channel.Room.{Room}
 use Rattle.bench_run.specs.declared.entry.Entry.{Entry}
 use Rattle.bench_run.specs.declared.entry.Entry.TheVariants as entry
-use Rattle.bench_run.specs.Entries.{entry_of, entries_to_the_end}
+use Rattle.bench_run.specs.Entries.{entries_to_the_end}
 use Rattle.bench_run.specs.Live.{IsRunAs, ArePlaced}
 use Rattle.bench_run.specs.Runs.{records_of}
-use Rattle.bench_run.specs.Threads.{RecordsOfferedSoFar, SentToTheEnd, Offered, IsThreadReport, IsThreadEnded, IsTakenIn, StartsByNumber, StartsBeside, IsLaneOf, IsRoom}
+use Rattle.bench_run.specs.Threads.{RecordsOfferedSoFar, SentToTheEnd, Offered, IsThreadReport, IsThreadEnded, IsTakenIn, StartsByNumber, StartsBeside, IsCourseOf, IsRoom}
 use Rattle.bench_run.proofs.PlacedPosts.{with_more_room}
 
 -- ---- the beginning
@@ -47,9 +46,9 @@ is_not true e = absurd cc
 is_not false e = refl
 
 -- a job with no line by time or by command, or one that is not run live
-pub lane_by_number : (is_live : Bool) (job : JobState) (m x : MachineState) (count : ℕ) → x ≡ with_room m count → IsUnderWay x → IsOf (job_in job) job.actions m → m.point.number ≡ 0
+pub course_by_number : (is_live : Bool) (job : JobState) (m x : MachineState) (count : ℕ) → x ≡ with_room m count → IsUnderWay x → IsOf (job_in job) job.actions m → m.point.number ≡ 0
     → (is_live ≡ true → says_nothing job.timed ≡ true) → (p : Posts) → p.ordered.actions ≡ placed_up_to 1000000 job.actions → StartsByNumber is_live job x p
-lane_by_number is_live job m x count is under_way of first plain p ordered = record {
+course_by_number is_live job m x count is under_way of first plain p ordered = record {
   machine = with_more_room (job_in job) job.actions m x count is under_way of;
   first = ap (λ (z : MachineState). z.point.number) is ∙ first;
   ordered = ordered;
@@ -57,9 +56,9 @@ lane_by_number is_live job m x count is under_way of first plain p ordered = rec
 }
 
 -- one whose lines come to be due as it goes on
-pub lane_beside : (is_live : Bool) (most : ℕ) (job : JobState) (r : JobRun) → is_live ≡ true → says_nothing job.timed ≡ false → standing r ≡ begun_beside most (said_in job) job.timed
+pub course_beside : (is_live : Bool) (most : ℕ) (job : JobState) (r : JobRun) → is_live ≡ true → says_nothing job.timed ≡ false → standing r ≡ begun_beside most (said_in job) job.timed
     → r.faults.faults ≡ found_in job.timed → IsKept r → MayPlan r → (p : Posts) → p.left ≡ most → StartsBeside is_live p.left job r
-lane_beside is_live most job r live timed beginning faults kept planned p left = record {
+course_beside is_live most job r live timed beginning faults kept planned p left = record {
   live = live;
   timed = timed;
   beginning = beginning ∙ ap (λ k. begun_beside k (said_in job) job.timed) (sym left);
@@ -69,11 +68,11 @@ lane_beside is_live most job r live timed beginning faults kept planned p left =
 }
 
 -- what a thread takes along
-pub room_is : (job : JobState) (is_live : Bool) (most : ℕ) (room : Room) → ((p : Posts) → p.left ≡ most → p.ordered.actions ≡ placed_up_to 1000000 job.actions → IsLaneOf is_live job p room.lane)
+pub room_is : (job : JobState) (is_live : Bool) (most : ℕ) (room : Room) → ((p : Posts) → p.left ≡ most → p.ordered.actions ≡ placed_up_to 1000000 job.actions → IsCourseOf is_live job p room.course)
     → room.is_live ≡ is_live → room.posts.left ≡ most → room.posts.ordered.actions ≡ placed_up_to 1000000 job.actions → IsOrdered (placed_up_to 1000000 job.actions)
     → room.refused.items ≡ [] → most_items most job ≤ vec_capacity room.refused → IsRoom job room
-room_is job is_live most room lane live left ordered fit empty capacity = record {
-  lane = subst (λ b. IsLaneOf b job room.posts room.lane) (sym live) (lane room.posts left ordered);
+room_is job is_live most room course live left ordered fit empty capacity = record {
+  course = subst (λ b. IsCourseOf b job room.posts room.course) (sym live) (course room.posts left ordered);
   empty = empty;
   capacity = subst (λ k. most_items k job ≤ vec_capacity room.refused) (sym left) capacity;
   fit = subst IsOrdered (sym ordered) fit;
