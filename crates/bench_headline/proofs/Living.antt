@@ -1,8 +1,9 @@
 -- Jobs, report and recording of a finished live run agree.
-use Rattle.std.proofs.Common.{◌≡◌, ℕ, zero, suc, Bool, true, false, cond, length, List, [], ◌∷◌, ◌++◌, map, append-nil, slice_get, Some, Ok, refl, sym, ap, ◌∙◌, subst, arith, length-map}
+use Rattle.std.proofs.Common.{◌≡◌, ℕ, zero, suc, Bool, true, false, cond, length, List, [], ◌∷◌, ◌++◌, map, append-nil, slice_get, Some, Ok, refl, sym, ap, ◌∙◌, subst, arith}
+use Rattle.std.proofs.lemmas.List.{length-map}
 use Rattle.std.specs.List.{AllByRecursion}
 use Rattle.bc_machine.specs.declared.placed.Placed.{Placed}
-use Rattle.bc_machine.specs.Running.{MachineState, stepped}
+use Rattle.bc_machine.specs.Running.{MachineState}
 use Rattle.bc_machine.specs.declared.placed.HostAction.{HostAction}
 use Rattle.bc_machine.specs.Planning.{next_number}
 use Rattle.job_moments.specs.Planning.{PlannedFault}
@@ -19,7 +20,7 @@ use Rattle.ch11_reader.specs.Joined.{RecordingsJoin}
 use Rattle.ch11_recording.specs.Laws.{FileGoesOn}
 use Rattle.bench_report.specs.Reports.{ChannelPart, RunReport}
 use Rattle.bench_settings.specs.declared.settings.Settings.{Settings}
-use Rattle.bench_settings.specs.Lawful.{AreLawful}
+use Rattle.bench_settings.specs.Lawful.{AreLawful, channels_of}
 use Rattle.bench_settings.proofs.Lists.{map_at, which}
 use Rattle.bench_mail.specs.declared.mailbox.Inbox.{Inbox}
 use Rattle.bench_run.specs.Runs.{IsRun}

@@ -1,8 +1,9 @@
 //! The laws that join a run and the debugger (the headline of `docs/proved.md`): what a finished run recorded, of the
 //! jobs alone or with the posts of hosts, is what the debugger plays again.
 //!
-//! It may know: the controller, jobs, headers, bodies, the builder, the reader, recordings, reports, what runs share,
-//! mailboxes, runs, the debugger. It has no tests: it is laws alone. It has no wrong bodies.
+//! It may know: gaps and planned faults, moments, the controller, jobs, headers, bodies, the builder, the reader,
+//! recordings, reports, what runs share, mailboxes, runs, the debugger. It has no tests: it is laws alone. It has no
+//! wrong bodies.
 #![tactic(auto)]
 
 ghost use Rattle.bench_headline.specs.Headline.{RunIsReplayed, LiveRunIsReplayed};
