@@ -109,8 +109,8 @@ impl JobRun {
         }
     }
 
-    /// Places the first action that is due at the next number, and gives it; None where none is due in front of the next
-    /// message, or no message comes next. It takes no memory.
+    /// Places the first action that is due at the next number, and gives it; None where none is due in front of the
+    /// next message, or no message comes next. It takes no memory.
     pub fn do_first(&mut self) -> Option<Due>
         requires { IsKept self.old }
         ensures done { standing self.new ≡ done_at (due_now (standing self.old)) (standing self.old) }
