@@ -8,6 +8,7 @@ use mil_line::Fault;
 use std::marker::Model;
 
 /// Faults of a message: at most four, each in its range, so that lines of a job may have them. Contracts see their
+/// list.
 #[derive(Drop)]
 pub(crate) struct PlannedFaults {
     faults: ArrayVec<Fault, 4>,
