@@ -90,8 +90,8 @@ impl Deeds {
         self.later.clear();
     }
 
-    /// Puts an action behind the others; none of a terminal that is not there, and none that sets a switch as they leave
-    /// it. It fails for want of memory alone.
+    /// Puts an action behind the others; none of a terminal that is not there, and none that sets a switch as they
+    /// leave it. It fails for want of memory alone.
     pub(crate) fn act(&mut self, address: u8, action: Action) -> Result<(), AllocError>
         ensures { self.new ≡ self.old }
     {
@@ -104,8 +104,8 @@ impl Deeds {
         }
     }
 
-    /// Puts an action in front of the next message, whatever that is; none of a terminal that is not there. It fails for
-    /// want of memory alone.
+    /// Puts an action in front of the next message, whatever that is; none of a terminal that is not there. It fails
+    /// for want of memory alone.
     pub(crate) fn act_later(&mut self, address: u8, action: Action) -> Result<(), AllocError>
         ensures { self.new ≡ self.old }
     {

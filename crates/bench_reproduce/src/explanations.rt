@@ -47,8 +47,8 @@ impl Explanation {
         self.deeds.has(address)
     }
 
-    /// Puts an action behind the others; none of a terminal that is not there, and none that sets a switch as they leave
-    /// it.
+    /// Puts an action behind the others; none of a terminal that is not there, and none that sets a switch as they
+    /// leave it.
     pub(crate) fn act(&mut self, address: u8, action: Action) -> Result<(), AllocError> {
         self.deeds.act(address, action)
     }

@@ -7,7 +7,8 @@ use arrayvec::ArrayVec;
 use mil_line::Fault;
 use std::marker::Model;
 
-/// Faults of a message: at most four, each in its range, so that lines of a job may have them. Contracts see their list.
+/// Faults of a message: at most four, each in its range, so that lines of a job may have them. Contracts see their
+/// list.
 #[derive(Drop)]
 pub(crate) struct PlannedFaults {
     faults: ArrayVec<Fault, 4>,
@@ -43,8 +44,8 @@ impl PlannedFaults {
         self.faults.clear();
     }
 
-    /// Puts a fault behind the others; false where it is out of its range, or four are planned already, and then nothing
-    /// changes.
+    /// Puts a fault behind the others; false where it is out of its range, or four are planned already, and then
+    /// nothing changes.
     pub(crate) fn plan(&mut self, fault: Fault) -> bool
         ensures taken { result ≡ (nat_lt (length self.old) 4 && is_in_range fault) }
         ensures planned { result ≡ true → self.new ≡ self.old ++ fault ∷ [] }

@@ -226,12 +226,13 @@ kept_few number refused job =
     length-front (suc n) [] = omega arith
     length-front (suc n) (r ∷ rs) = let low = length-front n rs in omega (arith, low)
 
--- a job as it was given, of the same channel, that may offer as many items where so many actions are posted to it
+-- a job as it was given, of the same channel, that may offer more items than messages are made where so many actions are
+-- posted to it
 pub record IsGiven (most : ℕ) (given : List JobState) (k : ℕ) (job : JobState) : Type 0 where
   pub own : JobState
   pub at : slice_get given k ≡ Some own
   pub channel : job.channel ≡ own.channel
-  pub items : most_items 0 job ≤ most_items most own
+  pub few : length (records_of job) < most_items most own
 
 abbrev pub AreGiven : ℕ → List JobState → List JobState → Type 0
 AreGiven most given jobs = (k : ℕ) (job : JobState) → slice_get jobs k ≡ Some job → IsGiven most given k job
@@ -243,11 +244,11 @@ none_refused capacity most given jobs parts distinct are counted room = seconds_
     let is = are k job at in
     let others : most_in_all most (others_than job.channel given) ≡ most_in_all most (others_than is.own.channel given) = ap (λ c. most_in_all most (others_than c given)) is.channel in
     let sum = own_and_others most given k is.own distinct is.at in
-    go job part.refused part.made (most_items most is.own) (most_in_all most (others_than job.channel given)) (omega (arith, sum, others, room)) is.items p.made p.within p.rising p.full)
+    go job part.refused part.made (most_items most is.own) (most_in_all most (others_than job.channel given)) (omega (arith, sum, others, room)) p.made is.few p.rising p.full)
   where
-    go : (job : JobState) (refused : List ℕ) (made own others : ℕ) → own + others ≤ capacity → most_items 0 job ≤ own
-        → made ≡ length (records_of job) → length (records_of job) < most_items 0 job → Rises 0 made refused
+    go : (job : JobState) (refused : List ℕ) (made own others : ℕ) → own + others ≤ capacity
+        → made ≡ length (records_of job) → length (records_of job) < own → Rises 0 made refused
         → AllByRecursion (λ n. capacity ≤ kept_below n refused job + others) refused → refused ≡ []
-    go job [] made own others total items is few rising full = refl
-    go job (n ∷ refused) made own others total items is few rising full =
-        let low = kept_few n (n ∷ refused) job in absurd (omega (arith, total, items, is, few, rising.0, rising.1, full.0, low))
+    go job [] made own others total is few rising full = refl
+    go job (n ∷ refused) made own others total is few rising full =
+        let low = kept_few n (n ∷ refused) job in absurd (omega (arith, total, is, few, rising.0, rising.1, full.0, low))

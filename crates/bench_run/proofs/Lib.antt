@@ -6,6 +6,10 @@ pub mod PlacedPosts
 pub mod Messages
 pub mod Stages
 pub mod PlacedStages
+pub mod Courses
+pub mod Reports
+pub mod Arriving
+pub mod Turning
 pub mod Sums
 pub mod Channels
 pub mod Ended

@@ -1,5 +1,5 @@
 -- How many messages a controller makes at most: those of its script and those that actions have inserted.
-use Rattle.std.proofs.Common.{◌≡◌, ℕ, zero, suc, ◌+◌, ◌-◌, ◌<◌, ◌≤◌, Bool, true, false, cond, ltb, Option, Some, None, List, [], ◌∷◌, ◌++◌, length, drop, ap, refl, arith}
+use Rattle.std.proofs.Common.{◌≡◌, ℕ, zero, suc, ◌+◌, ◌-◌, ◌<◌, ◌≤◌, ltb, Option, Some, None, List, [], ◌∷◌, ◌++◌, length, drop, ap, refl, arith}
 use Rattle.std.specs.List.{cons_option}
 use Rattle.std.proofs.lemmas.List.{length-append}
 use Rattle.mil_word.specs.declared.Line.{Line}
@@ -22,16 +22,14 @@ use Rattle.bc_machine.proofs.Left.{up_to_nothing, few_up_to}
 use Rattle.bc_machine.proofs.Queued.{among_both, inserts_both, more_inserted, more_own}
 use Rattle.bc_machine.proofs.Reached.{bus_is}
 use Rattle.frame_asm.specs.Shapes.{code_of_tree}
-use Rattle.job_file.specs.Jobs.{JobState, tree_in, job_in, own_inserts}
+use Rattle.job_file.specs.Jobs.{JobState, tree_in, job_in, own_inserts, said_inserts}
 use Rattle.job_file.specs.Machines.{IsOf}
 use Rattle.job_file.specs.Rooms.{most_items}
-use Rattle.job_file.specs.Timed.{says_nothing}
 use Rattle.job_file.proofs.Moves.{run_keeps}
 use Rattle.bench_mail.specs.declared.mailbox.Inbox.{Inbox}
 use Rattle.bench_run.specs.declared.posting.Posts.{Posts}
-use Rattle.job_file.specs.Beside.{with_posts}
-use Rattle.bench_run.specs.Posted.{IsPosted}
-use Rattle.bench_run.proofs.PlacedPosts.{few_placed}
+use Rattle.bench_run.specs.Posted.{AreTaken, IsPosted}
+use Rattle.bench_run.proofs.PlacedPosts.{few_posts}
 
 -- ---- inserts among actions
 
@@ -125,33 +123,33 @@ few_made m u =
 
 -- ---- as a channel's thread meets them
 
--- fewer than the job with the posts that were placed may offer
-pub few_live : (job : JobState) (posts : List Placed) (m : MachineState) → IsOf (job_in job) (job.actions ++ posts) m → m.point.number < most_items 0 (with_posts job posts)
-few_live job posts m of =
-    let made = few_made m of.under_way in
-    let worst : worst_messages m.code.operations ≡ worst_messages (code_of_tree (tree_in job)).operations = ap (λ (code : Code). worst_messages code.operations) of.code in
-    let inserts : length (inserts_among m.placed) ≡ own_inserts (job.actions ++ posts) = ap own_inserts of.actions in
-    omega (arith, made, worst, inserts)
+worst_same : (job : JobState) (m : MachineState) → m.code ≡ code_of_tree (tree_in job)
+    → worst_messages m.code.operations ≡ worst_messages (code_of_tree (tree_in job)).operations
+worst_same job m is = ap (λ (code : Code). worst_messages code.operations) is
 
-inserts_more : (actions posts : List Placed) → own_inserts (actions ++ posts) ≤ own_inserts actions + length posts
+pub inserts_more : (actions posts : List Placed) → own_inserts (actions ++ posts) ≤ own_inserts actions + length posts
 inserts_more actions posts =
     let both = ap length (among_both actions posts) in
     omega (arith, both, length-append (inserts_among actions) (inserts_among posts), few_among posts)
 
--- where no line is by time or by command, the lines say the actions
-said_more : (plain : Bool) (actions posts own : List Placed) → own_inserts (cond plain (actions ++ posts) own) ≤ own_inserts (cond plain actions own) + length posts
-said_more true actions posts own = inserts_more actions posts
-said_more false actions posts own = omega arith
-
--- which are no more than the job may offer where so many are posted to it
-pub live_items : (most : ℕ) (job : JobState) (posts : List Placed) → length posts ≤ most → most_items 0 (with_posts job posts) ≤ most_items most job
-live_items most job posts few =
-    omega (arith, inserts_more job.actions posts, said_more (says_nothing job.timed) job.actions posts job.own, few)
+-- fewer than the job may offer where as many are posted to it
+pub few_live : (most : ℕ) (job : JobState) (posts : List Placed) (m : MachineState) → IsOf (job_in job) (job.actions ++ posts) m → length posts ≤ most
+    → m.point.number < most_items most job
+few_live most job posts m of few =
+    let made = few_made m of.under_way in
+    let inserts : length (inserts_among m.placed) ≡ own_inserts (job.actions ++ posts) = ap own_inserts of.actions in
+    omega (arith, made, worst_same job m of.code, inserts, inserts_more job.actions posts, few)
 
 pub few_offered : (most : ℕ) (before : Inbox) (job : JobState) (m n : MachineState) (p : Posts) (is : IsPosted most before job m p) → IsOf (job_in job) (job.actions ++ is.posts) n
     → n.point.number < most_items most job
 few_offered most before job m n p is of =
-    let placed = few_placed is.posts is.got is.first in
-    let live = few_live job is.posts n of in
-    let items = live_items most job is.posts (omega (arith, placed, is.few)) in
-    omega (arith, live, items)
+    let few = few_posts most before m.point.number is.posts p is.taken in
+    few_live most job is.posts n of (omega (arith, few))
+
+-- the same where lines of the job are by time or by command
+pub few_beside : (most : ℕ) (before : Inbox) (job : JobState) (number : ℕ) (posts : List Placed) (p : Posts) (m : MachineState) → AreTaken most before number posts p
+    → m.code ≡ code_of_tree (tree_in job) → IsUnderWay m → own_inserts m.placed ≤ said_inserts job + length posts → m.point.number < most_items most job
+few_beside most before job number posts p m taken code way inserts =
+    let made = few_made m way in
+    let few = few_posts most before number posts p taken in
+    omega (arith, made, worst_same job m code, inserts, few)

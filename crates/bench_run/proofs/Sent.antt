@@ -2,7 +2,7 @@
 use denote.RattleType.{RattleType}
 use denote.Param.Send.{IsSend, IsSync, sendable, number_array_send, view_send, view_sync}
 use denote.Param.{ArrayAt}
-use denote.Param.SendFields.{declared_send, declared_sync, as_row_send}
+use denote.Param.SendFields.{declared_send, declared_sync, variants_send, as_row_send}
 use denote.Struct.Field.{row_field}
 use Rattle.std.specs.declared.default.Default.{Ghosts}
 use Rattle.std.proofs.Crossing.{crosses}
@@ -28,10 +28,15 @@ use Rattle.bc_machine.specs.contracts.progress.Progress as progress
 use Rattle.bc_machine.specs.contracts.parts.Parts as parts
 use Rattle.bc_machine.specs.contracts.parts.Parts.TheInside as parts_inside
 use Rattle.bc_machine.specs.contracts.machine.Machine as machine
+use Rattle.job_moments.specs.contracts.waiting.Waiting as waiting
+use Rattle.job_moments.specs.contracts.planning.Occasions as occasions
 use Rattle.job_file.specs.contracts.jobs.Job as job
+use Rattle.job_file.specs.contracts.job_run.Due as due
+use Rattle.job_file.specs.contracts.job_run.JobRun as job_run
 use Rattle.job_file.specs.contracts.timed.TimedAction as timed_action
 use Rattle.job_file.specs.contracts.timed.TimedFault as timed_fault
 use Rattle.job_file.specs.contracts.timed.TimedLines as timed_lines
+use Rattle.bench_run.specs.contracts.channel.Course as course
 use Rattle.bench_run.specs.contracts.entry.Entry as entry
 use Rattle.bench_run.specs.contracts.entry.EntryTagged.TheImpl.{ghosts}
 use Rattle.bench_run.specs.contracts.channel.Room as room
@@ -100,6 +105,21 @@ parts_send = view_send parts_inside.the_row _ _ _ _ (declared_send parts_inside.
 pub machine_send : IsSend machine.the_row
 machine_send = search (parts_send, sendable, crosses) depth 40 fits 10000
 
+due_send : IsSend due.the_row
+due_send = declared_send due.the_type (search (sendable, crosses) depth 40 fits 10000, (host_action_send, tt))
+
+waiting_send : IsSend (waiting.the_row due.the_row)
+waiting_send = search (due_send, sendable, crosses) depth 40 fits 20000
+
+occasions_send : IsSend occasions.the_row
+occasions_send = search (sendable, crosses) depth 40 fits 20000
+
+job_run_send : IsSend job_run.the_row
+job_run_send = declared_send job_run.the_type (machine_send, (waiting_send, (occasions_send, (search (sendable, crosses) depth 40 fits 10000, tt))))
+
+course_send : IsSend course.the_row
+course_send = variants_send course.enum ((machine_send, tt), ((job_run_send, tt), tt))
+
 program_sync : IsSync program.the_row
 program_sync = search (sendable, crosses) depth 40 fits 10000
 
@@ -146,7 +166,7 @@ posts_send : IsSend posts.the_row
 posts_send = declared_send posts.the_type (inbox_send, (search (sendable, crosses) depth 40 fits 10000, (search (schedule_send, sendable, crosses) depth 40 fits 10000, tt)))
 
 pub room_send : IsSend room.the_row
-room_send = declared_send room.the_type (machine_send, (search (sendable, crosses) depth 40 fits 10000, (posts_send, tt)))
+room_send = declared_send room.the_type (search (sendable, crosses) depth 40 fits 10000, (course_send, (search (sendable, crosses) depth 40 fits 10000, (posts_send, tt))))
 
 posts_sync : IsSync (trunk.the_row post.the_row post_impl.ghosts)
 posts_sync = search (post_send, crossing.the_sync, crossing.the_field_sync, sendable, crosses) depth 40 fits 10000

@@ -1,5 +1,5 @@
 -- The stages of a channel's thread.
-use Rattle.std.proofs.Common.{◌≡◌, ℕ, zero, suc, ◌+◌, ◌-◌, ◌<◌, ◌≤◌, List, [], ◌∷◌, ◌++◌, length, map, take, refl, sym, ap, ◌∙◌, subst, arith}
+use Rattle.std.proofs.Common.{◌≡◌, ℕ, zero, suc, ◌+◌, ◌-◌, ◌≤◌, List, [], ◌∷◌, ◌++◌, length, map, take, refl, sym, ap, ◌∙◌, subst, arith}
 use Rattle.std.specs.Prelude.{◌==◌, Some, slice_get}
 use Rattle.std.specs.List.{AllByRecursion}
 use Rattle.std.proofs.lemmas.List.{map-append, length-append, length-map, take_all}
@@ -21,7 +21,6 @@ use Rattle.bench_run.specs.declared.entry.Entry.{Entry}
 use Rattle.bench_run.specs.declared.entry.Entry.TheVariants as entry
 use Rattle.bench_run.specs.Entries.{index_of, entry_of}
 use Rattle.bench_run.specs.Runs.{records_of, kept_below}
-use Rattle.job_file.specs.Rooms.{most_items}
 use Rattle.bench_run.specs.Threads.{RecordsOfferedSoFar, AllOffered}
 use Rattle.bench_run.proofs.Offering.{take_more, all_more, none_above, rises_on, rises_more, rises_length, length-kept, full_more}
 
@@ -98,9 +97,9 @@ pub last_stage : (trunk : Trunk Entry) (given : Ticket Entry) (index : ℕ) (job
     → RecordsOfferedSoFar trunk (tags_of given) (bounds_of given) index job made t refused → made ≡ length (records_of job)
     → IsTicketOf trunk s → tags_of s ≡ tags_of t → bounds_of s ≡ bounds_of t → sent s ≡ sent t ++ entry.End index ∷ []
     → part.channel ≡ job.channel → part.made ≡ made → part.refused ≡ refused → part.placed ≡ placed_up_to made job.actions
-    → job.channel ≤ 65535 → made ≤ 1000000 → made < most_items 0 job
+    → job.channel ≤ 65535 → made ≤ 1000000
     → AllOffered trunk given index job s part
-last_stage trunk given index job made t s refused part st whole ours tags bounds more channel_is made_is refused_is placed_is channel_high made_high within =
+last_stage trunk given index job made t s refused part st whole ours tags bounds more channel_is made_is refused_is placed_is channel_high made_high =
     let rs : List Record = records_of job in
     let all : take made rs ≡ rs = take_all made rs (omega (arith, whole)) in
     record {
@@ -114,7 +113,6 @@ last_stage trunk given index job made t s refused part st whole ours tags bounds
         channel_high = channel_high;
         made = made_is ∙ whole;
         made_high = omega (arith, made_is, made_high);
-        within = omega (arith, whole, within);
         placed = placed_is ∙ ap (λ n. placed_up_to n job.actions) (sym made_is);
         rising = subst (λ (z : ℕ × List ℕ). Rises 0 z.0 z.1) (λ i. (sym made_is i, sym refused_is i)) st.rising;
         full = subst (λ (ns : List ℕ). AllByRecursion (λ n. capacity_of trunk ≤ kept_below n ns job + bounds_outside (tags_of given) (bounds_of given)) ns) (sym refused_is) st.full;

@@ -6,3 +6,4 @@ pub mod Writer
 pub mod Ending
 pub mod Live
 pub mod Posted
+pub mod Beside

@@ -9,16 +9,16 @@ ghost use Rattle.mil_trunk.specs.Ends.{IsTicketOf, tags_of, bounds_of, sent};
 ghost use Rattle.mil_trunk.specs.Tags.{has, bound_of};
 ghost use Rattle.std.specs.Prelude.{◌≡◌, ◌<◌, ◌≤◌, ◌-◌, ◌++◌, ◌∷◌, [], true, length, vec_capacity, slice_get, Some};
 
+use crate::beside::as_it_comes;
+use crate::by_number::by_number;
 use crate::entry::Entry;
 use crate::gate::Gate;
 use crate::posting::Posts;
-use bc_machine::{Actions, Machine};
+use bc_machine::Machine;
 use bench_mail::{Inbox, Mailbox};
 use bench_report::ChannelReport;
-use bench_settings::channel_report;
 use ch11_f1::Record;
-use ch11_recording::record_fits;
-use job_file::{Job, job_runs, next_record};
+use job_file::{Job, JobRun};
 use mil_trunk::{Ticket, Trunk};
 use std::sync::Wait;
 use std::thread;
@@ -31,26 +31,46 @@ pub(crate) struct Context<'s, R, G> {
     pub(crate) gate: &'s G,
 }
 
-/// What a channel's thread takes along: its job's controller, an empty list with room for the numbers of all messages,
-/// and what it has for the posts of hosts.
+/// How a channel's thread runs its job: with all actions and faults at their numbers, or so that what its lines say by
+/// time and by command is done as it comes to be due.
+#[derive(Drop)]
+pub(crate) enum Course {
+    ByNumber(Machine),
+    AsItComes(JobRun),
+}
+
+/// What a channel's thread takes along: whether the run is live, its job's controller, an empty list with room for the
+/// numbers of all messages, and what it has for the posts of hosts.
 #[derive(Drop)]
 pub(crate) struct Room {
-    pub(crate) machine: Machine,
+    pub(crate) is_live: bool,
+    pub(crate) course: Course,
     pub(crate) refused: Vec<u32>,
     pub(crate) posts: Posts,
 }
 
-/// What a channel's thread returns: its ticket, the channel's part of the report, and its inbox.
+/// What a channel's thread returns: its ticket, the channel's part of the report, its inbox, and whether it came to the
+/// end of its job; else memory was refused.
 #[derive(Drop)]
 pub(crate) struct Ended {
     pub(crate) ticket: Ticket<Entry>,
     pub(crate) part: ChannelReport,
     pub(crate) inbox: Inbox,
+    pub(crate) is_whole: bool,
+}
+
+/// The way of a channel: the index of its job, whether the run is live, the job, and its mailbox.
+#[derive(Drop)]
+pub(crate) struct Way<'s> {
+    pub(crate) index: u8,
+    pub(crate) is_live: bool,
+    pub(crate) job: &'s Job,
+    pub(crate) mailbox: &'s Mailbox,
 }
 
 /// Runs a job's controller to its end. Before each message posts are taken from the mailbox, and placed at it. Each
 /// message is offered once, and the numbers of those that come back are listed; then the end mark is offered until it
-/// is kept. It takes no memory and no lock.
+/// is kept. It takes no lock, and memory only for what lines of the job say by time and by command.
 pub(crate) fn channel<R: Wait, G: Gate>(
     context: &Context<'_, R, G>,
     index: u8,
@@ -60,52 +80,30 @@ pub(crate) fn channel<R: Wait, G: Gate>(
     room: Room,
 ) -> Ended
     requires { MayOffer context.now.trunk.now ticket index job.now mailbox.now room }
-    ensures { Offered context.now.trunk.now ticket index job.now mailbox.now room.posts.left room.posts.inbox
-        result }
+    ensures { Offered context.now.trunk.now ticket index room.is_live job.now mailbox.now room.posts.left
+        room.posts.inbox result }
 {
     let Room {
-        mut machine,
-        mut refused,
-        mut posts,
+        is_live,
+        course,
+        refused,
+        posts,
     } = room;
-    let mut ticket = ticket;
-    let (rt, gate) = (context.rt, context.gate);
-    // A job's script is sound by its type.
-    let _sound = job.program();
-    // The laws of a job's records, for the proofs.
-    job_runs();
-    'messages: loop {
-        gate.before_tick(job.channel(), machine.bus().now());
-        gate.before_message(job.channel(), machine.number() + 1);
-        posts.place_all(rt, mailbox, &mut machine);
-        let Some(record) = next_record(&mut machine) else {
-            break;
-        };
-        let number = machine.number();
-        record_fits(&record);
-        offer_message(
-            context,
-            index,
-            job,
-            number,
-            record,
-            &mut ticket,
-            &mut refused,
-        );
-    }
-    offer_end(context, index, job.channel(), &mut ticket);
-    let Posts { inbox, ordered, .. } = posts;
-    let ordered = Actions::of(ordered);
-    Ended {
-        ticket,
-        part: channel_report(job.channel(), machine.number(), refused, ordered),
-        inbox,
+    let way = Way {
+        index,
+        is_live,
+        job,
+        mailbox,
+    };
+    match course {
+        Course::ByNumber(machine) => by_number(context, &way, ticket, machine, refused, posts),
+        Course::AsItComes(run) => as_it_comes(context, &way, ticket, run, refused, posts),
     }
 }
 
-// Offers a message once. Where it comes back, its number joins the list, and the thread gives way, so that the writer
-// may come on.
-fn offer_message<R: Wait, G: Gate>(
+/// Offers a message once. Where it comes back, its number joins the list, and the thread gives way, so that the writer
+/// may come on.
+pub(crate) fn offer_message<R: Wait, G: Gate>(
     context: &Context<'_, R, G>,
     index: u8,
     job: &Job,
@@ -146,8 +144,8 @@ fn offer_message<R: Wait, G: Gate>(
     }
 }
 
-// Offers the end mark until it is kept.
-fn offer_end<R: Wait, G: Gate>(
+/// Offers the end mark until it is kept.
+pub(crate) fn offer_end<R: Wait, G: Gate>(
     context: &Context<'_, R, G>,
     index: u8,
     channel: u16,

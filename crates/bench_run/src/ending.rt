@@ -19,13 +19,14 @@ use mil_trunk::Taker;
 use std::alloc::Global;
 use std::snapshot::Snapshot;
 
-/// What a run began with: its jobs, settings and mailboxes, how many posts may be taken from each inbox, and, for
-/// proofs alone, the inboxes and the sink.
+/// What a run began with: its jobs, settings and mailboxes, whether it is live, how many posts may be taken from each
+/// inbox, and, for proofs alone, the inboxes and the sink.
 #[derive(Drop)]
 pub(crate) struct Before<'s, S> {
     pub(crate) jobs: &'s [Job],
     pub(crate) settings: &'s Settings,
     pub(crate) boxes: &'s [Mailbox],
+    pub(crate) is_live: bool,
     pub(crate) most: u32,
     pub(crate) inboxes: Snapshot<Vec<Inbox>>,
     pub(crate) sink: Snapshot<S>,
@@ -47,7 +48,7 @@ pub(crate) fn conclude<S: Sink>(
     inboxes: Vec<Inbox>,
 ) -> Result<(Report, Vec<Inbox>, S), LiveError<S>>
     requires lawful { AreLawful before.now.jobs.now before.now.settings.now }
-    requires all { IsAllLive before.now.settings.now.queue before.now.most before.now.jobs.now
+    requires all { IsAllLive before.now.settings.now.queue before.now.is_live before.now.most before.now.jobs.now
         before.now.inboxes.value.items inboxes.items parts.items (received taker) }
     requires ends { AreInboxesOf before.now.boxes.now inboxes.items }
     requires logged { IsRunLogged S.taken S.failures before.now.settings.now before.now.sink.value

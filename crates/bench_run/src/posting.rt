@@ -5,7 +5,7 @@ ghost use Rattle.bc_machine.specs.declared.placed.Placed.{Placed};
 ghost use Rattle.bench_settings.specs.Placing.{placed_up_to, IsOrdered};
 ghost use Rattle.bench_mail.specs.Mail.{IsInboxOf, times_empty};
 ghost use Rattle.bench_mail.specs.declared.mailbox.Inbox.{Inbox};
-ghost use Rattle.bench_run.specs.Posted.{IsPosted};
+ghost use Rattle.bench_run.specs.Posted.{IsPosted, TakesPosts};
 ghost use Rattle.job_file.specs.Jobs.{JobState};
 ghost use Rattle.std.specs.Prelude.{◌≡◌, ◌<◌, ◌≤◌, ◌+◌, ◌-◌, ◌^◌, min, ◌++◌, ◌∷◌, [], ℕ, List, IsTrue, IsFalse};
 
@@ -41,6 +41,8 @@ impl Posts {
             → times_empty self.new.inbox ≡ min (times_empty self.old.inbox + 1) (2 ^ 64 - 1) }
         ensures posted { (most : ℕ) (before : Inbox) (job : JobState)
             → IsPosted most before job machine.old self.old → IsPosted most before job machine.new self.new }
+        ensures takes { TakesPosts machine.old machine.new self.old self.new }
+        ensures under_way { IsUnderWay machine.old → IsUnderWay machine.new }
     {
         if machine.number() >= LAST {
             return;

@@ -26,22 +26,23 @@ pub(crate) struct Own {
     pub(crate) rooms: Vec<Room>,
 }
 
-/// All that a run needs, but for its recorder and the lists of its threads. All memory of the threads is taken here. Of
-/// each inbox `most` posts may be taken.
+/// All that a run needs, but for its recorder and the lists of its threads. All memory of the threads is taken here,
+/// but for what lines say by time and by command in a live run. Of each inbox `most` posts may be taken.
 pub(crate) fn ready(
     alloc: Global,
     jobs: &[Job],
     queue: u32,
+    is_live: bool,
     most: u32,
     inboxes: Vec<Inbox>,
 ) -> Result<(Shared, Own), AllocError>
     requires few { length jobs.now ≤ 32 }
     requires most { most ≤ most_posts }
     requires inboxes { length jobs.now ≡ vec_len inboxes }
-    ensures { IfOk result (λ r. IsReady queue jobs.now most inboxes.items r.0.trunk r.0.channels.items r.1) }
+    ensures { IfOk result (λ r. IsReady queue is_live jobs.now most inboxes.items r.0.trunk r.0.channels.items r.1) }
 {
     let bounds = bounds(alloc, jobs, most)?;
-    let rooms = rooms(alloc, jobs, most, inboxes)?;
+    let rooms = rooms(alloc, jobs, is_live, most, inboxes)?;
     let channels = channels(alloc, jobs)?;
     match Trunk::make(alloc, queue, &bounds) {
         Ok((trunk, ticket, taker)) => Ok((

@@ -2,7 +2,7 @@
 ghost use Rattle.bench_settings.specs.Lawful.{AreLawful, most_posts};
 ghost use Rattle.bench_mail.specs.Mail.{IsMadeFor};
 ghost use Rattle.bench_mail.specs.declared.mailbox.Mailbox.{Mailbox};
-ghost use Rattle.bench_run.specs.Live.{AreInboxesOf, HaveMail, RanLive, RanLiveOrLeft, LeavesLive};
+ghost use Rattle.bench_run.specs.Live.{AreInboxesOf, HaveMail, RanLive, RanOrLeftAs, LeavesLive};
 ghost use Rattle.bench_run.specs.Runs.{ArePairs, Ran, RefusesNoneWithRoom, LeavesRunInSink};
 ghost use Rattle.std.specs.Prelude.{◌≡◌, ◌-◌, ◌<◌, ◌≤◌, ◌^◌, length, vec_len, IfOk, IfErr, OnOk, IsTrue};
 
@@ -23,10 +23,12 @@ use std::snapshot::Snapshot;
 use std::sync::Wait;
 use std::thread::Threads;
 
-/// The mailboxes and inboxes of a run, in the order of its jobs, and how many posts may be taken from each.
+/// The mailboxes and inboxes of a run, in the order of its jobs, how many posts may be taken from each, and whether the
+/// run is live: then what lines say by time and by command comes to be due beside the posts.
 struct Mail<'b> {
     boxes: &'b [Mailbox],
     inboxes: Vec<Inbox>,
+    is_live: bool,
     most: u32,
 }
 
@@ -46,23 +48,25 @@ fn run_lawful<'b, R: Threads + Wait + Sync, G: Gate, S: Sink + Drop>(
     requires boxes { length mail.boxes.now ≡ length jobs.now }
     requires inboxes { length jobs.now ≡ vec_len mail.inboxes }
     requires ends { AreInboxesOf mail.boxes.now mail.inboxes.items }
-    ensures { RanLiveOrLeft S.taken S.failures mail.entry.most jobs.now settings.now mail.entry.boxes.now
-        mail.entry.inboxes.items sink result }
+    ensures { RanOrLeftAs mail.entry.is_live S.taken S.failures mail.entry.most jobs.now settings.now
+        mail.entry.boxes.now mail.entry.inboxes.items sink result }
 {
     let Mail {
         boxes,
         inboxes,
+        is_live,
         most,
     } = mail;
     let before = Before {
         jobs,
         settings,
         boxes,
+        is_live,
         most,
         inboxes: Snapshot::of(&inboxes),
         sink: Snapshot::of(&sink),
     };
-    let Ok((shared, own)) = ready(alloc, jobs, settings.queue, most, inboxes) else {
+    let Ok((shared, own)) = ready(alloc, jobs, settings.queue, is_live, most, inboxes) else {
         return Err(LiveError::of_memory(alloc, sink));
     };
     match Recorder::make(
@@ -139,6 +143,7 @@ pub fn run<R: Threads + Wait + Sync, G: Gate, S: Sink + Drop>(
     let mail = Mail {
         boxes: &boxes,
         inboxes,
+        is_live: false,
         most: 0,
     };
     match run_lawful(rt, alloc, jobs, settings, mail, gate, sink) {
@@ -214,6 +219,7 @@ pub fn run_live<R: Threads + Wait + Sync, G: Gate, S: Sink + Drop>(
             let mail = Mail {
                 boxes,
                 inboxes,
+                is_live: true,
                 most: settings.posts,
             };
             return run_lawful(rt, alloc, jobs, settings, mail, gate, sink);

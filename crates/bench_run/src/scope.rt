@@ -10,7 +10,7 @@ use crate::ending::{Before, conclude, stopped};
 use crate::error::LiveError;
 use crate::gate::Gate;
 use crate::ready::Own;
-use crate::threads::{Joined, Offers, join_all, parted, start_all};
+use crate::threads::{Joined, Offers, are_whole, join_all, parted, start_all};
 use crate::writer::{Log, settle, write};
 use bench_mail::Inbox;
 use bench_report::{ChannelReport, Report};
@@ -95,6 +95,10 @@ fn on_threads<'s, E, R: Threads + Wait + Sync, G: Gate, S: Sink + Drop>(
     write(rt, trunk, gate, channels, &mut taker, &mut log, started);
     let joined = join_all(rt, trunk, before, handles, &mut rest, lists.joined);
     if started < jobs.len() {
+        return Err(stopped(alloc, before, log));
+    }
+    // A channel that was cut off has not sent all that its job means.
+    if !are_whole(&joined) {
         return Err(stopped(alloc, before, log));
     }
     let (_, taker) = settle(rt, trunk, gate, channels, rest, taker, &mut log);

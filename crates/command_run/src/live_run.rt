@@ -15,7 +15,7 @@ use ch11_writer::Sink;
 use clap::ArgMatches;
 use command_parts::hosts::{Errors, Host};
 use command_parts::options::{Row, flag, value};
-use command_parts::requests::{Fault, RunRequest, jobs_of};
+use command_parts::requests::{Fault, RunRequest};
 use command_parts::terminals::is_for_people;
 use job_file::Job;
 use std::alloc::{AllocError, Global};
@@ -113,22 +113,6 @@ pub(crate) fn with_posts(settings: Settings, way: Way) -> Settings {
         settings.posts = MOST_POSTS;
     }
     settings
-}
-
-/// The jobs of texts, for a run that goes on like that. A live run takes none with a line by time or by command: what
-/// is posted would move the numbers at which it is due.
-pub(crate) fn jobs_for<'a>(
-    alloc: Global,
-    texts: &[Vec<u8>],
-    way: Way,
-) -> Result<Vec<Job>, Fault<'a>> {
-    let jobs = jobs_of(alloc, texts)?;
-    if way.live && jobs.iter().any(|job| job.has_moments()) {
-        return Err(Fault::Usage(
-            "--live takes no job with a line by time or by command: posted actions would move where it is due",
-        ));
-    }
-    Ok(jobs)
 }
 
 /// Starts what shows messages, where they are to be shown.

@@ -2,9 +2,7 @@
 
 use crate::completed_run::{Completing, additions_in, record_completed, setup_in, start_in};
 use crate::judged_run::{judge_kept, judge_run, rules_of_run};
-use crate::live_run::{
-    Going, Run, begin_showing, end_showing, jobs_for, record, way_of, with_posts,
-};
+use crate::live_run::{Going, Run, begin_showing, end_showing, record, way_of, with_posts};
 use crate::run_line::Request;
 use crate::strict_run::tell_mistakes;
 use bench_complete::Additions;
@@ -19,8 +17,8 @@ use command_judge::checking::strict_verdict;
 use command_parts::dictionaries::signals_in;
 use command_parts::hosts::{Errors, Host};
 use command_parts::requests::{
-    Ending, Fault, RunFiles, RunRequest, ending_of_run, ending_of_settings, read_texts, read_whole,
-    settings_of, told_apart,
+    Ending, Fault, RunFiles, RunRequest, ending_of_run, ending_of_settings, jobs_of, read_texts,
+    read_whole, settings_of, told_apart,
 };
 use command_parts::streams::{Printable, on_stream, print_to_output};
 use std::alloc::{AllocError, Global};
@@ -58,7 +56,7 @@ where
     let setup = setup_text(rt, setup_in(completing))?;
     let texts = read_texts(rt, &request.jobs)?;
     let additions = additions_in(rt.alloc(), completing, start, &setup, request.version)?;
-    let jobs = jobs_for(rt.alloc(), &texts, way)?;
+    let jobs = jobs_of(rt.alloc(), &texts)?;
     let settings = with_posts(settings_of(request, prologue), way);
     let files = RunFiles::begin(rt, request)?;
     if let Err(refused) = judge(&jobs, &settings) {

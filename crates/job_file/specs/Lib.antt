@@ -14,6 +14,7 @@ pub mod Drafts
 pub mod ChannelJobs
 pub mod Timed
 pub mod Resolving
+pub mod Ends
 pub mod Spelled
 pub mod Reading
 pub mod Faults

@@ -1,10 +1,12 @@
 //! The controller of a job under way, with what its lines say by time and by command.
 ghost use Rattle.bc_machine.specs.Planning.{next_number, with_fault};
-ghost use Rattle.bc_machine.specs.Posting.{at_next, with_placed};
-ghost use Rattle.bc_machine.specs.Running.{HasEnded, stepped};
+ghost use Rattle.bc_machine.specs.Posting.{at_next, with_placed, with_room};
+ghost use Rattle.bc_machine.specs.Running.{HasEnded, started, stepped};
 ghost use Rattle.bc_machine.specs.UnderWay.{IsUnderWay, TellsStep};
 ghost use Rattle.bc_machine.specs.declared.Stepped.TheVariants.{Halted};
-ghost use Rattle.job_file.specs.Jobs.{job_in};
+ghost use Rattle.frame_asm.specs.Shapes.{code_of_tree};
+ghost use Rattle.job_file.specs.Jobs.{job_in, tree_in};
+ghost use Rattle.job_file.specs.Meaning.{bus_of};
 ghost use Rattle.job_file.specs.Resolving.{standing, turns_left, made_behind, whens_left, IsKept, IsWithin, IsAtEnd};
 ghost use Rattle.job_file.specs.Resolving.{MayPlan, HasPlanned};
 ghost use Rattle.job_file.specs.Timed.{arranged, begun_beside, coming_met, done_at, due_now, faulted, found_in};
@@ -107,8 +109,8 @@ impl JobRun {
         }
     }
 
-    /// Places the first action that is due at the next number, and gives it; None where none is due in front of the next
-    /// message, or no message comes next. It takes no memory.
+    /// Places the first action that is due at the next number, and gives it; None where none is due in front of the
+    /// next message, or no message comes next. It takes no memory.
     pub fn do_first(&mut self) -> Option<Due>
         requires { IsKept self.old }
         ensures done { standing self.new ≡ done_at (due_now (standing self.old)) (standing self.old) }
@@ -336,6 +338,24 @@ fn planned_first(alloc: Global, job: &Job) -> Result<(Plan, Occasions), AllocErr
     Ok((job.plan().copy()?, Occasions::none(alloc)))
 }
 
+/// The controller of a job before any message under this plan, where these actions are placed and there is room for so
+/// many more. It fails for want of memory alone.
+fn machine_with_room(
+    alloc: Global,
+    job: &Job,
+    plan: Plan,
+    placed: &Actions,
+    count: u32,
+) -> Result<Machine, AllocError>
+    ensures made { IfOk result (λ m. m
+        ≡ with_room (started (code_of_tree (tree_in job.now)) (bus_of (job_in job.now)) plan placed.now) count) }
+    ensures under_way { IfOk result (λ m. IsUnderWay m) }
+{
+    let mut machine = job.machine_under(alloc, plan, placed)?;
+    machine.room(count)?;
+    Ok(machine)
+}
+
 impl JobRun {
     /// The controller of a job before any message, where these actions are placed, these others are still to come, and
     /// there is room for so many more. It fails for want of memory alone.
@@ -362,12 +382,11 @@ impl JobRun {
         };
         // Its faults are in their ranges.
         let _said = job.timed();
+        let whens = awaiting(alloc, whens)?;
         let (plan, faults) = planned_first(alloc, job)?;
-        let mut machine = job.machine_under(alloc, plan, placed)?;
-        machine.room(count)?;
         Ok(JobRun {
-            machine,
-            whens: awaiting(alloc, whens)?,
+            machine: machine_with_room(alloc, job, plan, placed, count)?,
+            whens,
             faults,
             origin: job.start(),
         })

@@ -16,8 +16,9 @@ ghost use Rattle.job_file.specs.Spelled.{job_with};
 ghost use Rattle.job_file.specs.Timed.{says_nothing};
 ghost use Rattle.job_file.specs.TimedLines.{nothing_yet, timed_inserts};
 ghost use Rattle.mil_bus.specs.Addresses.{is_fit};
+ghost use Rattle.mil_bus.specs.Exchange.{now_of};
 ghost use Rattle.std.specs.List.{list_all};
-ghost use Rattle.std.specs.Prelude.{◌≡◌, ◌+◌, ◌≤◌, [], true, false, not, Some, IfOk};
+ghost use Rattle.std.specs.Prelude.{◌≡◌, ◌+◌, ◌≤◌, ◌^◌, [], true, false, not, Some, IfOk};
 
 use crate::drafts::Draft;
 use crate::scripts::Script;
@@ -231,24 +232,39 @@ impl Job {
         ensures of_job { IfOk result (λ r. IsOf (job_in self) self.actions r.1) }
         ensures told { IfOk result (λ r. IsLatestOutcome r.1) }
     {
-        let program = self.program.copy()?;
-        let plan = self.plan.copy()?;
+        match self.beginning(alloc) {
+            Ok((program, plan, bus)) => {
+                let machine = Machine::start(program, bus, plan, self.actions);
+                let rest = Job {
+                    channel: self.channel,
+                    start: self.start,
+                    addresses: self.addresses,
+                    actions: Actions::new(alloc),
+                    plan: self.plan,
+                    program: self.program,
+                    script: self.script,
+                    own: self.own,
+                    timed: self.timed,
+                };
+                Ok((rest, machine))
+            }
+            Err(error) => Err(error),
+        }
+    }
+
+    /// What a controller of the job begins with, besides actions: its program and its plan once more, and a bus with new
+    /// terminals. It fails for want of memory alone.
+    fn beginning(&self, alloc: Global) -> Result<(Program, Plan, Bus), AllocError>
+        ensures program { IfOk result (λ r. r.0 ≡ code_of_tree (tree_in self.now)) }
+        ensures plan { IfOk result (λ r. r.1 ≡ self.now.plan) }
+        ensures bus { IfOk result (λ r. r.2 ≡ bus_of (job_in self.now)) }
+        ensures now { IfOk result (λ r. now_of r.2 ≤ 2 ^ 47) }
+    {
         let Ok(bus) = Bus::make(alloc, self.start, self.addresses.as_slice()) else {
             return Err(AllocError);
         };
-        let machine = Machine::start(program, bus, plan, self.actions);
-        let rest = Job {
-            channel: self.channel,
-            start: self.start,
-            addresses: self.addresses,
-            actions: Actions::new(alloc),
-            plan: self.plan,
-            program: self.program,
-            script: self.script,
-            own: self.own,
-            timed: self.timed,
-        };
-        Ok((rest, machine))
+        let plan = self.plan.copy()?;
+        Ok((self.program.copy()?, plan, bus))
     }
 
     /// The same job with other actions and another plan, where its own actions were those that its lines place by

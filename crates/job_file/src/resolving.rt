@@ -1,6 +1,7 @@
 //! The job by numbers alone of a job that has lines by time or by command: its controller is run once.
 ghost use Rattle.frame_asm.specs.Shapes.{code_of_tree};
 ghost use Rattle.frame_load.specs.Budget.{worst_messages};
+ghost use Rattle.job_file.specs.Ends.{ComesTo};
 ghost use Rattle.job_file.specs.Jobs.{own_inserts, said_in, tree_in, job_in};
 ghost use Rattle.job_file.specs.Meaning.{records, records_in};
 ghost use Rattle.job_file.specs.Resolving.{standing, IsKept, MayPlan};
@@ -11,7 +12,9 @@ ghost use Rattle.std.specs.Prelude.{◌≡◌, ◌+◌, ◌≤◌, ◌++◌, [],
 use crate::job_run::JobRun;
 use crate::jobs::Job;
 use crate::laws::job_runs;
+use crate::timed::TimedAction;
 use bc_machine::{Actions, Ended};
+use mil_line::Plan;
 use std::alloc::{AllocError, Global};
 
 /// These actions, and others behind them.
@@ -22,6 +25,45 @@ fn joined(mut first: Actions, others: &Actions) -> Result<Actions, AllocError>
         first.push(others.get(place))?;
     }
     Ok(first)
+}
+
+/// Runs a job's controller once to its end, where these actions are placed and these others come to be due. It fails for
+/// want of memory alone.
+fn run_to_end(
+    alloc: Global,
+    job: &Job,
+    placed: &Actions,
+    whens: &[TimedAction],
+) -> Result<Ended, AllocError>
+    ensures { IfOk result (λ e. ComesTo (record (job_in job.now) { actions = placed.now })
+        (record job.now.timed { whens = whens.now }) (e.placed ++ e.posted) e.plan) }
+{
+    let mut run = JobRun::begin(alloc, job, placed, whens, 0)?;
+    run.go()?;
+    Ok(run.end())
+}
+
+/// The actions and the plan at the end of a job's run, with what its lines say by time and by command. It fails for want
+/// of memory alone.
+fn found_by_run(alloc: Global, job: &Job) -> Result<(Actions, Plan), AllocError>
+    ensures { IfOk result (λ r. ComesTo (job_in job.now) job.now.timed r.0 r.1) }
+{
+    let Ended {
+        plan,
+        placed,
+        posted,
+    } = run_to_end(alloc, job, job.actions(), job.timed().whens())?;
+    Ok((joined(placed, &posted)?, plan))
+}
+
+/// The plan at the end of a job's run where these actions are placed, whatever its lines say of them by time and by
+/// command. It fails for want of memory alone.
+fn plan_of_run(alloc: Global, job: &Job, placed: &Actions) -> Result<Plan, AllocError>
+    requires { job.now.timed.is_timed ≡ true }
+    ensures { IfOk result (λ plan. plan ≡ plan_under (job_in job.now) job.now.timed placed.now) }
+{
+    let Ended { plan, .. } = run_to_end(alloc, job, placed, &[])?;
+    Ok(plan)
 }
 
 /// The job by numbers alone that a job with lines by time and by command means: its controller is run once, without
@@ -47,14 +89,10 @@ pub(crate) fn resolve(alloc: Global, base: Job) -> Result<Job, AllocError>
     if base.timed().is_empty() {
         return Ok(base.without_lines(alloc));
     }
-    let mut run = JobRun::begin(alloc, &base, base.actions(), base.timed().whens(), 0)?;
-    run.go()?;
-    let Ended {
-        plan,
-        placed,
-        posted,
-    } = run.end();
-    Ok(base.by_number(joined(placed, &posted)?, plan))
+    match found_by_run(alloc, &base) {
+        Ok((actions, plan)) => Ok(base.by_number(actions, plan)),
+        Err(error) => Err(error),
+    }
 }
 
 impl Job {
@@ -67,10 +105,10 @@ impl Job {
         if !self.finds_faults() {
             return Ok(self);
         }
-        let mut run = JobRun::begin(alloc, &self, placed, &[], 0)?;
-        run.go()?;
-        let Ended { plan, .. } = run.end();
-        Ok(self.with_plan(plan))
+        match plan_of_run(alloc, &self, placed) {
+            Ok(plan) => Ok(self.with_plan(plan)),
+            Err(error) => Err(error),
+        }
     }
 
     /// The job's controller before any message, with what its lines say by time and by command still to come, where so

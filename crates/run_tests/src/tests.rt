@@ -8,6 +8,7 @@ mod hosts;
 mod live;
 mod live_hosts;
 mod live_many;
+mod live_moments;
 mod mailboxes;
 mod many;
 mod posting;

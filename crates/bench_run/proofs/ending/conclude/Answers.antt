@@ -4,7 +4,7 @@ use Rattle.bench_report.specs.Reports.{ChannelPart, RunReport}
 use Rattle.bench_settings.specs.Lawful.{channels_of, format_of}
 use Rattle.bench_run.specs.Runs.{Ran, IsCut}
 use Rattle.bench_run.specs.Writer.{IsLogged}
-use Rattle.bench_run.specs.Live.{AreLive}
+use Rattle.bench_run.specs.Live.{AreRunAs}
 use Rattle.bench_run.proofs.Endings.{none_refused}
 use Rattle.bench_run.proofs.Concluding.{of_all, count_fits, ran, cut, rose}
 use Rattle.bench_run.proofs.Lives.{lives_channels, lives_lawful, lives_given}
@@ -17,6 +17,7 @@ make-report-requires g c =
     let jobs = c.args.before.now.jobs.now in
     let s = c.args.before.now.settings.now in
     let most = c.args.before.now.most in
+    let is_live = c.args.before.now.is_live in
     let olds = c.args.before.now.inboxes.value.items in
     let news = c.args.inboxes.items in
     let before = c.args.before.now.sink.value in
@@ -28,8 +29,8 @@ make-report-requires g c =
     let lives = c.requires.all.lives in
     let live = c.requires.all.live in
     let all = c.requires.all.all in
-    let lawful = lives_lawful most jobs olds news parts lives live s c.requires.lawful in
-    let logged = subst (λ cs. IsLogged taken failures (format_of s) s.prologue.items before cs got old whole) (sym (lives_channels most jobs olds news parts lives live)) c.requires.logged in
+    let lawful = lives_lawful is_live most jobs olds news parts lives live s c.requires.lawful in
+    let logged = subst (λ cs. IsLogged taken failures (format_of s) s.prologue.items before cs got old whole) (sym (lives_channels is_live most jobs olds news parts lives live)) c.requires.logged in
     let of = of_all taken failures most jobs lives s before parts got old whole lawful c.version_fits.ensures all logged r
     (c.finish-ended.ensures.same (format_of s) s.prologue.items (taken before) (channels_of lives) logged.items logged.recording) in
     let fits = count_fits taken failures most jobs lives s before parts got old whole lawful c.version_fits.ensures all logged r of in
@@ -42,6 +43,7 @@ returns-in-Ok g c =
     let jobs = c.args.before.now.jobs.now in
     let s = c.args.before.now.settings.now in
     let most = c.args.before.now.most in
+    let is_live = c.args.before.now.is_live in
     let olds = c.args.before.now.inboxes.value.items in
     let news = c.args.inboxes.items in
     let before = c.args.before.now.sink.value in
@@ -53,8 +55,8 @@ returns-in-Ok g c =
     let lives = c.requires.all.lives in
     let live = c.requires.all.live in
     let all = c.requires.all.all in
-    let lawful = lives_lawful most jobs olds news parts lives live s c.requires.lawful in
-    let logged = subst (λ cs. IsLogged taken failures (format_of s) s.prologue.items before cs got old whole) (sym (lives_channels most jobs olds news parts lives live)) c.requires.logged in
+    let lawful = lives_lawful is_live most jobs olds news parts lives live s c.requires.lawful in
+    let logged = subst (λ cs. IsLogged taken failures (format_of s) s.prologue.items before cs got old whole) (sym (lives_channels is_live most jobs olds news parts lives live)) c.requires.logged in
     let of = of_all taken failures most jobs lives s before parts got old whole lawful c.version_fits.ensures all logged r
     (c.finish-ended.ensures.same (format_of s) s.prologue.items (taken before) (channels_of lives) logged.items logged.recording) in
     let done = ran taken failures most jobs lives s before parts got old whole lawful c.version_fits.ensures all logged
@@ -63,12 +65,12 @@ returns-in-Ok g c =
     record {
       ran = record {
         lives = lives;
-        live = subst (λ (ps : List ChannelPart). AreLive most jobs olds news ps lives) (ap (λ (z : RunReport). z.channels) (sym report)) live;
+        live = subst (λ (ps : List ChannelPart). AreRunAs is_live most jobs olds news ps lives) (ap (λ (z : RunReport). z.channels) (sym report)) live;
         ran = subst (λ (z : RunReport × _). Ran taken most jobs lives s before z.0 z.1) (λ i. (sym report i, sym c.into_sink-sink.ensures i)) done;
       };
       ends = c.requires.ends;
       room = λ room.
-          rw c.make-report.ensures (none_refused s.queue most jobs lives parts c.requires.lawful.distinct (lives_given most jobs olds news parts lives live) all.counted room);
+          rw c.make-report.ensures (none_refused s.queue most jobs lives parts c.requires.lawful.distinct (lives_given is_live most jobs olds news parts lives live) all.counted room);
       refused = tt;
       back = tt;
     }
@@ -80,6 +82,7 @@ returns g c =
     let jobs = c.args.before.now.jobs.now in
     let s = c.args.before.now.settings.now in
     let most = c.args.before.now.most in
+    let is_live = c.args.before.now.is_live in
     let olds = c.args.before.now.inboxes.value.items in
     let news = c.args.inboxes.items in
     let before = c.args.before.now.sink.value in
@@ -91,8 +94,8 @@ returns g c =
     let lives = c.requires.all.lives in
     let live = c.requires.all.live in
     let all = c.requires.all.all in
-    let lawful = lives_lawful most jobs olds news parts lives live s c.requires.lawful in
-    let logged = subst (λ cs. IsLogged taken failures (format_of s) s.prologue.items before cs got old whole) (sym (lives_channels most jobs olds news parts lives live)) c.requires.logged in
+    let lawful = lives_lawful is_live most jobs olds news parts lives live s c.requires.lawful in
+    let logged = subst (λ cs. IsLogged taken failures (format_of s) s.prologue.items before cs got old whole) (sym (lives_channels is_live most jobs olds news parts lives live)) c.requires.logged in
     let of = of_all taken failures most jobs lives s before parts got old whole lawful c.version_fits.ensures all logged r
     (c.finish-ended.ensures.same (format_of s) s.prologue.items (taken before) (channels_of lives) logged.items logged.recording) in
     let part = cut taken failures most jobs lives s before parts got old whole lawful c.version_fits.ensures all logged r c.in-Err.fault.taken of c.in-Err.ensures.fault in
@@ -106,7 +109,7 @@ returns g c =
         lawful = c.requires.lawful;
         failed = subst (λ x. failures before < failures x) (sym c.into_sink-sink.ensures) up;
         lives = lives;
-        live = subst (λ (ps : List ChannelPart). AreLive most jobs olds news ps lives) (ap (λ (z : RunReport). z.channels) (sym report)) live;
+        live = subst (λ (ps : List ChannelPart). AreRunAs is_live most jobs olds news ps lives) (ap (λ (z : RunReport). z.channels) (sym report)) live;
         cut = subst (λ (z : RunReport × _). IsCut taken most jobs lives s before z.0 c.in-Err.fault.taken z.1) (λ i. (sym report i, sym c.into_sink-sink.ensures i)) part;
       };
       back = c.requires.ends;

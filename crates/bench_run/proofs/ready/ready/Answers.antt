@@ -28,5 +28,6 @@ returns-in-Ok c =
       rooms = c.in_ok-rooms.ensures.rooms;
       inboxes_are = c.in_ok-rooms.ensures.inboxes;
       most_are = c.in_ok-rooms.ensures.most;
+      are_live = c.in_ok-rooms.ensures.live;
       channels_are = c.in_ok-channels.ensures;
     }

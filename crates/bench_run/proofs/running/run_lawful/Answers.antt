@@ -20,7 +20,7 @@ returns-in_default g c =
       ends = tt;
       room = tt;
       refused =
-          subst (λ (z : RunError _ × List Inbox). LeavesLate taken g.S.Sink.failures c.args.mail.most jobs s c.args.mail.inboxes.items c.args.sink z.0 z.1) (λ i. (sym e.fault i, sym e.inboxes i))
+          subst (λ (z : RunError _ × List Inbox). LeavesLate c.args.mail.is_live taken g.S.Sink.failures c.args.mail.most jobs s c.args.mail.inboxes.items c.args.sink z.0 z.1) (λ i. (sym e.fault i, sym e.inboxes i))
           (record { none = λ i. []; memory = record { lawful = c.requires.lawful; items = []; count = 0; part = nothing_taken (taken c.args.sink) (written_file (format_of s) s.prologue.items []) } });
       back = no_inboxes c.args.mail.boxes.now _ e.inboxes;
     }
@@ -32,7 +32,7 @@ run_ready-requires-clause-begins g c κs within =
       lawful = c.requires.lawful;
       mailboxes = c.requires.boxes;
       ends = ends;
-      ready = subst (λ (z : List Inbox × List ℕ). IsReady c.args.settings.now.queue c.args.jobs.now c.args.mail.most z.0 c.in-Ok.shared.trunk z.1 c.in-Ok.own) (λ i. ((sym c.of.ensures i).items, sym c.deref-in-Ok-make-2.ensures.value i)) c.in-Ok.ensures;
+      ready = subst (λ (z : List Inbox × List ℕ). IsReady c.args.settings.now.queue c.args.mail.is_live c.args.jobs.now c.args.mail.most z.0 c.in-Ok.shared.trunk z.1 c.in-Ok.own) (λ i. ((sym c.of.ensures i).items, sym c.deref-in-Ok-make-2.ensures.value i)) c.in-Ok.ensures;
       logged = log_moved g.S.Sink.taken g.S.Sink.failures (format_of c.args.settings.now) c.args.settings.now.prologue.items _ _ _ _ _ (c.deref-in-Ok-make.ensures.value ∙ c.in-Ok.ensures.channels_are) c.begin-log.ensures;
     }
 
@@ -47,7 +47,7 @@ returns g c =
       ends = tt;
       room = tt;
       refused =
-          subst (λ (z : RunError _ × List Inbox). LeavesLate taken g.S.Sink.failures c.args.mail.most jobs s c.args.mail.inboxes.items c.args.sink z.0 z.1) (λ i. (sym e.fault i, sym e.inboxes i))
+          subst (λ (z : RunError _ × List Inbox). LeavesLate c.args.mail.is_live taken g.S.Sink.failures c.args.mail.most jobs s c.args.mail.inboxes.items c.args.sink z.0 z.1) (λ i. (sym e.fault i, sym e.inboxes i))
           (record { none = λ i. []; memory = record { lawful = c.requires.lawful; items = []; count = 0; part = rw c.in-Err.ensures.back (nothing_taken (taken c.args.sink) (written_file (format_of s) s.prologue.items [])) } });
       back = no_inboxes c.args.mail.boxes.now _ e.inboxes;
     }

@@ -16,7 +16,7 @@ invariant-loop-handle g l =
       low : (t : ℕ) → t < done → has (tags_of l.rest) t ≡ true;
       high : (t : ℕ) → has (tags_of l.fn.rest) t ≡ true → has (tags_of l.rest) t ≡ true;
       capacity : vec_len l.fn.handles ≤ vec_capacity l.joined;
-      promised : (k : ℕ) (h : _) → slice_get (into_iter_items rest) k ≡ Some h → IsPromised l.trunk (bounds_of l.fn.rest) l.before.jobs.now l.before.most l.before.boxes.now l.before.inboxes.value.items (done + k) h.promise;
-      ended : AreEnded (capacity_of l.trunk) (sent l.rest) l.before.jobs.now l.before.most l.before.boxes.now l.before.inboxes.value.items l.joined.items;
+      promised : (k : ℕ) (h : _) → slice_get (into_iter_items rest) k ≡ Some h → IsPromised l.trunk (bounds_of l.fn.rest) l.before.is_live l.before.jobs.now l.before.most l.before.boxes.now l.before.inboxes.value.items (done + k) h.promise;
+      ended : AreEnded (capacity_of l.trunk) (sent l.rest) l.before.is_live l.before.jobs.now l.before.most l.before.boxes.now l.before.inboxes.value.items l.joined.items;
       later : (t : ℕ) → done ≤ t → with_tag index_of t (sent l.rest) ≡ [];
     }

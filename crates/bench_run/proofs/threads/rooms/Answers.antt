@@ -34,6 +34,7 @@ loop-inbox-preserved c =
           ∙ ap (λ i. map (λ (r : Room). r.posts.inbox) c.loop-inbox.rooms.items ++ i ∷ into_iter_items c.next.new.self) c.in_ok-room_for.ensures.inbox
           ∙ ap (λ l. map (λ (r : Room). r.posts.inbox) c.loop-inbox.rooms.items ++ l) (sym step.0) ∙ was.inboxes;
       most = rw pushed.items (all_more (λ (r : Room). r.posts.left ≡ c.args.most) c.loop-inbox.rooms.items room was.most c.in_ok-room_for.ensures.most);
+      live = rw pushed.items (all_more (λ (r : Room). r.is_live ≡ c.args.is_live) c.loop-inbox.rooms.items room was.live c.in_ok-room_for.ensures.live);
     }
 
 pub returns-clause-rooms : goal.returns-clause-rooms

@@ -14,4 +14,5 @@ invariant-loop-inbox l =
       each : (k : ℕ) (room : Room) → slice_get l.rooms.items k ≡ Some room → (job : _) → slice_get l.jobs k ≡ Some job → IsRoom job room;
       inboxes : map (λ (room : Room). room.posts.inbox) l.rooms.items ++ into_iter_items rest ≡ l.fn.inboxes.items;
       most : AllByRecursion (λ (room : Room). room.posts.left ≡ l.most) l.rooms.items;
+      live : AllByRecursion (λ (room : Room). room.is_live ≡ l.is_live) l.rooms.items;
     }

@@ -34,6 +34,7 @@ loop-room-init g c =
           let place : k ≡ vec_len c.args.handles + k = omega (arith, none, empty) in (
             subst (λ m. slice_get c.args.before.now.inboxes.value.items m ≡ Some room.posts.inbox) place (mapped_at (λ (x : Room). x.posts.inbox) c.args.rooms.items c.args.before.now.inboxes.value.items k room c.requires.inboxes_are at_room),
             all_at (λ (x : Room). x.posts.left ≡ c.args.before.now.most) c.args.rooms.items k room c.requires.most at_room,
+            all_at (λ (x : Room). x.is_live ≡ c.args.before.now.is_live) c.args.rooms.items k room c.requires.live at_room,
           );
       promised = λ k h at. absurd (none_at c.args.handles.items k h c.requires.handles.0 at);
     }
@@ -53,7 +54,7 @@ start-requires-clause-begins g c κs within =
     let at : slice_get jobs i ≡ Some c.index-jobs-index.result = slice_get_read jobs (length jobs) i c.index-jobs-index.result refl lt c.index-jobs-index.is in
     let at_box : slice_get boxes i ≡ Some c.index-boxes-index.result = slice_get_read boxes (length boxes) i c.index-boxes-index.result refl lt_box c.index-boxes-index.is in
     let room = row_first (λ k room. (job : JobState) → slice_get jobs (n + k) ≡ Some job → IsRoom job room) _ _ c.in-Some.room step.0 c.loop-room.invariant.rooms in
-    let inbox = row_first (λ k room. (slice_get inboxes (n + k) ≡ Some room.posts.inbox) × (room.posts.left ≡ c.args.before.now.most)) _ _ c.in-Some.room step.0 c.loop-room.invariant.inboxes in
+    let inbox = row_first (λ k room. (slice_get inboxes (n + k) ≡ Some room.posts.inbox) × (room.posts.left ≡ c.args.before.now.most) × (room.is_live ≡ c.args.before.now.is_live)) _ _ c.in-Some.room step.0 c.loop-room.invariant.inboxes in
     record {
       ours = part.tickets.1;
       unsent = part.sent.1;
@@ -81,7 +82,7 @@ loop-room-preserved g c =
     let boxes = c.args.before.now.boxes.now in
     let lt_box : c.len-index.result < length boxes = omega (arith, lt, c.requires.boxes) in
     let at_box : slice_get boxes c.len-index.result ≡ Some c.index-boxes-index.result = slice_get_read boxes (length boxes) c.len-index.result c.index-boxes-index.result refl lt_box c.index-boxes-index.is in
-    let first = row_first (λ k room. (slice_get inboxes (n + k) ≡ Some room.posts.inbox) × (room.posts.left ≡ c.args.before.now.most)) _ _ c.in-Some.room step.0 was.inboxes in
+    let first = row_first (λ k room. (slice_get inboxes (n + k) ≡ Some room.posts.inbox) × (room.posts.left ≡ c.args.before.now.most) × (room.is_live ≡ c.args.before.now.is_live)) _ _ c.in-Some.room step.0 was.inboxes in
     let here : n + 0 ≡ n = omega arith in
     record {
       ours = (part.tickets.0, part.sent.0, part.bounds.0 ∙ was.ours.2);
@@ -91,18 +92,20 @@ loop-room-preserved g c =
       rooms = λ k room at_room job at_job. row_rest (λ i x. (j : JobState) → slice_get jobs (n + i) ≡ Some j → IsRoom j x) _ _ c.in-Some.room step.0 was.rooms k room at_room job
           (let more : vec_len c.push_reserved.new.self + k ≡ n + suc k = omega (arith, pushed.len) in subst (λ m. slice_get jobs m ≡ Some job) more at_job);
       inboxes = λ k room at_room.
-          let next = row_rest (λ i x. (slice_get inboxes (n + i) ≡ Some x.posts.inbox) × (x.posts.left ≡ c.args.before.now.most)) _ _ c.in-Some.room step.0 was.inboxes k room at_room in
+          let next = row_rest (λ i x. (slice_get inboxes (n + i) ≡ Some x.posts.inbox) × (x.posts.left ≡ c.args.before.now.most) × (x.is_live ≡ c.args.before.now.is_live)) _ _ c.in-Some.room step.0 was.inboxes k room at_room in
           let more : n + suc k ≡ vec_len c.push_reserved.new.self + k = omega (arith, pushed.len) in (
             subst (λ m. slice_get inboxes m ≡ Some room.posts.inbox) more next.0,
             next.1,
+            next.2,
           );
-      promised = row_push (λ k h. IsPromised c.args.context.now.trunk.now (bounds_of c.args.rest.now) jobs c.args.before.now.most c.args.before.now.boxes.now c.args.before.now.inboxes.value.items k h.promise) n c.loop-room.handles.items c.push_reserved.new.self.items c.in-Some-start.handle
+      promised = row_push (λ k h. IsPromised c.args.context.now.trunk.now (bounds_of c.args.rest.now) c.args.before.now.is_live jobs c.args.before.now.most c.args.before.now.boxes.now c.args.before.now.inboxes.value.items k h.promise) n c.loop-room.handles.items c.push_reserved.new.self.items c.in-Some-start.handle
           long pushed.items was.promised
           (record {
             trunk_is = start.trunk_is;
             index_is = start.index_is ∙ is;
             job_is = subst (λ m. slice_get jobs m ≡ Some c.index-jobs-index.result) is at ∙ ap (λ (j : JobState). Some j) (sym start.job_is);
             most_is = start.most_is ∙ first.1;
+            is_live_is = start.is_live_is ∙ first.2;
             box_is = subst (λ m. slice_get boxes m ≡ Some c.index-boxes-index.result) is at_box ∙ ap (λ (b : Mailbox). Some b) (sym start.box_is);
             inbox_is = subst (λ m. slice_get inboxes m ≡ Some c.in-Some.room.posts.inbox) here first.0 ∙ ap (λ (i : Inbox). Some i) (sym start.inbox_is);
             tags = subst (λ (y : Ticket Entry × ℕ). HasOnly y.1 (tags_of y.0)) (λ i. (sym start.ticket_is i, is i)) part.tags;

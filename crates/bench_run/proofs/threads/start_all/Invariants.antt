@@ -14,6 +14,6 @@ invariant-loop-room g l =
       tags : (t : ℕ) → t < 64 → done ≤ t → has (tags_of l.rest) t ≡ true;
       capacity : length l.before.jobs.now ≤ vec_capacity l.handles;
       rooms : (k : ℕ) (room : _) → slice_get (into_iter_items rest) k ≡ Some room → (job : _) → slice_get l.before.jobs.now (done + k) ≡ Some job → IsRoom job room;
-      inboxes : (k : ℕ) (room : _) → slice_get (into_iter_items rest) k ≡ Some room → (slice_get l.before.inboxes.value.items (done + k) ≡ Some room.posts.inbox) × (room.posts.left ≡ l.before.most);
-      promised : ArePromised l.context.trunk.now (bounds_of l.fn.rest) l.before.jobs.now l.before.most l.before.boxes.now l.before.inboxes.value.items l.handles.items;
+      inboxes : (k : ℕ) (room : _) → slice_get (into_iter_items rest) k ≡ Some room → (slice_get l.before.inboxes.value.items (done + k) ≡ Some room.posts.inbox) × (room.posts.left ≡ l.before.most) × (room.is_live ≡ l.before.is_live);
+      promised : ArePromised l.context.trunk.now (bounds_of l.fn.rest) l.before.is_live l.before.jobs.now l.before.most l.before.boxes.now l.before.inboxes.value.items l.handles.items;
     }
