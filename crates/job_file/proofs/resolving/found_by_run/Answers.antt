@@ -13,8 +13,8 @@ returns c =
     let plan = c.in_ok-plan.field-0.plan in
     let whens = c.whens.ensures ∙ ap (λ (t : Timed). t.whens) c.timed.ensures.value in
     let is : ComesTo (job_in job) job.timed all plan =
-        subst (λ (ws : List TimedAction). ComesTo (job_in job) (record job.timed { whens = ws }) all plan) whens
-        (subst (λ (ps : List Placed). ComesTo (record (job_in job) { actions = ps }) (record job.timed { whens = c.whens.result.now }) all plan) c.actions.ensures.value c.in_ok-plan.ensures) in
+    subst (λ (ws : List TimedAction). ComesTo (job_in job) (record job.timed { whens = ws }) all plan) whens
+    (subst (λ (ps : List Placed). ComesTo (record (job_in job) { actions = ps }) (record job.timed { whens = c.whens.result.now }) all plan) c.actions.ensures.value c.in_ok-plan.ensures) in
     record {
       last = is.last;
       end = is.end;
