@@ -9,7 +9,7 @@ const SHOWN: usize = 72;
 
 /// A line of a job, and what came of what it says.
 #[derive(Clone, Copy, Debug)]
-pub(crate) struct Line {
+pub(crate) struct LineTrace {
     /// Its number in the text, counted from 1.
     pub(crate) number: u64,
     /// Whether it came to be due.
@@ -20,10 +20,10 @@ pub(crate) struct Line {
     pub(crate) first: u32,
 }
 
-impl Line {
+impl LineTrace {
     /// A line before any message.
-    pub(crate) fn new(number: u64, is_due: bool) -> Line {
-        Line {
+    pub(crate) fn new(number: u64, is_due: bool) -> LineTrace {
+        LineTrace {
             number,
             is_due,
             left_out: 0,
@@ -129,7 +129,7 @@ fn behind_lines(text: &[u8], count: u64) -> &[u8] {
 pub(crate) fn odd_lines(
     alloc: Global,
     text: &[u8],
-    lines: &[Line],
+    lines: &[LineTrace],
 ) -> Result<Vec<Mistake>, AllocError> {
     let mut found = Vec::new(alloc);
     let mut rest = text;

@@ -7,7 +7,7 @@ ghost use Rattle.job_file.specs.Timed.{says_nothing};
 ghost use Rattle.std.specs.Prelude.{◌≡◌, ◌<◌, [], true, Ok, IfOk};
 
 use crate::mistakes::Mistake;
-use crate::odd_lines::{Line, odd_lines};
+use crate::odd_lines::{LineTrace, odd_lines};
 use crate::origins::{Origin, Origins};
 use bc_machine::{Actions, Stepped};
 use job_file::{Due, Job, JobRun, SaidLines, said_lines};
@@ -36,16 +36,16 @@ struct Trace {
     /// The places of the faults that are due at a message, among those of all lines.
     due: Vec<usize>,
     /// The lines with actions by time or by command, and those that plan faults, in the order of the text.
-    moments: Vec<Line>,
-    faults: Vec<Line>,
+    moments: Vec<LineTrace>,
+    faults: Vec<LineTrace>,
     origins: Origins,
 }
 
 /// Lines of these numbers, as they are before any message.
-fn lines_of(alloc: Global, numbers: &[u64], are_due: bool) -> Result<Vec<Line>, AllocError> {
+fn lines_of(alloc: Global, numbers: &[u64], are_due: bool) -> Result<Vec<LineTrace>, AllocError> {
     let mut lines = Vec::new(alloc);
     for number in numbers {
-        lines.push(Line::new(*number, are_due))?;
+        lines.push(LineTrace::new(*number, are_due))?;
     }
     Ok(lines)
 }
@@ -132,7 +132,7 @@ impl Trace {
 /// The faults at these places among those of all lines are due at the message of a number: the first four of them are
 /// planned for it.
 fn note_faults(
-    lines: &mut [Line],
+    lines: &mut [LineTrace],
     origins: &mut Vec<Origin>,
     number: u32,
     due: &[usize],

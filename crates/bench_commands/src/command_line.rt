@@ -7,7 +7,7 @@ use command_judge::{checking, judging};
 use command_listing::{dumping, statistics};
 use command_material::{comparing, cutting};
 use command_parts::context::{Context, context_in, context_option};
-use command_parts::requests::Fault;
+use command_parts::requests::CommandFault;
 use command_reproduce::reproducing;
 use command_step::{assembling, explaining, one_message, stepping};
 use command_view::viewing;
@@ -137,7 +137,7 @@ fn writing_request<'a>(name: &str, given: &ArgMatches<'a>) -> Request<'a> {
 }
 
 /// A usage fault that the files show, and not the words.
-pub fn misused(alloc: Global, fault: &Fault<'_>) -> Result<Error, AllocError> {
+pub fn misused(alloc: Global, fault: &CommandFault<'_>) -> Result<Error, AllocError> {
     let text = format!(in alloc; "{fault}")?;
     bench_command(alloc)?.error(ErrorKind::ArgumentConflict, text.as_str())
 }

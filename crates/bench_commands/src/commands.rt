@@ -12,7 +12,7 @@ use command_judge::{checking, judging};
 use command_listing::{dumping, statistics};
 use command_material::{comparing, cutting};
 use command_parts::hosts::{Errors, Host};
-use command_parts::requests::Fault;
+use command_parts::requests::CommandFault;
 use command_reproduce::reproducing;
 use command_step::{assembling, explaining, one_message, stepping};
 use command_view::viewing;
@@ -30,7 +30,10 @@ where
 {
     match words_of(rt) {
         Ok(words) => run_words(rt, errors, words.as_slice()),
-        Err(error) if error.kind() == io::ErrorKind::OutOfMemory => stop(errors, &Fault::Memory),
+        Err(error) if error.kind() == io::ErrorKind::OutOfMemory => stop(
+            errors,
+            &CommandFault::Memory,
+        ),
         Err(error) => {
             match word_at_fault(rt) {
                 Ok(Some(word)) => {
@@ -76,10 +79,12 @@ fn give_up<R: Host, E: Errors>(
     rt: &R,
     errors: &E,
     asked: &Asked<'_>,
-    fault: &Fault<'_>,
+    fault: &CommandFault<'_>,
 ) -> ExitCode {
     match fault {
-        Fault::NotHeld | Fault::Suspicious | Fault::Differ => ExitCode::from(fault.status()),
+        CommandFault::NotHeld | CommandFault::Suspicious | CommandFault::Differ => ExitCode::from(
+            fault.status(),
+        ),
         _ if fault.status() == USAGE => misused(rt, errors, fault),
         _ => {
             let status = stop(errors, fault);
@@ -94,7 +99,7 @@ fn give_up<R: Host, E: Errors>(
 /// Prints help and version to the standard output, and a usage fault to the standard error.
 fn explain<R: Print, E: Eprint>(rt: &R, errors: &E, error: &Error) -> ExitCode {
     if matches!(error.kind(), ErrorKind::OutOfMemory) {
-        return stop(errors, &Fault::Memory);
+        return stop(errors, &CommandFault::Memory);
     }
     if error.use_stderr() {
         // Nothing else is lost where standard error takes no more.
@@ -104,19 +109,23 @@ fn explain<R: Print, E: Eprint>(rt: &R, errors: &E, error: &Error) -> ExitCode {
     match print!(rt; "{error}") {
         Ok(()) => ExitCode::SUCCESS,
         Err(fault) if fault.kind() == io::ErrorKind::BrokenPipe => ExitCode::SUCCESS,
-        Err(fault) => stop(errors, &Fault::of_stream("-", &fault)),
+        Err(fault) => stop(errors, &CommandFault::of_stream("-", &fault)),
     }
 }
 
 /// Prints a usage fault that the files of the command line have, as one that its words have.
-fn misused<R: AllocGlobal + Print, E: Eprint>(rt: &R, errors: &E, fault: &Fault<'_>) -> ExitCode {
+fn misused<R: AllocGlobal + Print, E: Eprint>(
+    rt: &R,
+    errors: &E,
+    fault: &CommandFault<'_>,
+) -> ExitCode {
     match command_line::misused(rt.alloc(), fault) {
         Ok(error) => explain(rt, errors, &error),
-        Err(_) => stop(errors, &Fault::Memory),
+        Err(_) => stop(errors, &CommandFault::Memory),
     }
 }
 
-fn stop<E: Eprint>(errors: &E, fault: &Fault<'_>) -> ExitCode {
+fn stop<E: Eprint>(errors: &E, fault: &CommandFault<'_>) -> ExitCode {
     // Nothing else is lost where standard error takes no more.
     let _ = eprintln!(errors; "bench: {fault}");
     ExitCode::from(fault.status())
@@ -127,7 +136,7 @@ fn make<'a, R: Host, E: Errors>(
     rt: &R,
     errors: &E,
     request: &Request<'a>,
-) -> Option<Result<(), Fault<'a>>>
+) -> Option<Result<(), CommandFault<'a>>>
 where
     R::Reader: 'static,
 {
@@ -147,7 +156,7 @@ fn show<'a, R: Host, E: Errors>(
     rt: &R,
     errors: &E,
     asked: &Asked<'a>,
-) -> Option<Result<(), Fault<'a>>>
+) -> Option<Result<(), CommandFault<'a>>>
 where
     R::Reader: 'static,
 {
@@ -167,7 +176,7 @@ fn take<'a, R: Host, E: Errors>(
     rt: &R,
     errors: &E,
     request: &Request<'a>,
-) -> Option<Result<(), Fault<'a>>>
+) -> Option<Result<(), CommandFault<'a>>>
 where
     R::Reader: 'static,
 {
@@ -182,7 +191,11 @@ where
 }
 
 /// Does what is asked, by the kin of the request.
-fn obey<'a, R: Host, E: Errors>(rt: &R, errors: &E, asked: &Asked<'a>) -> Result<(), Fault<'a>>
+fn obey<'a, R: Host, E: Errors>(
+    rt: &R,
+    errors: &E,
+    asked: &Asked<'a>,
+) -> Result<(), CommandFault<'a>>
 where
     R::Reader: 'static,
 {

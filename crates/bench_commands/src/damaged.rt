@@ -1,17 +1,17 @@
 //! The way out where a recording is damaged.
 
 use crate::command_line::{Asked, Request};
-use command_parts::requests::Fault;
+use command_parts::requests::CommandFault;
 
 /// Says behind the fault of a damaged recording, of which a job was to be made, how what is sound of it is taken.
-pub(crate) fn tell_of_cut<E: Eprint>(errors: &E, asked: &Asked<'_>, fault: &Fault<'_>) {
+pub(crate) fn tell_of_cut<E: Eprint>(errors: &E, asked: &Asked<'_>, fault: &CommandFault<'_>) {
     if !asked.context.is_shown() {
         return;
     }
     let Request::Reproduce(request) = &asked.request else {
         return;
     };
-    let Fault::Recording(refusal) = fault else {
+    let CommandFault::Recording(refusal) = fault else {
         return;
     };
     // A file that begins with no packet may be no recording at all.

@@ -2,7 +2,7 @@
 
 use crate::command_line::{Asked, Request};
 use bench_files::{followed, part_of};
-use command_parts::requests::{Fault, RunRequest};
+use command_parts::requests::{CommandFault, RunRequest};
 use std::fs;
 use std::rt::Files;
 
@@ -11,7 +11,7 @@ pub(crate) fn tell_of_part<R: Files + AllocGlobal, E: Eprint>(
     rt: &R,
     errors: &E,
     asked: &Asked<'_>,
-    fault: &Fault<'_>,
+    fault: &CommandFault<'_>,
 ) {
     if !asked.context.is_shown() {
         return;
@@ -31,11 +31,12 @@ fn part_left<R: Files + AllocGlobal>(
     rt: &R,
     run: &RunRequest<'_>,
     completes: bool,
-    fault: &Fault<'_>,
+    fault: &CommandFault<'_>,
 ) -> Option<String> {
     let taken = match fault {
-        Fault::Sink { taken } => Some(*taken),
-        Fault::Device(name) | Fault::System { name, .. } if completes && *name == run.out => None,
+        CommandFault::Sink { taken } => Some(*taken),
+        CommandFault::Device(name) | CommandFault::System { name, .. }
+            if completes && *name == run.out => None,
         _ => return None,
     };
     let Ok(path) = followed(rt, run.out) else {

@@ -13,7 +13,7 @@ use bench_one::OneFault;
 use bench_reasons::{Place, Reason, Text, explained, put_place};
 use ch11_reader::Refusal;
 use command_listing::dumping;
-use command_parts::requests::{Fault, read_again};
+use command_parts::requests::{CommandFault, read_again};
 use frame_text::Cause;
 use job_file::{JobError, read_job};
 use judge_rules::RuleError;
@@ -30,18 +30,18 @@ pub fn point<R: Files + AllocGlobal, E: Eprint + IsTerminal>(
     rt: &R,
     errors: &E,
     asked: &Asked<'_>,
-    fault: &Fault<'_>,
+    fault: &CommandFault<'_>,
 ) {
     if !asked.context.is_shown() {
         return;
     }
-    if let Fault::System { code, .. } = fault {
+    if let CommandFault::System { code, .. } = fault {
         let error = io::Error::from_raw_os_error(*code);
         // Nothing else is lost where standard error takes no more.
         let _ = eprintln!(errors; "  {error}");
         return;
     }
-    if let Fault::Busy(_) = fault {
+    if let CommandFault::Busy(_) = fault {
         // Nothing else is lost where standard error takes no more.
         let _ = eprintln!(errors;
             "  another run is writing this file: wait until it has ended, or name another file"
@@ -58,7 +58,7 @@ pub fn point<R: Files + AllocGlobal, E: Eprint + IsTerminal>(
 fn lines_of<R: Files + AllocGlobal>(
     rt: &R,
     request: &Request<'_>,
-    fault: &Fault<'_>,
+    fault: &CommandFault<'_>,
 ) -> Result<String, AllocError> {
     match particular(rt, request, fault)? {
         Some(text) => Ok(text),
@@ -70,26 +70,25 @@ fn lines_of<R: Files + AllocGlobal>(
 fn particular<R: Files + AllocGlobal>(
     rt: &R,
     request: &Request<'_>,
-    fault: &Fault<'_>,
+    fault: &CommandFault<'_>,
 ) -> Result<Option<String>, AllocError> {
     match (fault, request) {
-        (Fault::Text(OneFault::Text { cause, place }), Request::One(one)) => {
+        (CommandFault::Text(OneFault::Text { cause, place }), Request::One(one)) => {
             text_lines(rt, "TEXT", one.text.as_bytes(), Text::Send, *cause, *place)
         }
-        (Fault::Script(AssembleFault::Text { cause, place }), Request::Assemble(assemble)) => {
-            script_at_fault(rt, request, assemble.script, *cause, *place)
-        }
-        (Fault::Job(error), _) => job_at_fault(rt, request, error),
-        (Fault::Run(error), _) => refusal_of(rt, request, *error),
-        (Fault::Recording(refusal), _) if refusal.offset == 0 => no_recording(rt, request),
-        (Fault::OneOfTwo { name, refusal }, _) => one_of_two(rt, request, name, *refusal),
-        (Fault::Report(error), Request::Step(step)) => {
+        (CommandFault::Script(AssembleFault::Text { cause, place }), Request::Assemble(assemble)) =>
+            { script_at_fault(rt, request, assemble.script, *cause, *place) }
+        (CommandFault::Job(error), _) => job_at_fault(rt, request, error),
+        (CommandFault::Run(error), _) => refusal_of(rt, request, *error),
+        (CommandFault::Recording(refusal), _) if refusal.offset == 0 => no_recording(rt, request),
+        (CommandFault::OneOfTwo { name, refusal }, _) => one_of_two(rt, request, name, *refusal),
+        (CommandFault::Report(error), Request::Step(step)) => {
             report_at_fault(rt, request, step.report, error.line, fault)
         }
-        (Fault::Rules(error), _) => rules_at_fault(rt, request, error),
-        (Fault::Dictionary(error), _) => dictionary_at_fault(rt, request, error),
-        (Fault::NoneSelected, _) => crossed_bounds(rt, request),
-        (Fault::Mismatch { channel, number }, Request::Step(step)) => {
+        (CommandFault::Rules(error), _) => rules_at_fault(rt, request, error),
+        (CommandFault::Dictionary(error), _) => dictionary_at_fault(rt, request, error),
+        (CommandFault::NoneSelected, _) => crossed_bounds(rt, request),
+        (CommandFault::Mismatch { channel, number }, Request::Step(step)) => {
             difference_of(rt, step, *channel, *number)
         }
         _ => Ok(None),
@@ -241,7 +240,7 @@ fn report_at_fault<R: Files + AllocGlobal>(
     request: &Request<'_>,
     name: &str,
     line: u64,
-    fault: &Fault<'_>,
+    fault: &CommandFault<'_>,
 ) -> Result<Option<String>, AllocError> {
     let Ok(text) = read_again(rt, name) else {
         return Ok(None);
@@ -366,13 +365,13 @@ fn crossed_bounds<R: AllocGlobal>(
 }
 
 /// What a fault's code means, as lines.
-fn meaning<R: AllocGlobal>(rt: &R, fault: &Fault<'_>) -> Result<String, AllocError> {
+fn meaning<R: AllocGlobal>(rt: &R, fault: &CommandFault<'_>) -> Result<String, AllocError> {
     let mut out = String::new(rt.alloc());
     match fault {
-        Fault::Unknown(_) => {
+        CommandFault::Unknown(_) => {
             out.push_str("  there is no such code; bench explain lists those that there are\n")?
         }
-        Fault::Device(_) => put_meaning(&mut out, "device")?,
+        CommandFault::Device(_) => put_meaning(&mut out, "device")?,
         _ => put_meaning(&mut out, format!(in rt.alloc(); "{fault}")?.as_str())?,
     }
     Ok(out)

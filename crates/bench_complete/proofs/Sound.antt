@@ -9,7 +9,7 @@ use Rattle.ch11_header.specs.HeaderBytes.{number_at, header_sum}
 use Rattle.ch11_header.specs.HeaderReading.{header_in, fields_of, with_lawful_lengths, is_packet_length, has_room}
 use Rattle.ch11_f1.specs.declared.error.BodyError.{BodyError}
 use Rattle.ch11_f1.specs.BodyReading.{Message, messages_in}
-use Rattle.ch11_reader.specs.declared.error.Fault.{Fault}
+use Rattle.ch11_reader.specs.declared.error.PacketFault.{PacketFault}
 use Rattle.ch11_reader.specs.Recording.{Found, holds_messages, body_of, packet_messages, with_body, with_rest, with_header, packet_at, packets_from, packets_in}
 use Rattle.ch11_reader.specs.Skipping.{stretches_from, packets_among, packets_read, first_stretch, first_size}
 use Rattle.ch11_reader.proofs.Joined.{first_of, nothing_found}
@@ -62,7 +62,7 @@ body_is : (g h : Header) (m : Result (List Message) BodyError) → with_body g m
 body_is g h (Ok ms) is = cc
 body_is g h (Err e) is = cc
 
-rest_is : (g h : Header) (bytes : List ℕ) (short holds : Bool) (e : Fault) → ltb (length bytes) g.packet_length ≡ short
+rest_is : (g h : Header) (bytes : List ℕ) (short holds : Bool) (e : PacketFault) → ltb (length bytes) g.packet_length ≡ short
     → cond short (Err e) (cond holds (with_body g (messages_in (body_of g bytes))) (Ok g)) ≡ Ok h → (g ≡ h) × (g.packet_length ≤ length bytes)
 rest_is g h bytes true holds e s is = cc
 rest_is g h bytes false true e s is = (body_is g h _ is, ltb-false (length bytes) g.packet_length s)
@@ -113,7 +113,7 @@ read_from (suc most) offset file (b ∷ bs) ps small behind is =
 pub all_read : (file : List ℕ) (ps : List Found) → AreBytes file → packets_in file ≡ Ok ps → AllReadAt file ps
 all_read file ps small is = read_from (length file) 0 file file ps small refl is
 
-stretches_by : (most offset : ℕ) (file : List ℕ) (b : ℕ) (bs : List ℕ) (r : Result Header Fault) → AreBytes file → drop offset file ≡ b ∷ bs → packet_at (b ∷ bs) ≡ r
+stretches_by : (most offset : ℕ) (file : List ℕ) (b : ℕ) (bs : List ℕ) (r : Result Header PacketFault) → AreBytes file → drop offset file ≡ b ∷ bs → packet_at (b ∷ bs) ≡ r
     → AllReadAt file (packets_among (stretches_from most (offset + first_size r (b ∷ bs)) (drop (first_size r (b ∷ bs)) (b ∷ bs))))
     → AllReadAt file (packets_among (first_stretch offset r (b ∷ bs) ∷ stretches_from most (offset + first_size r (b ∷ bs)) (drop (first_size r (b ∷ bs)) (b ∷ bs))))
 stretches_by most offset file b bs (Ok h) small behind is all = (reads_at file offset b bs h small behind is, all)

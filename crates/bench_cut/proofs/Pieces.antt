@@ -13,7 +13,7 @@ use Rattle.ch11_header.specs.declared.header.Header.{Header}
 use Rattle.ch11_header.specs.HeaderBytes.{header_bytes, summed_bytes}
 use Rattle.ch11_header.specs.HeaderReading.{body_start, has_secondary, header_in}
 use Rattle.ch11_header.proofs.Again.{read_again}
-use Rattle.ch11_reader.specs.declared.error.Fault.TheVariants as faults
+use Rattle.ch11_reader.specs.declared.error.PacketFault.TheVariants as faults
 use Rattle.ch11_reader.proofs.Joined.{least_of}
 use Rattle.ch11_reader.specs.Recording.{body_of, holds_messages, packet_messages, packet_at, with_body}
 use Rattle.bench_complete.specs.SetupRecord.{filler_for}

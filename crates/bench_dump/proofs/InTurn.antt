@@ -4,7 +4,7 @@ use Rattle.std.proofs.lemmas.Bool.{le-ltb, lt-ltb}
 use Rattle.std.proofs.lemmas.List.{append-nil}
 use Rattle.std.specs.Io.KnownBytes.{Appends}
 use Rattle.ch11_header.specs.declared.header.Header.{Header}
-use Rattle.ch11_reader.specs.declared.error.Fault.{Fault}
+use Rattle.ch11_reader.specs.declared.error.PacketFault.{PacketFault}
 use Rattle.ch11_reader.specs.declared.packet.Packet.{Packet}
 use Rattle.ch11_reader.specs.declared.skip.Skip.{Skip}
 use Rattle.ch11_reader.specs.Contents.{total_in}
@@ -44,7 +44,7 @@ in_order_from least offset [] le o = tt
 in_order_from least offset (Read p ∷ others) le o = (omega (arith, le, o.0), o.1)
 in_order_from least offset (Skipped s ∷ others) le o = (omega (arith, le, o.0), o.1)
 
-first_in_order : (offset : ℕ) (read : Result Header Fault) (b : ℕ) (bs : List ℕ) (others : List Stretch) → packet_at (b ∷ bs) ≡ read → InOrder (offset + first_size read (b ∷ bs)) others → InOrder offset (first_stretch offset read (b ∷ bs) ∷ others)
+first_in_order : (offset : ℕ) (read : Result Header PacketFault) (b : ℕ) (bs : List ℕ) (others : List Stretch) → packet_at (b ∷ bs) ≡ read → InOrder (offset + first_size read (b ∷ bs)) others → InOrder offset (first_stretch offset read (b ∷ bs) ∷ others)
 first_in_order offset (Ok h) b bs others is o = (omega arith, in_order_from offset (offset + h.packet_length) others (omega arith) o)
 first_in_order offset (Err f) b bs others is o =
     let some : 0 < bytes_before (b ∷ bs) = some_before (b ∷ bs) f (omega arith) is in

@@ -11,25 +11,25 @@ use crate::output::hand_on;
 use crate::text::Text;
 use ch11_f1::BodyError;
 use ch11_header::HeaderError;
-use ch11_reader::{Fault, Skip};
+use ch11_reader::{PacketFault, Skip};
 use ch11_stream::StreamFault;
 use std::alloc::AllocError;
 use std::io::Write;
 
 /// The letters of a fault.
-fn letters(fault: &Fault) -> &'static [u8]
+fn letters(fault: &PacketFault) -> &'static [u8]
     ensures { result.now ≡ fault_code fault.now }
 {
     match fault {
-        Fault::Header(HeaderError::Short) => b"K1",
-        Fault::Header(HeaderError::Sync) => b"K2",
-        Fault::Header(HeaderError::Checksum) => b"K3",
-        Fault::Header(HeaderError::PacketLength) => b"K4",
-        Fault::Header(HeaderError::DataLength) => b"K5",
-        Fault::End => b"N2",
-        Fault::Body(BodyError::Short) => b"F1",
-        Fault::Body(BodyError::Odd) => b"F2",
-        Fault::Body(BodyError::End) => b"F3",
+        PacketFault::Header(HeaderError::Short) => b"K1",
+        PacketFault::Header(HeaderError::Sync) => b"K2",
+        PacketFault::Header(HeaderError::Checksum) => b"K3",
+        PacketFault::Header(HeaderError::PacketLength) => b"K4",
+        PacketFault::Header(HeaderError::DataLength) => b"K5",
+        PacketFault::End => b"N2",
+        PacketFault::Body(BodyError::Short) => b"F1",
+        PacketFault::Body(BodyError::Odd) => b"F2",
+        PacketFault::Body(BodyError::End) => b"F3",
     }
 }
 

@@ -15,7 +15,7 @@ const HALF_BITS: u64 = 0xFF_FFFF_FFFF;
 
 /// How words of a run are altered.
 #[derive(Clone, Copy, Debug)]
-pub(crate) struct Manner {
+pub(crate) struct Alteration {
     pub(crate) run: u32,
     /// How many words of the run stand in front of those that are given.
     pub(crate) front: usize,
@@ -33,8 +33,8 @@ fn index_of(place: usize) -> u32 {
 }
 
 /// The sync of a word at a place.
-fn sync_at(manner: Manner, place: usize) -> Sync {
-    if place.saturating_add(manner.front) < manner.commands {
+fn sync_at(alteration: Alteration, place: usize) -> Sync {
+    if place.saturating_add(alteration.front) < alteration.commands {
         Sync::CommandSync
     } else {
         Sync::DataSync
@@ -74,17 +74,21 @@ fn mask(run: u32, place: usize, half_bits: u64) -> Fault {
 /// Makes a word of another.
 fn replace(
     explanation: &mut Explanation,
-    manner: Manner,
+    alteration: Alteration,
     place: usize,
     given: u16,
     wanted: u16,
 ) -> bool {
-    let half_bits = if manner.unsound {
+    let half_bits = if alteration.unsound {
         first_halves(given ^ wanted)
     } else {
-        between(sync_at(manner, place), given, wanted)
+        between(sync_at(alteration, place), given, wanted)
     };
-    explanation.plan(mask(manner.run, place.saturating_add(manner.front), half_bits))
+    explanation.plan(mask(
+        alteration.run,
+        place.saturating_add(alteration.front),
+        half_bits,
+    ))
 }
 
 /// How many words two lists have in common at their front.
@@ -115,14 +119,17 @@ fn common_end(given: &[u16], wanted: &[u16], front: usize) -> usize {
 }
 
 /// Adds words behind the one at a place.
-fn add(explanation: &mut Explanation, manner: Manner, place: usize, words: &[u16]) -> bool {
+fn add(explanation: &mut Explanation, alteration: Alteration, place: usize, words: &[u16]) -> bool {
     let mut whole = true;
     for value in words {
         let word = Word {
-            sync: manner.added,
+            sync: alteration.added,
             value: *value,
         };
-        let (run, index) = (manner.run, index_of(place.saturating_add(manner.front)));
+        let (run, index) = (
+            alteration.run,
+            index_of(place.saturating_add(alteration.front)),
+        );
         whole = explanation.plan(Fault::Add { run, index, word }) && whole;
     }
     whole
@@ -144,9 +151,14 @@ fn in_front_of_alike(words: &[u16]) -> usize {
 
 /// Adds words behind the last one: those at the end that are all the same by one fault, but for a first one of another
 /// sync.
-fn add_behind(explanation: &mut Explanation, manner: Manner, place: usize, words: &[u16]) -> bool {
+fn add_behind(
+    explanation: &mut Explanation,
+    alteration: Alteration,
+    place: usize,
+    words: &[u16],
+) -> bool {
     let mut front = in_front_of_alike(words);
-    if front == 0 && manner.added == Sync::CommandSync {
+    if front == 0 && alteration.added == Sync::CommandSync {
         front = words.len().min(1);
     }
     let alike = words.len().saturating_sub(front);
@@ -154,21 +166,34 @@ fn add_behind(explanation: &mut Explanation, manner: Manner, place: usize, words
         return true;
     };
     if alike < 2 {
-        return add(explanation, manner, place, words);
+        return add(explanation, alteration, place, words);
     }
     let babble = Fault::Babble {
-        run: manner.run,
+        run: alteration.run,
         count: index_of(alike),
         word: *word,
     };
-    add(explanation, manner, place, &words[..front.min(words.len())]) && explanation.plan(babble)
+    add(
+        explanation,
+        alteration,
+        place,
+        &words[..front.min(words.len())],
+    ) && explanation.plan(babble)
 }
 
 /// Leaves out words.
-fn leave_out(explanation: &mut Explanation, manner: Manner, from: usize, to: usize) -> bool {
+fn leave_out(
+    explanation: &mut Explanation,
+    alteration: Alteration,
+    from: usize,
+    to: usize,
+) -> bool {
     let mut whole = true;
     for place in from..to {
-        let (run, index) = (manner.run, index_of(place.saturating_add(manner.front)));
+        let (run, index) = (
+            alteration.run,
+            index_of(place.saturating_add(alteration.front)),
+        );
         whole = explanation.plan(Fault::Drop { run, index }) && whole;
     }
     whole
@@ -177,7 +202,7 @@ fn leave_out(explanation: &mut Explanation, manner: Manner, from: usize, to: usi
 /// Plans faults that make other words of those that the sender of a run gives; false where there are not enough.
 pub(crate) fn edit(
     explanation: &mut Explanation,
-    manner: Manner,
+    alteration: Alteration,
     given: &[u16],
     wanted: &[u16],
 ) -> bool {
@@ -198,17 +223,17 @@ pub(crate) fn edit(
             break;
         };
         if one != other {
-            whole = replace(explanation, manner, place, *one, *other) && whole;
+            whole = replace(explanation, alteration, place, *one, *other) && whole;
         }
     }
     let last = altered.saturating_sub(1);
     let more = &wanted[altered.min(wanted.len())..wanted_end.max(altered).min(wanted.len())];
     let added = if end == 0 {
-        add_behind(explanation, manner, last, more)
+        add_behind(explanation, alteration, last, more)
     } else {
-        add(explanation, manner, last, more)
+        add(explanation, alteration, last, more)
     };
-    leave_out(explanation, manner, altered, given_end) && added && whole
+    leave_out(explanation, alteration, altered, given_end) && added && whole
 }
 
 /// Plans a fault that is not planned yet; false where it is, or can't be.

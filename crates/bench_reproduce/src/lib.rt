@@ -39,7 +39,7 @@ mod wanted;
 mod writing;
 
 pub use fault::ReproduceFault;
-pub use form::Form;
+pub use form::JobForm;
 pub use judging::Verdict;
 pub use laws::all_are_same;
 pub use reproducing::{Reproduction, reproduce};

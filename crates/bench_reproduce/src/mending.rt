@@ -1,7 +1,7 @@
 //! What is added to an explanation that does not give the record.
 
 use crate::cases::{Case, words_of};
-use crate::edits::{Manner, edit, pause, spoil, turn};
+use crate::edits::{Alteration, edit, pause, spoil, turn};
 use crate::explanations::Explanation;
 use crate::hosts::{has, legality};
 use crate::outlook::{Outlook, is_question};
@@ -16,7 +16,7 @@ use mil_word::{Line, Sync};
 use std::alloc::AllocError;
 
 /// How words of a run are altered.
-fn manner_of(case: &Case<'_>, run: u32) -> Manner {
+fn alteration_of(case: &Case<'_>, run: u32) -> Alteration {
     let commands = if run == 0 { case.commands() } else { 1 };
     let adds_data = case.style.adds_data || run == 0 && case.breaks_off();
     let added = if case.wanted.has(BlockBits::SYNC_TYPE_ERROR) && !adds_data {
@@ -24,7 +24,7 @@ fn manner_of(case: &Case<'_>, run: u32) -> Manner {
     } else {
         Sync::DataSync
     };
-    Manner {
+    Alteration {
         run,
         front: 0,
         commands,
@@ -48,16 +48,16 @@ fn given_by_controller(case: &Case<'_>) -> ArrayVec<u16, 40> {
 pub(crate) fn mend_controller(explanation: &mut Explanation, case: &Case<'_>) {
     let given = given_by_controller(case);
     let wanted = case.wanted.part(0, case.guess.sent);
-    let mut manner = manner_of(case, 0);
+    let mut alteration = alteration_of(case, 0);
     let words = given.as_slice();
     // Where the faults are not enough, the record comes out another.
     if case.guess.is_headless {
         let _ = explanation.plan(Fault::Drop { run: 0, index: 0 });
-        manner.front = 1;
+        alteration.front = 1;
     }
-    let own = &words[manner.front.min(words.len())..];
+    let own = &words[alteration.front.min(words.len())..];
     if own != wanted {
-        let _ = edit(explanation, manner, own, wanted);
+        let _ = edit(explanation, alteration, own, wanted);
     }
 }
 
@@ -192,7 +192,12 @@ fn mend_reply(
     if !case.style.mends || alters(explanation, run) {
         return Ok(false);
     }
-    Ok(edit(explanation, manner_of(case, run), given.as_slice(), wanted))
+    Ok(edit(
+        explanation,
+        alteration_of(case, run),
+        given.as_slice(),
+        wanted,
+    ))
 }
 
 /// Whether words of a run are altered.

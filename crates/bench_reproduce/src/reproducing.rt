@@ -5,7 +5,7 @@ ghost use Rattle.std.specs.Prelude.{◌≡◌, ℕ, List, Some, string_bytes, If
 use crate::answering::answering;
 use crate::explaining::{Explainer, play};
 use crate::fault::ReproduceFault;
-use crate::form::Form;
+use crate::form::JobForm;
 use crate::frames::{Schedule, schedule_of};
 use crate::framing::Framing;
 use crate::hearing::hear;
@@ -24,7 +24,7 @@ pub struct Reproduction {
     /// The text of the job.
     pub text: String,
     /// How it has the messages.
-    pub form: Form,
+    pub form: JobForm,
     /// What running it came to.
     pub verdict: Verdict,
 }
@@ -137,7 +137,7 @@ fn by_inserts(alloc: Global, material: &Material<'_>) -> Result<Reproduction, Re
     let verdict = run_written(alloc, text.as_bytes(), material.heard)?;
     Ok(Reproduction {
         text,
-        form: Form::Inserts,
+        form: JobForm::Inserts,
         verdict,
     })
 }
@@ -153,7 +153,7 @@ fn by_frames(alloc: Global, material: &Material<'_>) -> Result<Option<Reproducti
     match run_written(alloc, text.as_bytes(), material.heard) {
         Ok(verdict) => Ok(Some(Reproduction {
             text,
-            form: Form::Frames,
+            form: JobForm::Frames,
             verdict,
         })),
         Err(ReproduceFault::Refused(_)) => Ok(None),
@@ -184,24 +184,25 @@ fn by_either(alloc: Global, material: &Material<'_>) -> Result<Reproduction, Rep
 fn in_form(
     alloc: Global,
     material: &Material<'_>,
-    form: Form,
+    form: JobForm,
 ) -> Result<Reproduction, ReproduceFault>
     ensures { IfOk result (λ r. IsRun (string_bytes r.text) material.now.heard.now r.verdict.messages r.verdict.same) }
 {
     match form {
-        Form::Inserts => by_inserts(alloc, material),
-        Form::Frames => by_either(alloc, material),
+        JobForm::Inserts => by_inserts(alloc, material),
+        JobForm::Frames => by_either(alloc, material),
     }
 }
 
 /// A job that plays the messages of a channel of a recording, given by a reader, at their times, with the replies and
 /// the errors that were recorded, as far as a job can tell them; and what running it came to, compared with what was
-/// recorded. With `Form::Frames` messages that recur are sent by frames, where they do and no fewer come out the same.
+/// recorded. With `JobForm::Frames` messages that recur are sent by frames, where they do and no fewer come out the
+/// same.
 pub fn reproduce<R: Advance + Drop>(
     alloc: Global,
     input: R,
     channel: u16,
-    form: Form,
+    form: JobForm,
 ) -> Result<Reproduction, ReproduceFault>
     ensures counted { IfOk result (λ r. (file : List ℕ) → R.remaining input ≡ Some file
         → IsReproduced (string_bytes r.text) file channel r.verdict.messages r.verdict.same) }

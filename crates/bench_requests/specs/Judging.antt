@@ -4,7 +4,7 @@ use Rattle.std.specs.Prelude.{ℕ, ◌==◌, ◌||◌, if◌then◌else◌, List
 use Rattle.text_lines.specs.Words.{Text}
 use Rattle.bench_judge.specs.Verdicts.{not_held}
 use Rattle.bench_judge.specs.declared.verdicts.RuleVerdict.{RuleVerdict}
-use Rattle.bench_requests.specs.declared.fault.Fault.{Fault}
+use Rattle.bench_requests.specs.declared.fault.CommandFault.{CommandFault}
 use Rattle.bench_requests.specs.Status.{status_of}
 
 -- the text of the rules: the one that is given, or one that asks that each message is clean
@@ -13,7 +13,8 @@ text_of_rules None = codes "expect any clean"
 text_of_rules (Some text) = text
 
 -- the fault of a recording comes before that of its rules
-abbrev pub recording_first : {R S : Type 0} → Result R Fault → Result S Fault → Result (R × S) Fault
+abbrev pub recording_first : {R S : Type 0} → Result R CommandFault → Result S CommandFault
+    → Result (R × S) CommandFault
 recording_first (Err fault) rules = Err fault
 recording_first (Ok recording) (Err fault) = Err fault
 recording_first (Ok recording) (Ok rules) = Ok (recording, rules)
@@ -23,12 +24,12 @@ abbrev pub status_on : List RuleVerdict → ℕ
 status_on verdicts = if not_held verdicts == 0 then 0 else 5
 
 -- the exit status of a command that is done, or ends with a fault
-abbrev pub status_in : {X : Type 0} → Result X Fault → ℕ
+abbrev pub status_in : {X : Type 0} → Result X CommandFault → ℕ
 status_in (Ok done) = 0
 status_in (Err fault) = status_of fault
 
 -- the exit status of a recording of which the verdicts were printed, or were not
-abbrev pub status_of_judging : {V : Type 0} → (V → List RuleVerdict) → Result V Fault → ℕ
+abbrev pub status_of_judging : {V : Type 0} → (V → List RuleVerdict) → Result V CommandFault → ℕ
 status_of_judging listed (Ok verdicts) = status_on (listed verdicts)
 status_of_judging listed (Err fault) = status_of fault
 

@@ -2,8 +2,8 @@
 use Rattle.std.specs.Prelude.{◌≡◌, ◌≢◌, ◌&&◌, Bool, false, bytes_eq, codes}
 use Rattle.std.specs.declared.io.ErrorKind.{ErrorKind}
 use Rattle.std.specs.declared.io.ErrorKind.TheVariants.{BrokenPipe}
-use Rattle.bench_requests.specs.declared.fault.Fault.{Fault}
-use Rattle.bench_requests.specs.declared.fault.Fault.TheVariants.{Device, System}
+use Rattle.bench_requests.specs.declared.fault.CommandFault.{CommandFault}
+use Rattle.bench_requests.specs.declared.fault.CommandFault.TheVariants.{Device, System}
 
 -- the error of a pipe that nobody reads any more
 abbrev pub IsClosed : ErrorKind → Type 0
@@ -13,11 +13,11 @@ abbrev pub IsOther : ErrorKind → Type 0
 IsOther kind = kind ≢ BrokenPipe
 
 -- a fault of the standard output, as it is named
-abbrev pub is_of_output : Fault → Bool
+abbrev pub is_of_output : CommandFault → Bool
 is_of_output (Device name) = bytes_eq name.now (codes "-")
 is_of_output (System name code) = bytes_eq name.now (codes "-")
 is_of_output _ = false
 
 -- whether a fault says no more than that the reader has gone
-abbrev pub is_over : Bool → Fault → Bool
+abbrev pub is_over : Bool → CommandFault → Bool
 is_over is_gone fault = is_gone && is_of_output fault

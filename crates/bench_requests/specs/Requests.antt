@@ -7,26 +7,26 @@ use Rattle.judge_rules.specs.declared.fault.RuleError.{RuleError}
 use Rattle.judge_rules.specs.declared.fault.RuleFault.{RuleFault}
 use Rattle.judge_rules.specs.declared.fault.RuleFault.TheVariants as rule
 use Rattle.judge_rules.specs.Rules.{AllRules}
-use Rattle.bench_requests.specs.declared.fault.Fault.{Fault}
-use Rattle.bench_requests.specs.declared.fault.Fault.TheVariants as fault
+use Rattle.bench_requests.specs.declared.fault.CommandFault.{CommandFault}
+use Rattle.bench_requests.specs.declared.fault.CommandFault.TheVariants as fault
 
 -- the fault of the first text that spells no job or needs too much, or want of memory
-abbrev pub IsRefusedJob : List Text → Fault → Type 0
+abbrev pub IsRefusedJob : List Text → CommandFault → Type 0
 IsRefusedJob texts (fault.Job why) = (why ≢ error.Memory) × ((index : ℕ) × IsFirstRefused texts index why)
 IsRefusedJob texts fault.Memory = Unit {0}
 IsRefusedJob texts _ = ⊥
 
-abbrev with_fault : RuleError → RuleFault → Fault
+abbrev with_fault : RuleError → RuleFault → CommandFault
 with_fault e rule.Memory = fault.Memory
 with_fault e rule.Word = fault.Rules e
 with_fault e rule.Number = fault.Rules e
 with_fault e rule.Range = fault.Rules e
 
 -- the fault of rules that were refused
-abbrev pub fault_of_rules : RuleError → Fault
+abbrev pub fault_of_rules : RuleError → CommandFault
 fault_of_rules e = with_fault e e.fault
 
 -- the first fault of a text of rules, or want of memory where it has none
-abbrev pub IsRefusedText : AllRules → Fault → Type 0
+abbrev pub IsRefusedText : AllRules → CommandFault → Type 0
 IsRefusedText (Ok rules) found = found ≡ fault.Memory
 IsRefusedText (Err e) found = found ≡ fault_of_rules e

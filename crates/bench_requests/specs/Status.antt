@@ -11,14 +11,14 @@ use Rattle.bench_run.specs.declared.error.RunError.{RunError}
 use Rattle.bench_run.specs.declared.error.RunError.TheVariants as run
 use Rattle.bench_step.specs.declared.fault.StepFault.{StepFault}
 use Rattle.bench_step.specs.declared.fault.StepFault.TheVariants as step
-use Rattle.bench_requests.specs.declared.fault.Fault.{Fault}
-use Rattle.bench_requests.specs.declared.fault.Fault.TheVariants.{Text, Script, Recording, Report, Mismatch, Job, Run}
-use Rattle.bench_requests.specs.declared.fault.Fault.TheVariants.{Sink, Device, System, Unknown, Rules, NotHeld, Memory}
-use Rattle.bench_requests.specs.declared.fault.Fault.TheVariants.{OneFile, Busy, OtherKind, OtherPart, Usage}
-use Rattle.bench_requests.specs.declared.fault.Fault.TheVariants.{NoneSelected, Suspicious, Differ, Dictionary}
-use Rattle.bench_requests.specs.declared.fault.Fault.TheVariants.{OneOfTwo}
+use Rattle.bench_requests.specs.declared.fault.CommandFault.{CommandFault}
+use Rattle.bench_requests.specs.declared.fault.CommandFault.TheVariants.{Text, Script, Recording, Report, Mismatch, Job}
+use Rattle.bench_requests.specs.declared.fault.CommandFault.TheVariants.{Run, Sink, Device, System, Unknown, Rules}
+use Rattle.bench_requests.specs.declared.fault.CommandFault.TheVariants.{NotHeld, Memory, OneFile, Busy, OtherKind}
+use Rattle.bench_requests.specs.declared.fault.CommandFault.TheVariants.{OtherPart, Usage, NoneSelected, Suspicious}
+use Rattle.bench_requests.specs.declared.fault.CommandFault.TheVariants.{Differ, Dictionary, OneOfTwo}
 
-abbrev pub status_of : Fault → ℕ
+abbrev pub status_of : CommandFault → ℕ
 -- the input was refused
 status_of (Text fault) = 1
 status_of (Script fault) = 1
@@ -54,19 +54,19 @@ status_of (OtherPart name kind) = 2
 status_of (Usage text) = 2
 
 -- the fault of a recording that is read whole
-abbrev pub fault_of_reading : ReadError → Fault
+abbrev pub fault_of_reading : ReadError → CommandFault
 fault_of_reading (reading.Refused refusal) = Recording refusal
 fault_of_reading reading.Memory = Memory
 
 -- the fault of jobs and settings that may not be run
-abbrev pub fault_of_settings : WorldError → Fault
+abbrev pub fault_of_settings : WorldError → CommandFault
 fault_of_settings world.Memory = Memory
 fault_of_settings world.Settings = Run world.Settings
 fault_of_settings world.ChannelTwice = Run world.ChannelTwice
 fault_of_settings world.Prologue = Run world.Prologue
 
 -- the fault of a run that gave no recording
-abbrev pub fault_of : {S : Type 0} → RunError S → Fault
+abbrev pub fault_of : {S : Type 0} → RunError S → CommandFault
 fault_of (run.Settings sink) = Run world.Settings
 fault_of (run.ChannelTwice sink) = Run world.ChannelTwice
 fault_of (run.Prologue sink) = Run world.Prologue
@@ -74,7 +74,7 @@ fault_of (run.Memory sink) = Memory
 fault_of (run.Sink sink report taken) = Sink taken
 
 -- the fault of a file of this name that one of this kind cannot be written to
-abbrev pub IsOfOut : List ℕ → Kind → OutError → Fault → Type 0
+abbrev pub IsOfOut : List ℕ → Kind → OutError → CommandFault → Type 0
 IsOfOut name kind (out.System error) fault = Unit {0}
 IsOfOut name kind out.Busy (Busy told) = told.now ≡ name
 IsOfOut name kind out.OtherKind (OtherKind told wanted) = (told.now ≡ name) × (wanted ≡ kind)
@@ -82,12 +82,12 @@ IsOfOut name kind out.OtherPart (OtherPart told wanted) = (told.now ≡ name) ×
 IsOfOut name kind error fault = ⊥
 
 -- the fault of standard input or output
-abbrev pub IsStandardDevice : Fault → Type 0
+abbrev pub IsStandardDevice : CommandFault → Type 0
 IsStandardDevice (Device name) = name.now ≡ codes "-"
 IsStandardDevice _ = ⊥
 
 -- the fault of a session
-abbrev pub IsOfStep : StepFault → Fault → Type 0
+abbrev pub IsOfStep : StepFault → CommandFault → Type 0
 IsOfStep (step.Refused refusal) f = f ≡ Recording refusal
 IsOfStep (step.Mismatch channel number) f = f ≡ Mismatch channel number
 IsOfStep step.Memory f = f ≡ Memory

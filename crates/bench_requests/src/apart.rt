@@ -2,7 +2,7 @@
 ghost use Rattle.bench_requests.specs.Apart.{is_same_place};
 ghost use Rattle.std.specs.Prelude.{◌≡◌};
 
-use crate::fault::Fault;
+use crate::fault::CommandFault;
 use bench_files::{followed, part_of};
 use std::alloc::AllocError;
 use std::fs::{self, Metadata};
@@ -116,7 +116,7 @@ fn apart<'a, R: Files + AllocGlobal>(
     rt: &R,
     written: &'a str,
     others: &[&'a str],
-) -> Result<(), Fault<'a>> {
+) -> Result<(), CommandFault<'a>> {
     let path = led(rt, written)?;
     let part = part_named(rt, written)?;
     for other in others {
@@ -125,7 +125,7 @@ fn apart<'a, R: Files + AllocGlobal>(
         if is_same_place(place_named(rt, path.as_str()), place)
             || is_same_place(place_named(rt, part.as_str()), place)
         {
-            return Err(Fault::OneFile { written, other });
+            return Err(CommandFault::OneFile { written, other });
         }
     }
     Ok(())
@@ -136,7 +136,7 @@ pub fn told_apart<'a, R: Files + AllocGlobal>(
     rt: &R,
     written: &[&'a str],
     read: &[&'a str],
-) -> Result<(), Fault<'a>> {
+) -> Result<(), CommandFault<'a>> {
     for index in 0..written.len() {
         let name = written[index];
         apart(rt, name, &written[index + 1..])?;

@@ -2,7 +2,7 @@
 ghost use Rattle.bench_requests.specs.Listings.{is_of_output};
 ghost use Rattle.bench_requests.specs.Status.{status_of, fault_of, fault_of_reading, fault_of_settings};
 ghost use Rattle.bench_requests.specs.Status.{IsOfOut, IsOfStep};
-ghost use Rattle.bench_requests.specs.declared.fault.Fault.TheVariants as faults;
+ghost use Rattle.bench_requests.specs.declared.fault.CommandFault.TheVariants as faults;
 ghost use Rattle.std.specs.Prelude.{◌≡◌};
 
 use bench_assemble::AssembleFault;
@@ -22,7 +22,7 @@ use thiserror::Error;
 
 /// Why a command gave up; its text is what follows `bench: `.
 #[derive(Debug, Drop, Error)]
-pub enum Fault<'a> {
+pub enum CommandFault<'a> {
     /// A message's text was refused.
     #[error("{0}")]
     Text(OneFault),
@@ -97,27 +97,27 @@ pub enum Fault<'a> {
     Usage(&'static str),
 }
 
-impl<'a> Fault<'a> {
+impl<'a> CommandFault<'a> {
     /// The exit status: 1 input refused, 2 usage, 3 device, 4 memory, 5 a rule is not held, recordings differ, or
     /// something is probably a mistake where this is asked for.
     pub fn status(&self) -> u8
         ensures { result ≡ status_of self.now }
     {
         match self {
-            Fault::Text(_) | Fault::Script(_) | Fault::Recording(_) => 1,
-            Fault::Job(_) | Fault::Run(_) | Fault::OneOfTwo { .. } => 1,
-            Fault::Report(_) | Fault::Mismatch { .. } => 1,
-            Fault::Rules(_) | Fault::Unknown(_) => 1,
-            Fault::Dictionary(_) => 1,
-            Fault::NoneSelected => 1,
-            Fault::Sink { .. } | Fault::Device(_) => 3,
-            Fault::System { .. } => 3,
-            Fault::Memory => 4,
-            Fault::NotHeld | Fault::Suspicious => 5,
-            Fault::Differ => 5,
-            Fault::OneFile { .. } | Fault::Usage(_) => 2,
-            Fault::Busy(_) => 3,
-            Fault::OtherKind { .. } | Fault::OtherPart { .. } => 2,
+            CommandFault::Text(_) | CommandFault::Script(_) | CommandFault::Recording(_) => 1,
+            CommandFault::Job(_) | CommandFault::Run(_) | CommandFault::OneOfTwo { .. } => 1,
+            CommandFault::Report(_) | CommandFault::Mismatch { .. } => 1,
+            CommandFault::Rules(_) | CommandFault::Unknown(_) => 1,
+            CommandFault::Dictionary(_) => 1,
+            CommandFault::NoneSelected => 1,
+            CommandFault::Sink { .. } | CommandFault::Device(_) => 3,
+            CommandFault::System { .. } => 3,
+            CommandFault::Memory => 4,
+            CommandFault::NotHeld | CommandFault::Suspicious => 5,
+            CommandFault::Differ => 5,
+            CommandFault::OneFile { .. } | CommandFault::Usage(_) => 2,
+            CommandFault::Busy(_) => 3,
+            CommandFault::OtherKind { .. } | CommandFault::OtherPart { .. } => 2,
         }
     }
 
@@ -126,88 +126,88 @@ impl<'a> Fault<'a> {
         ensures { result ≡ is_of_output self.now }
     {
         match self {
-            Fault::Device(name) | Fault::System { name, .. } => *name == "-",
+            CommandFault::Device(name) | CommandFault::System { name, .. } => *name == "-",
             _ => false,
         }
     }
 
     /// The fault of jobs and settings that may not be run.
-    pub fn of_settings(error: WorldError) -> Fault<'a>
+    pub fn of_settings(error: WorldError) -> CommandFault<'a>
         ensures { result ≡ fault_of_settings error }
     {
         match error {
-            WorldError::Memory => Fault::Memory,
-            refused => Fault::Run(refused),
+            WorldError::Memory => CommandFault::Memory,
+            refused => CommandFault::Run(refused),
         }
     }
 
     /// The fault of a run that gave no recording.
-    pub fn of_run<S>(error: &RunError<S>) -> Fault<'a>
+    pub fn of_run<S>(error: &RunError<S>) -> CommandFault<'a>
         ensures { result ≡ fault_of error.now }
     {
         match error {
-            RunError::Settings { .. } => Fault::Run(WorldError::Settings),
-            RunError::ChannelTwice { .. } => Fault::Run(WorldError::ChannelTwice),
-            RunError::Prologue { .. } => Fault::Run(WorldError::Prologue),
-            RunError::Memory { .. } => Fault::Memory,
-            RunError::Sink { taken, .. } => Fault::Sink { taken: *taken },
+            RunError::Settings { .. } => CommandFault::Run(WorldError::Settings),
+            RunError::ChannelTwice { .. } => CommandFault::Run(WorldError::ChannelTwice),
+            RunError::Prologue { .. } => CommandFault::Run(WorldError::Prologue),
+            RunError::Memory { .. } => CommandFault::Memory,
+            RunError::Sink { taken, .. } => CommandFault::Sink { taken: *taken },
         }
     }
 
     /// The fault of a session that ended before its lines did, or with a refusal for memory.
-    pub fn of_step(fault: &StepFault) -> Fault<'a>
+    pub fn of_step(fault: &StepFault) -> CommandFault<'a>
         ensures { IsOfStep fault.now result }
     {
         match fault {
-            StepFault::Refused(refusal) => Fault::Recording(*refusal),
-            StepFault::Mismatch { channel, number } => Fault::Mismatch {
+            StepFault::Refused(refusal) => CommandFault::Recording(*refusal),
+            StepFault::Mismatch { channel, number } => CommandFault::Mismatch {
                 channel: *channel,
                 number: *number,
             },
-            StepFault::Memory | StepFault::LineMemory => Fault::Memory,
-            StepFault::Input | StepFault::Output => Fault::Device("-"),
+            StepFault::Memory | StepFault::LineMemory => CommandFault::Memory,
+            StepFault::Input | StepFault::Output => CommandFault::Device("-"),
         }
     }
 
     /// The fault of a file with this name that cannot be written by one of this kind.
-    pub(crate) fn of_out(name: &'a str, kind: Kind, error: &OutError) -> Fault<'a>
+    pub(crate) fn of_out(name: &'a str, kind: Kind, error: &OutError) -> CommandFault<'a>
         ensures { IsOfOut name.now kind error.now result }
     {
         match error {
-            OutError::System(error) => Fault::of_stream(name, error),
-            OutError::Busy => Fault::Busy(name),
-            OutError::OtherKind => Fault::OtherKind { name, kind },
-            OutError::OtherPart => Fault::OtherPart { name, kind },
+            OutError::System(error) => CommandFault::of_stream(name, error),
+            OutError::Busy => CommandFault::Busy(name),
+            OutError::OtherKind => CommandFault::OtherKind { name, kind },
+            OutError::OtherPart => CommandFault::OtherPart { name, kind },
         }
     }
 
     /// The fault of a file or stream with this name.
-    pub fn of_stream(name: &'a str, error: &io::Error) -> Fault<'a> {
+    pub fn of_stream(name: &'a str, error: &io::Error) -> CommandFault<'a> {
         if error.kind() == io::ErrorKind::OutOfMemory {
-            return Fault::Memory;
+            return CommandFault::Memory;
         }
         match error.raw_os_error() {
-            Some(code) => Fault::System { name, code },
-            None => Fault::Device(name),
+            Some(code) => CommandFault::System { name, code },
+            None => CommandFault::Device(name),
         }
     }
 }
 
-impl<'a> From<ReadError> for Fault<'a> {
+impl<'a> From<ReadError> for CommandFault<'a> {
     ghost from_gives = { λ cause e. e ≡ fault_of_reading cause };
 
-    fn from(cause: ReadError) -> Fault<'a> {
+    fn from(cause: ReadError) -> CommandFault<'a> {
         match cause {
-            ReadError::Refused(refusal) => Fault::Recording(refusal),
-            ReadError::Memory => Fault::Memory,
+            ReadError::Refused(refusal) => CommandFault::Recording(refusal),
+            ReadError::Memory => CommandFault::Memory,
         }
     }
 }
 
-impl<'a> From<AllocError> for Fault<'a> {
+impl<'a> From<AllocError> for CommandFault<'a> {
     ghost from_gives = { λ _ e. e ≡ faults.Memory };
 
-    fn from(_e: AllocError) -> Fault<'a> {
-        Fault::Memory
+    fn from(_e: AllocError) -> CommandFault<'a> {
+        CommandFault::Memory
     }
 }

@@ -1,6 +1,6 @@
 //! Files, read and written whole.
 
-use crate::fault::Fault;
+use crate::fault::CommandFault;
 use bench_dump::read_sized;
 use bench_files::{Hold, Kind, OutFile, refuse_other_kind};
 use ch11_stream::StreamFault;
@@ -17,37 +17,43 @@ fn size_of<F: OpenFile>(file: &F) -> u64 {
 }
 
 /// A file that is to be read from its start. One that cannot be opened is a device fault with its name as given.
-pub fn open_to_read<'a, R: Files>(rt: &R, name: &'a str) -> Result<R::File, Fault<'a>> {
+pub fn open_to_read<'a, R: Files>(rt: &R, name: &'a str) -> Result<R::File, CommandFault<'a>> {
     match fs::open(rt, name) {
         Ok(file) => Ok(file),
-        Err(error) => Err(Fault::of_stream(name, &error)),
+        Err(error) => Err(CommandFault::of_stream(name, &error)),
     }
 }
 
 /// All bytes of a file. Room for as many as it is said to have is asked for before the first is read. One that cannot
 /// be opened or read, or that does not end within 1,000,000 reads of up to 65,536 bytes (own choice), is a device
 /// fault with its name as given.
-pub fn read_whole<'a, R: Files + AllocGlobal>(rt: &R, name: &'a str) -> Result<Vec<u8>, Fault<'a>> {
+pub fn read_whole<'a, R: Files + AllocGlobal>(
+    rt: &R,
+    name: &'a str,
+) -> Result<Vec<u8>, CommandFault<'a>> {
     let mut file = open_to_read(rt, name)?;
     let size = size_of(&file);
     match read_sized(rt.alloc(), &mut file, size) {
         Ok(bytes) => Ok(bytes),
-        Err(StreamFault::Memory) => Err(Fault::Memory),
-        Err(_) => Err(Fault::Device(name)),
+        Err(StreamFault::Memory) => Err(CommandFault::Memory),
+        Err(_) => Err(CommandFault::Device(name)),
     }
 }
 
 /// Refuses to read once more what is no plain file.
-fn again<'a, R: Files>(rt: &R, name: &'a str) -> Result<(), Fault<'a>> {
+fn again<'a, R: Files>(rt: &R, name: &'a str) -> Result<(), CommandFault<'a>> {
     match fs::metadata(rt, name) {
         Ok(about) if about.is_file() => Ok(()),
-        _ => Err(Fault::Device(name)),
+        _ => Err(CommandFault::Device(name)),
     }
 }
 
 /// All bytes of a file that was read before. What is no plain file, as a pipe, can be read once alone: it is a device
 /// fault, and not opened.
-pub fn read_again<'a, R: Files + AllocGlobal>(rt: &R, name: &'a str) -> Result<Vec<u8>, Fault<'a>> {
+pub fn read_again<'a, R: Files + AllocGlobal>(
+    rt: &R,
+    name: &'a str,
+) -> Result<Vec<u8>, CommandFault<'a>> {
     again(rt, name)?;
     read_whole(rt, name)
 }
@@ -56,7 +62,7 @@ pub fn read_again<'a, R: Files + AllocGlobal>(rt: &R, name: &'a str) -> Result<V
 pub fn texts_again<'a, R: Files + AllocGlobal>(
     rt: &R,
     names: &[&'a str],
-) -> Result<Vec<Vec<u8>>, Fault<'a>> {
+) -> Result<Vec<Vec<u8>>, CommandFault<'a>> {
     for name in names {
         again(rt, name)?;
     }
@@ -67,11 +73,11 @@ pub fn texts_again<'a, R: Files + AllocGlobal>(
 pub fn read_texts<'a, R: Files + AllocGlobal>(
     rt: &R,
     names: &[&'a str],
-) -> Result<Vec<Vec<u8>>, Fault<'a>> {
+) -> Result<Vec<Vec<u8>>, CommandFault<'a>> {
     let mut texts = Vec::new(rt.alloc());
     for name in names {
         let text = read_whole(rt, name)?;
-        texts.push(text).map_err(|_| Fault::Memory)?;
+        texts.push(text).map_err(|_| CommandFault::Memory)?;
     }
     Ok(texts)
 }
@@ -82,13 +88,13 @@ pub fn replaceable<'a, R: Files>(
     name: &'a str,
     kind: Kind,
     force: bool,
-) -> Result<(), Fault<'a>> {
+) -> Result<(), CommandFault<'a>> {
     if force {
         return Ok(());
     }
     match refuse_other_kind(rt, name, kind) {
         Ok(()) => Ok(()),
-        Err(error) => Err(Fault::of_out(name, kind, &error)),
+        Err(error) => Err(CommandFault::of_out(name, kind, &error)),
     }
 }
 
@@ -100,13 +106,13 @@ pub fn begin<'a, R: Files + AllocGlobal>(
     name: &'a str,
     kind: Kind,
     force: bool,
-) -> Result<OutFile<'a, R::File>, Fault<'a>>
+) -> Result<OutFile<'a, R::File>, CommandFault<'a>>
 where
     R::File: Hold,
 {
     match OutFile::begin(rt, name, kind, force) {
         Ok(file) => Ok(file),
-        Err(error) => Err(Fault::of_out(name, kind, &error)),
+        Err(error) => Err(CommandFault::of_out(name, kind, &error)),
     }
 }
 
@@ -115,13 +121,13 @@ pub fn writer_of<'a, R: Files>(
     rt: &R,
     name: &'a str,
     file: &mut OutFile<'a, R::File>,
-) -> Result<R::File, Fault<'a>>
+) -> Result<R::File, CommandFault<'a>>
 where
     R::File: Hold,
 {
     match file.writer(rt) {
         Ok(writer) => Ok(writer),
-        Err(error) => Err(Fault::of_stream(name, &error)),
+        Err(error) => Err(CommandFault::of_stream(name, &error)),
     }
 }
 
@@ -130,7 +136,7 @@ pub fn put_in_place<'a, R: Files>(
     rt: &R,
     name: &'a str,
     file: OutFile<'a, R::File>,
-) -> Result<(), Fault<'a>>
+) -> Result<(), CommandFault<'a>>
 where
     R::File: Hold,
 {
@@ -138,11 +144,11 @@ where
     match synced {
         Ok(()) => match file.take_place(rt) {
             Ok(()) => Ok(()),
-            Err(error) => Err(Fault::of_stream(name, &error)),
+            Err(error) => Err(CommandFault::of_stream(name, &error)),
         },
         Err(error) => {
             file.give_up(rt);
-            Err(Fault::of_stream(name, &error))
+            Err(CommandFault::of_stream(name, &error))
         }
     }
 }
@@ -155,7 +161,7 @@ pub fn write_new<'a, R: Files + AllocGlobal>(
     kind: Kind,
     force: bool,
     bytes: &[u8],
-) -> Result<(), Fault<'a>>
+) -> Result<(), CommandFault<'a>>
 where
     R::File: Hold,
 {
@@ -175,13 +181,13 @@ fn write_bytes<'a, R: Files>(
     name: &'a str,
     file: &mut OutFile<'a, R::File>,
     bytes: &[u8],
-) -> Result<(), Fault<'a>>
+) -> Result<(), CommandFault<'a>>
 where
     R::File: Hold,
 {
     let mut writer = writer_of(rt, name, file)?;
     match writer.write_all(bytes) {
         Ok(()) => Ok(()),
-        Err(error) => Err(Fault::of_stream(name, &error)),
+        Err(error) => Err(CommandFault::of_stream(name, &error)),
     }
 }

@@ -2,12 +2,12 @@
 //! is written.
 ghost use Rattle.bench_requests.specs.Judging as spec;
 ghost use Rattle.bench_requests.specs.Requests.{IsRefusedText};
-ghost use Rattle.bench_requests.specs.declared.fault.Fault.TheVariants.{NotHeld};
+ghost use Rattle.bench_requests.specs.declared.fault.CommandFault.TheVariants.{NotHeld};
 ghost use Rattle.judge_rules.specs.Parts.{parts_of};
 ghost use Rattle.judge_rules.specs.Rules.{rules_in};
 ghost use Rattle.std.specs.Prelude.{◌≡◌, None, Ok, IfOk, IfErr, if◌then◌else◌, map, option_map};
 
-use crate::fault::Fault;
+use crate::fault::CommandFault;
 use crate::rules::rules_of;
 use bench_judge::RuleVerdict;
 use judge_rules::Rule;
@@ -29,7 +29,7 @@ pub fn rules_text<'a>(given: Option<&'a [u8]>) -> &'a [u8]
 
 /// The rules by which a recording is judged: those that the given text spells, else the one of line 1 by which each
 /// message has to be clean. Want of memory is answered only for a text without a fault.
-pub fn rules_asked<'a>(alloc: Global, given: Option<&[u8]>) -> Result<Vec<Rule>, Fault<'a>>
+pub fn rules_asked<'a>(alloc: Global, given: Option<&[u8]>) -> Result<Vec<Rule>, CommandFault<'a>>
     ensures rules { IfOk result (λ rules. rules_in (spec.text_of_rules (option_map (λ text. text.now) given.entry))
         ≡ Ok (map parts_of rules.items)) }
     ensures refused { IfErr result (IsRefusedText (rules_in (spec.text_of_rules
@@ -41,9 +41,9 @@ pub fn rules_asked<'a>(alloc: Global, given: Option<&[u8]>) -> Result<Vec<Rule>,
 /// A recording that was read and the rules by which it is judged. Where both were refused, the fault of the recording
 /// comes first.
 pub fn recording_first<'a, T: Drop>(
-    recording: Result<T, Fault<'a>>,
-    rules: Result<Vec<Rule>, Fault<'a>>,
-) -> Result<(T, Vec<Rule>), Fault<'a>>
+    recording: Result<T, CommandFault<'a>>,
+    rules: Result<Vec<Rule>, CommandFault<'a>>,
+) -> Result<(T, Vec<Rule>), CommandFault<'a>>
     ensures { result ≡ spec.recording_first recording.entry rules.entry }
 {
     match recording {
@@ -57,14 +57,14 @@ pub fn recording_first<'a, T: Drop>(
 
 /// How `bench judge` ends once its verdicts were printed: with a fault of its own, status 5, exactly where a rule is
 /// not held.
-pub fn verdict_on<'a>(verdicts: &[RuleVerdict]) -> Result<(), Fault<'a>>
+pub fn verdict_on<'a>(verdicts: &[RuleVerdict]) -> Result<(), CommandFault<'a>>
     ensures fault { IfErr result (λ fault. fault ≡ NotHeld) }
     ensures status { spec.status_in result ≡ spec.status_on verdicts.now }
 {
     if bench_judge::not_held(verdicts) == 0 {
         Ok(())
     } else {
-        Err(Fault::NotHeld)
+        Err(CommandFault::NotHeld)
     }
 }
 
@@ -72,7 +72,7 @@ pub fn verdict_on<'a>(verdicts: &[RuleVerdict]) -> Result<(), Fault<'a>>
 /// printed.
 pub fn junit_of<'a, 'f>(
     asked: Option<&'a str>,
-    printed: &Result<Vec<RuleVerdict>, Fault<'f>>,
+    printed: &Result<Vec<RuleVerdict>, CommandFault<'f>>,
 ) -> Option<&'a str>
     ensures { result ≡ if spec.writes_junit (spec.status_of_judging (λ verdicts. verdicts.items) printed.now)
         then asked.entry else None }

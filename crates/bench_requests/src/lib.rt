@@ -24,7 +24,7 @@ pub use apart::{Place, told_apart};
 pub use dictionaries::dictionary_of;
 pub use ending::Ending;
 pub use endings::{ending_of_run, ending_of_settings};
-pub use fault::Fault;
+pub use fault::CommandFault;
 pub use files::{
     begin, open_to_read, put_in_place, read_again, read_texts, read_whole, replaceable,
     texts_again, write_new, writer_of,

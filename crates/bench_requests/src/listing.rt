@@ -3,7 +3,7 @@ ghost use Rattle.bench_requests.specs.Listings.{IsClosed, IsOther, is_over};
 ghost use Rattle.std.specs.IoError.{error_kind};
 ghost use Rattle.std.specs.Prelude.{◌≡◌, true, false, IfOk, IfErr, IsOk, MatchResult};
 
-use crate::fault::Fault;
+use crate::fault::CommandFault;
 use std::io::{self, Write};
 
 /// A writer of a listing. A reader that goes away (a closed pipe) is no fault of it: what follows is either asked for
@@ -94,7 +94,10 @@ impl<W: Write + Drop> Write for Listing<W> {
 }
 
 /// What a command comes to whose listing ended so: where its reader has gone, a fault of the standard output is none.
-pub fn unless_gone<'a>(is_gone: bool, answer: Result<(), Fault<'a>>) -> Result<(), Fault<'a>>
+pub fn unless_gone<'a>(
+    is_gone: bool,
+    answer: Result<(), CommandFault<'a>>,
+) -> Result<(), CommandFault<'a>>
     ensures done { IfOk answer.entry (λ _. IsOk result) }
     ensures ended { IfErr answer.entry (λ fault. MatchResult result
         (λ _. is_over is_gone fault ≡ true)

@@ -4,22 +4,22 @@ ghost use Rattle.judge_rules.specs.Parts.{parts_of};
 ghost use Rattle.judge_rules.specs.Rules.{rules_in};
 ghost use Rattle.std.specs.Prelude.{◌≡◌, Ok, IfOk, IfErr, map};
 
-use crate::fault::Fault;
+use crate::fault::CommandFault;
 use judge_rules::{Rule, RuleError, RuleFault, read_rules};
 use std::alloc::Global;
 
 /// The fault of rules that were refused.
-fn fault_of<'a>(error: RuleError) -> Fault<'a>
+fn fault_of<'a>(error: RuleError) -> CommandFault<'a>
     ensures { result ≡ fault_of_rules error }
 {
     match error.fault {
-        RuleFault::Memory => Fault::Memory,
-        RuleFault::Word | RuleFault::Number | RuleFault::Range => Fault::Rules(error),
+        RuleFault::Memory => CommandFault::Memory,
+        RuleFault::Word | RuleFault::Number | RuleFault::Range => CommandFault::Rules(error),
     }
 }
 
 /// The rules that a text spells, or its first fault. Memory is answered only for a text without a fault.
-pub fn rules_of<'a>(alloc: Global, text: &[u8]) -> Result<Vec<Rule>, Fault<'a>>
+pub fn rules_of<'a>(alloc: Global, text: &[u8]) -> Result<Vec<Rule>, CommandFault<'a>>
     ensures rules { IfOk result (λ rules. rules_in text.now ≡ Ok (map parts_of rules.items)) }
     ensures refused { IfErr result (IsRefusedText (rules_in text.now)) }
 {

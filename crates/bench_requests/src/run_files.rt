@@ -1,6 +1,6 @@
 //! The files that a run writes: its recording and its report, which take their places together.
 use crate::ending::Ending;
-use crate::fault::Fault;
+use crate::fault::CommandFault;
 use crate::files::{begin, replaceable, writer_of};
 use crate::settings::RunRequest;
 use bench_files::{Hold, Kind, OutFile, leads_to_output};
@@ -23,7 +23,10 @@ pub struct RunFiles<'a, F: Drop> {
 
 impl<'a, F: OpenFile + Write + Hold + Drop> RunFiles<'a, F> {
     /// Refuses, as a usage fault, an out file or a report that is there and is of another kind.
-    pub fn judge<R: Files<File = F>>(rt: &R, request: &RunRequest<'a>) -> Result<(), Fault<'a>> {
+    pub fn judge<R: Files<File = F>>(
+        rt: &R,
+        request: &RunRequest<'a>,
+    ) -> Result<(), CommandFault<'a>> {
         replaceable(rt, request.out, Kind::Recording, request.force)?;
         replaceable(rt, request.report, Kind::Report, request.force)
     }
@@ -32,7 +35,7 @@ impl<'a, F: OpenFile + Write + Hold + Drop> RunFiles<'a, F> {
     pub fn begin<R: Files<File = F> + AllocGlobal>(
         rt: &R,
         request: &RunRequest<'a>,
-    ) -> Result<RunFiles<'a, F>, Fault<'a>> {
+    ) -> Result<RunFiles<'a, F>, CommandFault<'a>> {
         let out = begin(rt, request.out, Kind::Recording, request.force)?;
         match begin(rt, request.report, Kind::Report, request.force) {
             Ok(report) => Ok(RunFiles {
@@ -55,12 +58,12 @@ impl<'a, F: OpenFile + Write + Hold + Drop> RunFiles<'a, F> {
     }
 
     /// Where the recording goes.
-    pub fn recording<R: Files<File = F>>(&mut self, rt: &R) -> Result<F, Fault<'a>> {
+    pub fn recording<R: Files<File = F>>(&mut self, rt: &R) -> Result<F, CommandFault<'a>> {
         writer_of(rt, self.out_name, &mut self.out)
     }
 
     /// Ends a run that gave no recording: the recording and the report that were there stay.
-    pub fn end<R: Files<File = F>>(self, rt: &R, ending: Ending) -> Result<(), Fault<'a>> {
+    pub fn end<R: Files<File = F>>(self, rt: &R, ending: Ending) -> Result<(), CommandFault<'a>> {
         let RunFiles {
             out_name,
             report_name: _,
@@ -72,7 +75,7 @@ impl<'a, F: OpenFile + Write + Hold + Drop> RunFiles<'a, F> {
         match ending {
             Ending::Refused => match out.leave_empty(rt) {
                 Ok(()) => Ok(()),
-                Err(error) => Err(Fault::of_stream(out_name, &error)),
+                Err(error) => Err(CommandFault::of_stream(out_name, &error)),
             },
             Ending::Broken => {
                 out.leave(rt);
@@ -86,7 +89,7 @@ impl<'a, F: OpenFile + Write + Hold + Drop> RunFiles<'a, F> {
         self,
         rt: &R,
         told: &Report,
-    ) -> Result<(), Fault<'a>> {
+    ) -> Result<(), CommandFault<'a>> {
         let RunFiles {
             out_name,
             report_name,
@@ -101,11 +104,11 @@ impl<'a, F: OpenFile + Write + Hold + Drop> RunFiles<'a, F> {
         }
         if let Err(error) = out.take_place(rt) {
             report.give_up(rt);
-            return Err(Fault::of_stream(out_name, &error));
+            return Err(CommandFault::of_stream(out_name, &error));
         }
         match report.take_place(rt) {
             Ok(()) => Ok(()),
-            Err(error) => Err(Fault::of_stream(report_name, &error)),
+            Err(error) => Err(CommandFault::of_stream(report_name, &error)),
         }
     }
 }
@@ -116,17 +119,17 @@ fn write_told<'a, R: Files + AllocGlobal>(
     name: &'a str,
     file: &mut OutFile<'a, R::File>,
     told: &Report,
-) -> Result<(), Fault<'a>>
+) -> Result<(), CommandFault<'a>>
 where
     R::File: Hold,
 {
     let writer = writer_of(rt, name, file)?;
     let Ok(mut out) = BufWriter::new(rt.alloc(), writer) else {
-        return Err(Fault::Memory);
+        return Err(CommandFault::Memory);
     };
     match write_report(&mut out, told) {
         Ok(()) => Ok(()),
-        Err(error) => Err(Fault::of_stream(name, &error)),
+        Err(error) => Err(CommandFault::of_stream(name, &error)),
     }
 }
 
@@ -136,16 +139,16 @@ fn write_both<'a, R: Files + AllocGlobal>(
     out: (&'a str, &OutFile<'a, R::File>),
     report: (&'a str, &mut OutFile<'a, R::File>),
     told: &Report,
-) -> Result<(), Fault<'a>>
+) -> Result<(), CommandFault<'a>>
 where
     R::File: Hold,
 {
     write_told(rt, report.0, &mut *report.1, told)?;
     if let Err(error) = out.1.sync() {
-        return Err(Fault::of_stream(out.0, &error));
+        return Err(CommandFault::of_stream(out.0, &error));
     }
     match report.1.sync() {
         Ok(()) => Ok(()),
-        Err(error) => Err(Fault::of_stream(report.0, &error)),
+        Err(error) => Err(CommandFault::of_stream(report.0, &error)),
     }
 }

@@ -10,7 +10,7 @@ use Rattle.ch11_header.specs.HeaderBytes.{number_at, word_sum, header_sum}
 use Rattle.ch11_header.specs.HeaderReading.{header_in, fields_of, with_lawful_lengths, is_packet_length, has_room, body_start}
 use Rattle.ch11_f1.specs.declared.error.BodyError.{BodyError}
 use Rattle.ch11_f1.specs.BodyReading.{Message, messages_in}
-use Rattle.ch11_reader.specs.declared.error.Fault.{Fault}
+use Rattle.ch11_reader.specs.declared.error.PacketFault.{PacketFault}
 use Rattle.ch11_reader.specs.declared.error.Refusal.{Refusal}
 use Rattle.ch11_reader.specs.Recording.{Found, holds_messages, body_of, packet_messages, with_body, with_rest, with_header, packet_at, packets_from, packets_in, located, ◌>>=◌}
 use Rattle.ch11_reader.specs.Joined.{later}
@@ -117,7 +117,7 @@ body_is : (g h : Header) (m : Result (List Message) BodyError) → with_body g m
 body_is g h (Ok ms) is = cc
 body_is g h (Err e) is = cc
 
-rest_is : (g h : Header) (bytes : List ℕ) (short holds : Bool) (e : Fault) → ltb (length bytes) g.packet_length ≡ short
+rest_is : (g h : Header) (bytes : List ℕ) (short holds : Bool) (e : PacketFault) → ltb (length bytes) g.packet_length ≡ short
     → cond short (Err e) (cond holds (with_body g (messages_in (body_of g bytes))) (Ok g)) ≡ Ok h → (g ≡ h) × (g.packet_length ≤ length bytes)
 rest_is g h bytes true holds e s is = cc
 rest_is g h bytes false true e s is = (body_is g h _ is, ltb-false (length bytes) g.packet_length s)
@@ -170,7 +170,7 @@ rest_found : (most offset : ℕ) (bytes : List ℕ) (h : Header) (ps : List Foun
 rest_found most offset bytes h ps (Err e) behind at is = cc
 rest_found most offset bytes h ps (Ok others) behind at is = record { header = h; others = others; is = at; behind = behind; all = cc }
 
-first_found : (most offset : ℕ) (bytes : List ℕ) (ps : List Found) (read : Result Header Fault) → packet_at bytes ≡ read
+first_found : (most offset : ℕ) (bytes : List ℕ) (ps : List Found) (read : Result Header PacketFault) → packet_at bytes ≡ read
     → (located offset read >>= λ h. packets_from most (offset + h.packet_length) (drop h.packet_length bytes) >>= λ others. Ok (found_at offset h bytes ∷ others)) ≡ Ok ps
     → IsFirst most offset bytes ps
 first_found most offset bytes ps (Err e) at is = cc

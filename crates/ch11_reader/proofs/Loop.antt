@@ -4,7 +4,7 @@ use Rattle.std.proofs.lemmas.Bool.{cases_eq, ne_eqb}
 use Rattle.std.proofs.lemmas.List.{append-nil, length-drop, length-set, length-replicate, drop-drop, get_or-replicate, get_or-set_same, get_or-set_other, map_push}
 use Rattle.ch11_header.specs.HeaderReading.{body_start}
 use Rattle.ch11_header.specs.declared.header.Header.{Header}
-use Rattle.ch11_reader.specs.declared.error.Fault.{Fault}
+use Rattle.ch11_reader.specs.declared.error.PacketFault.{PacketFault}
 use Rattle.ch11_reader.specs.declared.error.Refusal.{Refusal}
 use Rattle.ch11_reader.specs.declared.packet.Packet.{Packet}
 use Rattle.ch11_reader.specs.Recording.{◌>>=◌, Found, packet_messages, packet_at, packets_from, packets_in}
@@ -78,7 +78,7 @@ goes_on file (b ∷ bs) earlier h read long fits g = go g.most g.enough g.so_far
           so_far = rw next (sym one ∙ so_far);
         }
 
-pub stops : (file rest : List ℕ) (earlier : List Found) (f : Fault) → 0 < length rest → packet_at rest ≡ Err f
+pub stops : (file rest : List ℕ) (earlier : List Found) (f : PacketFault) → 0 < length rest → packet_at rest ≡ Err f
     → Going file rest earlier → packets_in file ≡ Err (record { offset = length file - length rest; fault = f })
 unfolding packets_from
 stops file [] earlier f some read g = absurd (omega arith)

@@ -2,7 +2,7 @@
 use Rattle.std.proofs.Common.{◌≡◌, ℕ, zero, suc, ◌-◌, ◌+◌, ◌≤◌, ◌<◌, List, [], ◌∷◌, ◌++◌, length, drop, Bool, set, get_or, Option, None, Some, Result, Ok, Err, refl, sym, ap, ◌∙◌, append_assoc, arith}
 use Rattle.std.proofs.lemmas.List.{append-nil, length-drop}
 use Rattle.ch11_header.specs.declared.header.Header.{Header}
-use Rattle.ch11_reader.specs.declared.error.Fault.{Fault}
+use Rattle.ch11_reader.specs.declared.error.PacketFault.{PacketFault}
 use Rattle.ch11_reader.specs.declared.skip.Skip.{Skip}
 use Rattle.ch11_reader.specs.declared.packet.Packet.{Packet}
 use Rattle.ch11_reader.specs.Recording.{Found, packet_at, packets_from, packets_in}
@@ -47,14 +47,14 @@ abbrev pub read_next : List ℕ → List ℕ → Header → Stretch
 read_next file rest h = Read (next_found file rest h)
 
 -- the stretch of skipped bytes
-abbrev pub skip_next : List ℕ → List ℕ → Fault → Skip
+abbrev pub skip_next : List ℕ → List ℕ → PacketFault → Skip
 skip_next file rest f = record { offset = length file - length rest; length = bytes_before rest; fault = f }
 
 pub packet_read : (file rest : List ℕ) (earlier : List Stretch) (h : Header) → packet_at rest ≡ Ok h → 24 ≤ h.packet_length → h.packet_length ≤ length rest → length rest ≤ length file
     → IsUnderWay file rest earlier → IsUnderWay file (drop h.packet_length rest) (read_next file rest h ∷ earlier)
 packet_read file rest earlier h is long fits short g = one_further file rest earlier h.packet_length (read_next file rest h) (omega arith) (rw is refl) (rw is refl) (omega arith) fits short g
 
-none_or_few : (read : Result Header Fault) (behind size : ℕ) → behind ≤ size → none_or_behind read behind ≤ suc size
+none_or_few : (read : Result Header PacketFault) (behind size : ℕ) → behind ≤ size → none_or_behind read behind ≤ suc size
 none_or_few (Ok h) behind size few = omega arith
 none_or_few (Err f) behind size few = omega (arith, few)
 
@@ -63,7 +63,7 @@ pub few_before : (bytes : List ℕ) → bytes_before bytes ≤ length bytes
 few_before [] = omega arith
 few_before (b ∷ bs) = none_or_few (packet_at (b ∷ bs)) (bytes_before bs) (length bs) (few_before bs)
 
-pub some_before : (bytes : List ℕ) (f : Fault) → 0 < length bytes → packet_at bytes ≡ Err f → 0 < bytes_before bytes
+pub some_before : (bytes : List ℕ) (f : PacketFault) → 0 < length bytes → packet_at bytes ≡ Err f → 0 < bytes_before bytes
 some_before [] f some is = absurd (omega arith)
 some_before (b ∷ bs) f some is = rw is (omega arith)
 
@@ -71,11 +71,11 @@ pub none_before : (bytes : List ℕ) (h : Header) → packet_at bytes ≡ Ok h �
 none_before [] h is = refl
 none_before (b ∷ bs) h is = rw is refl
 
-pub one_before : (bytes : List ℕ) (f : Fault) → 0 < length bytes → packet_at bytes ≡ Err f → bytes_before bytes ≡ suc (bytes_before (drop 1 bytes))
+pub one_before : (bytes : List ℕ) (f : PacketFault) → 0 < length bytes → packet_at bytes ≡ Err f → bytes_before bytes ≡ suc (bytes_before (drop 1 bytes))
 one_before [] f some is = absurd (omega arith)
 one_before (b ∷ bs) f some is = rw is refl
 
-pub bytes_skipped : (file rest : List ℕ) (earlier : List Stretch) (f : Fault) → packet_at rest ≡ Err f → 0 < length rest → length rest ≤ length file
+pub bytes_skipped : (file rest : List ℕ) (earlier : List Stretch) (f : PacketFault) → packet_at rest ≡ Err f → 0 < length rest → length rest ≤ length file
     → IsUnderWay file rest earlier → IsUnderWay file (drop (bytes_before rest) rest) (Skipped (skip_next file rest f) ∷ earlier)
 bytes_skipped file rest earlier f is some short g =
     one_further file rest earlier (bytes_before rest) (Skipped (skip_next file rest f)) some (rw is refl) (rw is refl) (some_before rest f some is) (few_before rest) short g
@@ -102,7 +102,7 @@ reads_one file rest entries before latest skips h counted jump next r known = re
   skipped = λ others. r.skipped (read_next file rest h ∷ others);
 }
 
-pub skips_one : (file rest : List ℕ) (entries : List Packet) (before : ℕ) (latest : List (Option ℕ)) (skips : List Skip) (f : Fault) → packet_at rest ≡ Err f → 0 < length rest → Reading file rest entries before latest skips
+pub skips_one : (file rest : List ℕ) (entries : List Packet) (before : ℕ) (latest : List (Option ℕ)) (skips : List Skip) (f : PacketFault) → packet_at rest ≡ Err f → 0 < length rest → Reading file rest entries before latest skips
     → Reading file (drop (bytes_before rest) rest) entries before latest (skips ++ skip_next file rest f ∷ [])
 skips_one file rest entries before latest skips f is some r = record {
   earlier = Skipped (skip_next file rest f) ∷ r.earlier;

@@ -12,7 +12,7 @@ use Rattle.ch11_f1.specs.BodyReading.{◌>>=◌, Message, message_at, messages_a
 use Rattle.ch11_header.specs.declared.header.Header.{Header}
 use Rattle.ch11_header.specs.HeaderBytes.{number_at}
 use Rattle.ch11_header.specs.HeaderReading.{header_in, body_start}
-use Rattle.ch11_reader.specs.declared.error.Fault.TheVariants as faults
+use Rattle.ch11_reader.specs.declared.error.PacketFault.TheVariants as faults
 use Rattle.ch11_reader.specs.Recording.{holds_messages, body_of, packet_at}
 use Rattle.ch11_reader.specs.declared.jumps.Jump.{Jump}
 use Rattle.ch11_reader.specs.Walking.{between, body_verdict, no_jump, Leads, IsJump, AreJumps}

@@ -2,13 +2,13 @@
 use Rattle.std.specs.Prelude.{ℕ, List, ◌++◌, codes, decimal}
 use Rattle.ch11_header.specs.Codes as headers
 use Rattle.ch11_f1.specs.Codes as bodies
-use Rattle.ch11_reader.specs.declared.error.Fault.{Fault}
-use Rattle.ch11_reader.specs.declared.error.Fault.TheVariants.{Header, End, Body}
+use Rattle.ch11_reader.specs.declared.error.PacketFault.{PacketFault}
+use Rattle.ch11_reader.specs.declared.error.PacketFault.TheVariants.{Header, End, Body}
 use Rattle.ch11_reader.specs.declared.error.Refusal.{Refusal}
 use Rattle.ch11_reader.specs.declared.error.ReadError.{ReadError}
 use Rattle.ch11_reader.specs.declared.error.ReadError.TheVariants.{Refused, Memory}
 
-abbrev pub fault_code : Fault → List ℕ
+abbrev pub fault_code : PacketFault → List ℕ
 fault_code (Header fault) = headers.fault_code fault
 fault_code End = codes "N2"
 fault_code (Body fault) = bodies.fault_code fault

@@ -5,7 +5,7 @@ use Rattle.ch11_header.specs.HeaderBytes.{header_sum, word_sum}
 use Rattle.ch11_header.specs.HeaderReading.{header_in, fields_of, with_lawful_lengths}
 use Rattle.ch11_header.specs.declared.error.HeaderError.TheVariants.{Short, Sync}
 use Rattle.ch11_f1.specs.BodyReading.{Message, messages_in, messages_at, message_at}
-use Rattle.ch11_reader.specs.declared.error.Fault.TheVariants.{Header, End}
+use Rattle.ch11_reader.specs.declared.error.PacketFault.TheVariants.{Header, End}
 use Rattle.ch11_reader.specs.Recording.{Found, packets_in, packets_from, packet_at}
 use Rattle.ch11_reader.specs.Contents.{reading, message_numbered}
 use Rattle.ch11_reader.specs.Listing.{listing}

@@ -9,8 +9,8 @@ use Rattle.ch11_header.specs.HeaderReading.{header_in, body_start}
 use Rattle.ch11_header.specs.Kinds.{bus_messages}
 use Rattle.ch11_f1.specs.declared.error.BodyError.{BodyError}
 use Rattle.ch11_f1.specs.BodyReading.{Message, messages_in, ok_or_none}
-use Rattle.ch11_reader.specs.declared.error.Fault.{Fault}
-use Rattle.ch11_reader.specs.declared.error.Fault.TheVariants as faults
+use Rattle.ch11_reader.specs.declared.error.PacketFault.{PacketFault}
+use Rattle.ch11_reader.specs.declared.error.PacketFault.TheVariants as faults
 use Rattle.ch11_reader.specs.declared.error.Refusal.{Refusal}
 use Rattle.ch11_reader.specs.declared.error.ReadError.{ReadError}
 use Rattle.ch11_reader.specs.declared.error.ReadError.TheVariants as errors
@@ -33,23 +33,23 @@ body_of h bytes = take h.data_length (drop (body_start h) bytes)
 abbrev pub packet_messages : Header → List ℕ → List Message
 packet_messages h bytes = if holds_messages h then ok_or_none (messages_in (body_of h bytes)) else []
 
-abbrev pub with_body : Header → Result (List Message) BodyError → Result Header Fault
+abbrev pub with_body : Header → Result (List Message) BodyError → Result Header PacketFault
 with_body h (Ok ms) = Ok h
 with_body h (Err e) = Err (faults.Body e)
 
 -- behind a lawful header: the packet ends in the file, and its body can be read if it holds messages
-abbrev pub with_rest : Header → List ℕ → Result Header Fault
+abbrev pub with_rest : Header → List ℕ → Result Header PacketFault
 with_rest h bytes =
     if nat_lt (length bytes) h.packet_length then Err faults.End
     else if holds_messages h then with_body h (messages_in (body_of h bytes))
     else Ok h
 
-abbrev pub with_header : Result Header HeaderError → List ℕ → Result Header Fault
+abbrev pub with_header : Result Header HeaderError → List ℕ → Result Header PacketFault
 with_header (Ok h) bytes = with_rest h bytes
 with_header (Err e) bytes = Err (faults.Header e)
 
 -- the packet that begins these bytes, or its first fault
-unfoldable pub packet_at : List ℕ → Result Header Fault
+unfoldable pub packet_at : List ℕ → Result Header PacketFault
 packet_at bytes = with_header (header_in bytes) bytes
 
 infixl 10 ◌>>=◌
@@ -58,7 +58,7 @@ abbrev pub ◌>>=◌ : {A B : Type 0} → Result A Refusal → (A → Result B R
 (Err e) >>= f = Err e
 
 -- the answer, a fault with the packet's offset
-abbrev pub located : ℕ → Result Header Fault → Result Header Refusal
+abbrev pub located : ℕ → Result Header PacketFault → Result Header Refusal
 located offset (Ok h) = Ok h
 located offset (Err f) = Err (record { offset = offset; fault = f })
 

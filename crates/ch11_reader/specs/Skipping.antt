@@ -3,7 +3,7 @@
 -- skip, with the first fault at its first byte.
 use Rattle.std.specs.Prelude.{◌≡◌, ℕ, zero, suc, ◌+◌, List, [], ◌∷◌, length, drop, Result, Ok, Err}
 use Rattle.ch11_header.specs.declared.header.Header.{Header}
-use Rattle.ch11_reader.specs.declared.error.Fault.{Fault}
+use Rattle.ch11_reader.specs.declared.error.PacketFault.{PacketFault}
 use Rattle.ch11_reader.specs.declared.skip.Skip.{Skip}
 use Rattle.ch11_reader.specs.Recording.{Found, packet_messages, packet_at, packets_in}
 
@@ -12,7 +12,7 @@ pub data Stretch : Type 0 where
   Read : Found → Stretch
   Skipped : Skip → Stretch
 
-abbrev pub none_or_behind : Result Header Fault → ℕ → ℕ
+abbrev pub none_or_behind : Result Header PacketFault → ℕ → ℕ
 none_or_behind (Ok h) behind = 0
 none_or_behind (Err f) behind = suc behind
 
@@ -26,15 +26,15 @@ abbrev pub read_at : ℕ → Header → List ℕ → Stretch
 read_at offset h bytes = Read (record { offset = offset; header = h; messages = packet_messages h bytes })
 
 -- the bytes in front of the next packet; at the first of them there is a fault
-abbrev pub skip_at : ℕ → Fault → List ℕ → Stretch
+abbrev pub skip_at : ℕ → PacketFault → List ℕ → Stretch
 skip_at offset f bytes = Skipped (record { offset = offset; length = bytes_before bytes; fault = f })
 
 -- the first stretch of bytes that stand at an offset, and how many bytes it has
-abbrev pub first_stretch : ℕ → Result Header Fault → List ℕ → Stretch
+abbrev pub first_stretch : ℕ → Result Header PacketFault → List ℕ → Stretch
 first_stretch offset (Ok h) bytes = read_at offset h bytes
 first_stretch offset (Err f) bytes = skip_at offset f bytes
 
-abbrev pub first_size : Result Header Fault → List ℕ → ℕ
+abbrev pub first_size : Result Header PacketFault → List ℕ → ℕ
 first_size (Ok h) bytes = h.packet_length
 first_size (Err f) bytes = bytes_before bytes
 

@@ -10,7 +10,7 @@ use std::fmt::{self, Display, Formatter, Write};
 
 /// What is wrong with a packet. The header is judged first, then the packet's end, then its body.
 #[derive(Clone, Copy, Debug, PartialEq, Eq)]
-pub enum Fault {
+pub enum PacketFault {
     /// K1 to K5: no header stands there.
     Header(HeaderError),
 
@@ -28,7 +28,7 @@ pub struct Refusal {
     pub offset: usize,
 
     /// What is wrong with it.
-    pub fault: Fault,
+    pub fault: PacketFault,
 }
 
 /// Why no index was built.
@@ -41,14 +41,14 @@ pub enum ReadError {
     Memory,
 }
 
-impl Display for Fault {
+impl Display for PacketFault {
     ghost output = { λ e. Some (fault_code e) };
 
     fn fmt<W: Write>(&self, f: &mut Formatter<W>) -> fmt::Result {
         match self {
-            Fault::Header(fault) => write!(f, "{fault}"),
-            Fault::End => write!(f, "N2"),
-            Fault::Body(fault) => write!(f, "{fault}"),
+            PacketFault::Header(fault) => write!(f, "{fault}"),
+            PacketFault::End => write!(f, "N2"),
+            PacketFault::Body(fault) => write!(f, "{fault}"),
         }
     }
 }

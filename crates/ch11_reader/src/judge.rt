@@ -5,7 +5,7 @@ ghost use Rattle.ch11_reader.specs.Skipping.{bytes_before};
 ghost use Rattle.ch11_reader.specs.Walking.{IsRest};
 ghost use Rattle.std.specs.Prelude.{◌≡◌, ◌+◌, ◌≤◌, length, drop, IfOk, IfSome, MatchResult, Ok, Err};
 
-use crate::error::Fault;
+use crate::error::PacketFault;
 use crate::jumps::Jumps;
 use crate::packet::{Checked, check_packet};
 use byteorder::{ByteOrder, LittleEndian};
@@ -73,7 +73,7 @@ impl<'a> Judge<'a> {
 
     /// The fault of the body of the packet at a place, found by jumps. None where another fault comes first, and where
     /// there is none.
-    fn body_fault(&self, place: usize) -> Option<Fault>
+    fn body_fault(&self, place: usize) -> Option<PacketFault>
         requires { place ≤ length self.now }
         ensures { IfSome result (λ f. packet_at (drop place self.now) ≡ Err f) }
     {
@@ -93,7 +93,7 @@ impl<'a> Judge<'a> {
         let count = LittleEndian::read_u32(body) % 0x100_0000;
         let end = place + start + header.data_length as usize;
         match self.jumps.fault(place + start + 4, end, count) {
-            Some(fault) => Some(Fault::Body(fault)),
+            Some(fault) => Some(PacketFault::Body(fault)),
             None => None,
         }
     }
@@ -101,7 +101,7 @@ impl<'a> Judge<'a> {
     /// The packet that begins the rest of the file, or its first fault. Where no header stands, that is all that is
     /// looked at.
     #[tactic(auto, unfolding(crate::specs::Recording::packet_at))]
-    pub(crate) fn check(&mut self, rest: &[u8]) -> Result<Checked, Fault>
+    pub(crate) fn check(&mut self, rest: &[u8]) -> Result<Checked, PacketFault>
         requires rest { IsRest self.old rest.now }
         ensures read { MatchResult result (λ c. packet_at rest.now ≡ Ok c.header) (λ f. packet_at rest.now ≡ Err f) }
         ensures count { IfOk result (λ c. c.count ≡ length (packet_messages c.header rest.now)) }
@@ -112,7 +112,7 @@ impl<'a> Judge<'a> {
         ensures same { self.new ≡ self.old }
     {
         if let Err(fault) = read_header(rest) {
-            return Err(Fault::Header(fault));
+            return Err(PacketFault::Header(fault));
         }
         if self.is_wary() {
             if let Some(fault) = self.body_fault(self.file.len() - rest.len()) {
@@ -120,7 +120,7 @@ impl<'a> Judge<'a> {
             }
         }
         let checked = check_packet(rest);
-        if let Err(Fault::Body(_)) = &checked {
+        if let Err(PacketFault::Body(_)) = &checked {
             self.walked = self.walked.saturating_add(most_messages(rest));
         }
         checked

@@ -18,7 +18,7 @@ mod skipping;
 
 pub use build::{CHANNELS, list_packet, no_sequences};
 pub use channel::ChannelMessages;
-pub use error::{Fault, ReadError, Refusal};
+pub use error::{PacketFault, ReadError, Refusal};
 pub use index::Index;
 pub use laws::{nothing_sound_is_skipped, recordings_join};
 pub use others::holds_no_messages;

@@ -4,7 +4,7 @@ ghost use Rattle.ch11_header.specs.HeaderReading.{body_start};
 ghost use Rattle.ch11_reader.specs.Recording.{packet_messages, packet_at};
 ghost use Rattle.std.specs.Prelude.{◌≡◌, ◌+◌, ◌≤◌, length, drop, IfOk, MatchResult, Ok, Err, option_map, slice_get};
 
-use crate::error::Fault;
+use crate::error::PacketFault;
 use ch11_f1::body::messages;
 use ch11_f1::{Messages, Seen};
 use ch11_header::kinds::BUS_MESSAGES;
@@ -43,7 +43,7 @@ pub struct Checked {
 /// The packet that begins the bytes, or its first fault: K1 to K5 of its header, N2 where the bytes end before it does,
 /// F1 to F3 of its body.
 #[tactic(auto, unfolding(crate::specs::Recording::packet_at))]
-pub fn check_packet(bytes: &[u8]) -> Result<Checked, Fault>
+pub fn check_packet(bytes: &[u8]) -> Result<Checked, PacketFault>
     ensures read { MatchResult result (λ c. packet_at bytes.now ≡ Ok c.header) (λ f. packet_at bytes.now ≡ Err f) }
     ensures count { IfOk result (λ c. c.count ≡ length (packet_messages c.header bytes.now)) }
     ensures few { IfOk result (λ c. c.count ≤ c.header.packet_length) }
@@ -52,10 +52,10 @@ pub fn check_packet(bytes: &[u8]) -> Result<Checked, Fault>
 {
     let header = match read_header(bytes) {
         Ok(header) => header,
-        Err(fault) => return Err(Fault::Header(fault)),
+        Err(fault) => return Err(PacketFault::Header(fault)),
     };
     if bytes.len() < header.packet_length as usize {
-        return Err(Fault::End);
+        return Err(PacketFault::End);
     }
     if header.kind != BUS_MESSAGES {
         return Ok(Checked { header, count: 0 });
@@ -67,7 +67,7 @@ pub fn check_packet(bytes: &[u8]) -> Result<Checked, Fault>
             let count = found.left();
             Ok(Checked { header, count })
         }
-        Err(fault) => Err(Fault::Body(fault)),
+        Err(fault) => Err(PacketFault::Body(fault)),
     }
 }
 

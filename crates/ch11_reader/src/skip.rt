@@ -1,6 +1,6 @@
 //! Bytes of a damaged recording that are no packet.
 
-use crate::error::Fault;
+use crate::error::PacketFault;
 
 /// Bytes that were skipped: no packet without a fault begins at any of them.
 #[derive(Clone, Copy, Debug, PartialEq, Eq)]
@@ -12,5 +12,5 @@ pub struct Skip {
     pub length: usize,
 
     /// The first fault of the packet at the first of them.
-    pub fault: Fault,
+    pub fault: PacketFault,
 }

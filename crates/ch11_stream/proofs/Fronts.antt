@@ -8,8 +8,8 @@ use Rattle.ch11_header.specs.declared.error.HeaderError.TheVariants.{Short, Sync
 use Rattle.ch11_header.specs.declared.header.Header.{Header}
 use Rattle.ch11_header.specs.HeaderBytes.{number_at}
 use Rattle.ch11_header.specs.HeaderReading.{header_in}
-use Rattle.ch11_reader.specs.declared.error.Fault.{Fault}
-use Rattle.ch11_reader.specs.declared.error.Fault.TheVariants as faults
+use Rattle.ch11_reader.specs.declared.error.PacketFault.{PacketFault}
+use Rattle.ch11_reader.specs.declared.error.PacketFault.TheVariants as faults
 use Rattle.ch11_reader.specs.declared.packet.Checked.{Checked}
 use Rattle.ch11_reader.specs.Recording.{packet_messages, packet_at}
 use Rattle.ch11_reader.specs.Skipping.{bytes_before}
@@ -90,7 +90,7 @@ packet_same ready others h is whole =
     let own : header_in ready ≡ Ok h = sym (header_front ready others (omega (arith, room.least, whole))) ∙ is in
     rw (is, own) (rest_front h ready others room whole)
 
-pub body_faulty : (left leaves : Option (List ℕ)) (before ready : List ℕ) (there : Bool) (h : Header) (e : Fault) → there ≡ true → header_in before ≡ Ok h → length before ≤ length ready → IsFilled h.packet_length left leaves before ready there
+pub body_faulty : (left leaves : Option (List ℕ)) (before ready : List ℕ) (there : Bool) (h : Header) (e : PacketFault) → there ≡ true → header_in before ≡ Ok h → length before ≤ length ready → IsFilled h.packet_length left leaves before ready there
     → packet_at ready ≡ Err e → IsFaulty (prepend_known before left) ready e
 body_faulty left leaves before ready there h e all is more f wrong = record {
   some = omega (arith, header_long before h is, more);
@@ -108,7 +108,7 @@ settled_by left ready c s bytes known =
     none_before bytes c.header (ap packet_at (sym b.all) ∙ packet_front ready b.others c.header s.packet)
 
 -- no fault begins the bytes to come
-pub settled_unless_faulty : (front : Coming) (coming left : Option (List ℕ)) (ready : List ℕ) → ((f : Fault) → front ≡ fronts.Faulty f → ⊥) → Begins front coming (prepend_known ready left) ready → BeginsSound (prepend_known ready left)
+pub settled_unless_faulty : (front : Coming) (coming left : Option (List ℕ)) (ready : List ℕ) → ((f : PacketFault) → front ≡ fronts.Faulty f → ⊥) → Begins front coming (prepend_known ready left) ready → BeginsSound (prepend_known ready left)
 settled_unless_faulty fronts.End coming left ready sound b = λ bytes known. ap bytes_before (at_end (prepend_known ready left) bytes b.1 known)
 settled_unless_faulty (fronts.Sound c) coming left ready sound b = settled_by left ready c b
 settled_unless_faulty (fronts.Faulty f) coming left ready sound b = absurd (sound f refl)
@@ -146,12 +146,12 @@ ready_past count left ready bytes fits known faulty =
     }
 
 -- the first byte is passed
-first_past : (left : Option (List ℕ)) (ready bytes : List ℕ) (f : Fault) → 0 < length ready → prepend_known ready left ≡ Some bytes → packet_at bytes ≡ Err f → IsPastOf 1 bytes (prepend_known (drop 1 ready) left)
+first_past : (left : Option (List ℕ)) (ready bytes : List ℕ) (f : PacketFault) → 0 < length ready → prepend_known ready left ≡ Some bytes → packet_at bytes ≡ Err f → IsPastOf 1 bytes (prepend_known (drop 1 ready) left)
 first_past left ready bytes f some known is =
     let b = both_of ready left bytes known in
     ready_past 1 left ready bytes (omega (arith, some)) known (omega (arith, one_before bytes f (omega (arith, some, ap length b.all, length-append ready b.others)) is))
 
-pub faulty_past : (coming left : Option (List ℕ)) (ready : List ℕ) (f : Fault) → Keeps coming (prepend_known ready left) → IsFaulty coming ready f → IsPast 1 coming (prepend_known (drop 1 ready) left)
+pub faulty_past : (coming left : Option (List ℕ)) (ready : List ℕ) (f : PacketFault) → Keeps coming (prepend_known ready left) → IsFaulty coming ready f → IsPast 1 coming (prepend_known (drop 1 ready) left)
 faulty_past coming left ready f k is bytes known = first_past left ready bytes f is.some (known_on coming (prepend_known ready left) bytes k known) (is.known bytes known)
 
 -- the first byte and those behind it are passed, up to the next packet
@@ -226,7 +226,7 @@ sound_at coming left ready c k s = record {
     both bytes known = both_of ready left bytes (known_on coming (prepend_known ready left) bytes k known)
 
 -- the bytes that were skipped
-pub skip_of : (coming middle comes : Option (List ℕ)) (ready : List ℕ) (offset n : ℕ) (f : Fault) → Keeps coming middle → IsFaulty coming ready f → IsSkipped n middle comes
+pub skip_of : (coming middle comes : Option (List ℕ)) (ready : List ℕ) (offset n : ℕ) (f : PacketFault) → Keeps coming middle → IsFaulty coming ready f → IsSkipped n middle comes
     → (bytes : List ℕ) → coming ≡ Some bytes → IsSkipOf bytes comes (record { offset = offset; length = n; fault = f })
 skip_of coming middle comes ready offset n f k is passed bytes known =
     let fault = is.known bytes known in

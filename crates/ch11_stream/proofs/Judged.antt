@@ -6,8 +6,8 @@ use Rattle.std.specs.Io.KnownBytes.{Keeps, prepend_known}
 use Rattle.ch11_header.specs.declared.error.HeaderError.{HeaderError}
 use Rattle.ch11_header.specs.declared.header.Header.{Header}
 use Rattle.ch11_header.specs.HeaderReading.{body_start, header_in}
-use Rattle.ch11_reader.specs.declared.error.Fault.{Fault}
-use Rattle.ch11_reader.specs.declared.error.Fault.TheVariants as faults
+use Rattle.ch11_reader.specs.declared.error.PacketFault.{PacketFault}
+use Rattle.ch11_reader.specs.declared.error.PacketFault.TheVariants as faults
 use Rattle.ch11_reader.specs.declared.packet.Checked.{Checked}
 use Rattle.ch11_reader.specs.Recording.{holds_messages, located, packet_messages, packet_at}
 use Rattle.ch11_reader.proofs.Joined.{HasRoom, front, header_front, header_long, messages_front, packet_front, rest_front}
@@ -118,7 +118,7 @@ packet_same ready others h is room whole =
     let own : header_in ready ≡ Ok h = sym (header_front ready others (omega (arith, room.least, whole))) ∙ is in
     rw (is, own) (rest_front h ready others room whole)
 
-pub body_fault : (offset : ℕ) (left leaves : Option (List ℕ)) (before after : List ℕ) (there : Bool) (h : Header) (f : Fault) → there ≡ true → IsNextHeader (prepend_known before left) h → IsFilled h.packet_length left leaves before after there → packet_at after ≡ Err f
+pub body_fault : (offset : ℕ) (left leaves : Option (List ℕ)) (before after : List ℕ) (there : Bool) (h : Header) (f : PacketFault) → there ≡ true → IsNextHeader (prepend_known before left) h → IsFilled h.packet_length left leaves before after there → packet_at after ≡ Err f
     → IsFaultAt offset (prepend_known before left) (Refused (record { offset = offset; fault = f }))
 body_fault offset left leaves before after there h f all next filled is bytes known =
     let b = filled_both h.packet_length left leaves before after bytes there filled known in

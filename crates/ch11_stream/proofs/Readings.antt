@@ -3,7 +3,7 @@ use Rattle.std.proofs.Common.{◌≡◌, ℕ, ◌+◌, ◌-◌, ◌<◌, List, [
 use Rattle.std.proofs.lemmas.List.{append-nil, length-drop}
 use Rattle.std.specs.Io.KnownBytes.{IsAtEnd}
 use Rattle.ch11_header.specs.declared.header.Header.{Header}
-use Rattle.ch11_reader.specs.declared.error.Fault.{Fault}
+use Rattle.ch11_reader.specs.declared.error.PacketFault.{PacketFault}
 use Rattle.ch11_reader.specs.declared.error.Refusal.{Refusal}
 use Rattle.ch11_reader.specs.declared.packet.Packet.{Packet}
 use Rattle.ch11_reader.specs.Recording.{Found, located, packet_at, packets_in}
@@ -51,10 +51,10 @@ known_end (Some xs) rest is end = let same : xs ≡ rest = cc in sym same ∙ en
 pub amid_end : (file : List ℕ) (now last : Reading) → IsEnd now last → IsAmid file now → packets_in file ≡ Ok (in_order now.earlier [])
 amid_end file now last e a = ends file a.rest now.earlier (ap length (known_end now.left a.rest a.left e.ended)) a.going
 
-same_fault : (offset : ℕ) (r : Refusal) (read : Result Header Fault) (f : Fault) → located offset (Err f) ≡ Err r → record { offset = offset; fault = f } ≡ r
+same_fault : (offset : ℕ) (r : Refusal) (read : Result Header PacketFault) (f : PacketFault) → located offset (Err f) ≡ Err r → record { offset = offset; fault = f } ≡ r
 same_fault offset r read f is = cc
 
-refused_at : (file rest : List ℕ) (earlier : List Found) (offset : ℕ) (r : Refusal) (read : Result Header Fault) → packet_at rest ≡ read → offset ≡ length file - length rest → 0 < length rest → located offset read ≡ Err r
+refused_at : (file rest : List ℕ) (earlier : List Found) (offset : ℕ) (r : Refusal) (read : Result Header PacketFault) → packet_at rest ≡ read → offset ≡ length file - length rest → 0 < length rest → located offset read ≡ Err r
     → Going file rest earlier → packets_in file ≡ Err r
 refused_at file rest earlier offset r (Ok h) at place some is g = absurd cc
 refused_at file rest earlier offset r (Err f) at place some is g =

@@ -4,7 +4,7 @@ use Rattle.std.proofs.lemmas.List.{length-append, length-take-le, take-append-dr
 use Rattle.std.specs.Io.KnownBytes.{Keeps, prepend_known}
 use Rattle.ch11_header.specs.declared.header.Header.{Header}
 use Rattle.ch11_header.specs.HeaderReading.{header_in}
-use Rattle.ch11_reader.specs.declared.error.Fault.{Fault}
+use Rattle.ch11_reader.specs.declared.error.PacketFault.{PacketFault}
 use Rattle.ch11_reader.specs.declared.packet.Checked.{Checked}
 use Rattle.ch11_reader.specs.declared.packet.Packet.{Packet}
 use Rattle.ch11_reader.specs.Listing.{listed_behind}
@@ -28,7 +28,7 @@ whole_at coming left ready c k s = record {
 }
 
 -- the fault of what begins the bytes to come
-pub fault_at : (offset : ℕ) (coming left : Option (List ℕ)) (ready : List ℕ) (f : Fault) → Keeps coming (prepend_known ready left) → IsFaulty coming ready f
+pub fault_at : (offset : ℕ) (coming left : Option (List ℕ)) (ready : List ℕ) (f : PacketFault) → Keeps coming (prepend_known ready left) → IsFaulty coming ready f
     → IsFaultAt offset coming (Refused (record { offset = offset; fault = f }))
 fault_at offset coming left ready f k is bytes known =
     let b = both_of ready left bytes (known_on coming (prepend_known ready left) bytes k known) in

@@ -2,7 +2,7 @@
 use Rattle.std.specs.Prelude.{◌≡◌, ℕ, ◌+◌, ◌<◌, ◌≤◌, List, [], length, drop, Option, Some, Ok, Err}
 use Rattle.std.specs.Io.KnownBytes.{IsAtEnd}
 use Rattle.ch11_header.specs.HeaderReading.{body_start}
-use Rattle.ch11_reader.specs.declared.error.Fault.{Fault}
+use Rattle.ch11_reader.specs.declared.error.PacketFault.{PacketFault}
 use Rattle.ch11_reader.specs.declared.packet.Checked.{Checked}
 use Rattle.ch11_reader.specs.Recording.{packet_messages, packet_at}
 use Rattle.ch11_reader.specs.Skipping.{bytes_before}
@@ -18,7 +18,7 @@ pub record IsSoundReady (ready : List ℕ) (c : Checked) : Type 0 where
   pub room : body_start c.header + c.header.data_length ≤ c.header.packet_length
 
 -- some bytes are to come, and no packet without a fault begins them
-pub record IsFaulty (coming : Option (List ℕ)) (ready : List ℕ) (f : Fault) : Type 0 where
+pub record IsFaulty (coming : Option (List ℕ)) (ready : List ℕ) (f : PacketFault) : Type 0 where
   pub some : 0 < length ready
   pub known : (bytes : List ℕ) → coming ≡ Some bytes → packet_at bytes ≡ Err f
 
@@ -43,5 +43,5 @@ BeginsSound coming = (bytes : List ℕ) → coming ≡ Some bytes → bytes_befo
 
 -- where no packet without a fault begins the bytes to come, all in front of the next one were passed
 abbrev pub IsSkipped : ℕ → Option (List ℕ) → Option (List ℕ) → Type 0
-IsSkipped count coming comes = (bytes : List ℕ) (f : Fault) → coming ≡ Some bytes → packet_at bytes ≡ Err f
+IsSkipped count coming comes = (bytes : List ℕ) (f : PacketFault) → coming ≡ Some bytes → packet_at bytes ≡ Err f
     → (count ≡ bytes_before bytes) × (comes ≡ Some (drop count bytes))

@@ -10,7 +10,7 @@ use crate::buffer::Buffer;
 use crate::fault::StreamFault;
 use crate::feed::fill;
 use ch11_header::{HEADER_SIZE, Header, read_header};
-use ch11_reader::{Checked, Fault, check_packet};
+use ch11_reader::{Checked, PacketFault, check_packet};
 use std::io::Read;
 
 /// What begins the bytes to come.
@@ -23,7 +23,7 @@ pub(crate) enum Coming {
     Sound(Checked),
 
     /// No such packet; that is its first fault.
-    Faulty(Fault),
+    Faulty(PacketFault),
 }
 
 /// Judges the packet with this header, of which all bytes are made ready, whatever it holds.
@@ -40,7 +40,7 @@ fn judge_whole<R: Read>(
     ensures failed { IfErr result IsOther }
 {
     if !fill(buffer, input, header.packet_length as usize)? {
-        return Ok(Coming::Faulty(Fault::End));
+        return Ok(Coming::Faulty(PacketFault::End));
     }
     match check_packet(buffer.ready()) {
         Ok(checked) => Ok(Coming::Sound(checked)),
@@ -63,7 +63,7 @@ pub(crate) fn look<R: Read>(buffer: &mut Buffer, input: &mut R) -> Result<Coming
     }
     match read_header(buffer.ready()) {
         Ok(header) => judge_whole(buffer, input, header),
-        Err(fault) => Ok(Coming::Faulty(Fault::Header(fault))),
+        Err(fault) => Ok(Coming::Faulty(PacketFault::Header(fault))),
     }
 }
 

@@ -10,11 +10,11 @@ use crate::fault::StreamFault;
 use crate::feed::{fill, pass};
 use ch11_header::kinds::{BUS_MESSAGES, TIME_DATA};
 use ch11_header::{HEADER_SIZE, Header, read_header};
-use ch11_reader::{Checked, Fault, Refusal, check_packet};
+use ch11_reader::{Checked, PacketFault, Refusal, check_packet};
 use std::io::Read;
 
 /// A fault of the packet at an offset.
-fn refused(offset: usize, fault: Fault) -> StreamFault
+fn refused(offset: usize, fault: PacketFault) -> StreamFault
     ensures { result ≡ StreamFault.Refused (record { offset = offset; fault = fault }) }
 {
     StreamFault::Refused(Refusal { offset, fault })
@@ -36,7 +36,7 @@ pub(crate) fn next_header<R: Read>(
     }
     match read_header(ready) {
         Ok(header) => Ok(Some(header)),
-        Err(fault) => Err(refused(offset, Fault::Header(fault))),
+        Err(fault) => Err(refused(offset, PacketFault::Header(fault))),
     }
 }
 
@@ -60,7 +60,7 @@ fn take_other<R: Advance>(
         (R.remaining input.new) buffer.new.ready }
 {
     if !pass(buffer, input, header.packet_length as usize)? {
-        return Err(refused(offset, Fault::End));
+        return Err(refused(offset, PacketFault::End));
     }
     Ok(Checked { header, count: 0 })
 }
@@ -78,7 +78,7 @@ fn take_kept<R: Read>(
         (R.remaining input.new) buffer.new.ready }
 {
     if !fill(buffer, input, header.packet_length as usize)? {
-        return Err(refused(offset, Fault::End));
+        return Err(refused(offset, PacketFault::End));
     }
     match check_packet(buffer.ready()) {
         Ok(checked) => Ok(checked),

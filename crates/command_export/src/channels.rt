@@ -7,7 +7,7 @@ use ch11_header::kinds::{BUS_MESSAGES, RECORDING_INDEX, TIME_DATA};
 use ch11_reader::CHANNELS;
 use ch11_stream::{Advance, Packets, StreamFault};
 use command_parts::recordings::{Recording, fault_of_reading};
-use command_parts::requests::Fault;
+use command_parts::requests::CommandFault;
 use std::alloc::{AllocError, Global};
 use std::io::IsTerminal;
 use std::rt::{Clock, Files};
@@ -19,12 +19,12 @@ pub(crate) fn described<'a, R: Files + AllocGlobal + Clock, E: Eprint + IsTermin
     recording: &Recording<'_, 'a, R, E>,
     name: &'a str,
     times: Option<u16>,
-) -> Result<Vec<u8>, Fault<'a>> {
+) -> Result<Vec<u8>, CommandFault<'a>> {
     let alloc = recording.alloc();
     let mut found = vec![in alloc; None; CHANNELS]?;
     let bytes = match recording.reopen() {
         Ok(bytes) => bytes,
-        Err(error) => return Err(Fault::of_stream(name, &error)),
+        Err(error) => return Err(CommandFault::of_stream(name, &error)),
     };
     match note_packets(alloc, found.as_mut_slice(), bytes) {
         Ok(()) => {}

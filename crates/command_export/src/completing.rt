@@ -13,7 +13,7 @@ use command_parts::options::{
 };
 use command_parts::recordings::{Recording, Source};
 use command_parts::replacing::{begin_to_write, may_write, put_or_give_up};
-use command_parts::requests::{Fault, read_whole};
+use command_parts::requests::{CommandFault, read_whole};
 use std::alloc::{AllocError, Global};
 use std::io::{self, BufWriter, IsTerminal, Write};
 use std::rt::{Clock, Files};
@@ -125,21 +125,27 @@ pub fn request_in<'a>(given: &ArgMatches<'a>) -> Request<'a> {
 }
 
 /// What a fault of the library is to the program, by the names of the recording and of the out file.
-pub fn fault_of<'a>(fault: CompleteFault, recording: &'a str, out: &'a str) -> Fault<'a> {
+pub fn fault_of<'a>(fault: CompleteFault, recording: &'a str, out: &'a str) -> CommandFault<'a> {
     match fault {
-        CompleteFault::Refused(refusal) => Fault::Recording(refusal),
-        CompleteFault::Memory => Fault::Memory,
-        CompleteFault::Reader => Fault::Device(recording),
-        CompleteFault::Device => Fault::Device(out),
-        CompleteFault::SetupSize => Fault::Usage("the text of --setup has 1 to 524000 bytes"),
-        CompleteFault::SetupTwice => Fault::Usage(
+        CompleteFault::Refused(refusal) => CommandFault::Recording(refusal),
+        CompleteFault::Memory => CommandFault::Memory,
+        CompleteFault::Reader => CommandFault::Device(recording),
+        CompleteFault::Device => CommandFault::Device(out),
+        CompleteFault::SetupSize => CommandFault::Usage(
+            "the text of --setup has 1 to 524000 bytes",
+        ),
+        CompleteFault::SetupTwice => CommandFault::Usage(
             "--setup for a recording that has computer generated data of type 01",
         ),
-        CompleteFault::TimeTwice => Fault::Usage(
+        CompleteFault::TimeTwice => CommandFault::Usage(
             "--time for a recording that has time packets, without --second-time",
         ),
-        CompleteFault::ChannelTaken => Fault::Usage("--time-channel has packets in the recording"),
-        CompleteFault::TooLong => Fault::Usage("--time would make more than 1000000 time packets"),
+        CompleteFault::ChannelTaken => CommandFault::Usage(
+            "--time-channel has packets in the recording",
+        ),
+        CompleteFault::TooLong => CommandFault::Usage(
+            "--time would make more than 1000000 time packets",
+        ),
     }
 }
 
@@ -150,7 +156,7 @@ pub fn run<'a, R: Files<File: Hold> + AllocGlobal + Clock, E: Eprint + IsTermina
     rt: &R,
     errors: &E,
     request: &Request<'a>,
-) -> Result<(), Fault<'a>> {
+) -> Result<(), CommandFault<'a>> {
     let start = start_of(request.time)?;
     let read = [
         request.recording,
@@ -171,7 +177,7 @@ fn complete_recording<'a, R: Files<File: Hold> + AllocGlobal + Clock, E: Eprint 
     request: &Request<'a>,
     recording: &Recording<'_, 'a, R, E>,
     start: Option<UtcSecond>,
-) -> Result<(), Fault<'a>> {
+) -> Result<(), CommandFault<'a>> {
     let text = if request.auto_setup {
         let times = start.map(|_| request.time_channel);
         described(recording, request.recording, times)?
@@ -193,7 +199,7 @@ fn complete_recording<'a, R: Files<File: Hold> + AllocGlobal + Clock, E: Eprint 
 pub fn setup_text<'a, R: Files + AllocGlobal>(
     rt: &R,
     name: Option<&'a str>,
-) -> Result<Vec<u8>, Fault<'a>> {
+) -> Result<Vec<u8>, CommandFault<'a>> {
     match name {
         Some(name) => read_whole(rt, name),
         None => Ok(Vec::new(rt.alloc())),
@@ -207,7 +213,7 @@ fn complete_with<'a, R: Files<File: Hold> + AllocGlobal + Clock, E: Eprint + IsT
     request: &Request<'a>,
     recording: &Recording<'_, 'a, R, E>,
     additions: &Additions<'_>,
-) -> Result<(), Fault<'a>> {
+) -> Result<(), CommandFault<'a>> {
     let input = match recording.begin_reading() {
         Ok(input) => input,
         Err(fault) => return Err(fault),
@@ -228,13 +234,15 @@ fn complete_with<'a, R: Files<File: Hold> + AllocGlobal + Clock, E: Eprint + IsT
 }
 
 /// The time at tick 0.
-pub fn start_of<'a>(time: Option<&'a str>) -> Result<Option<UtcSecond>, Fault<'a>> {
+pub fn start_of<'a>(time: Option<&'a str>) -> Result<Option<UtcSecond>, CommandFault<'a>> {
     let Some(text) = time else {
         return Ok(None);
     };
     match UtcSecond::read(text) {
         Some(start) => Ok(Some(start)),
-        None => Err(Fault::Usage("--time takes a time of 1970 to 2099 as YYYY-MM-DDTHH:MM:SS")),
+        None => Err(CommandFault::Usage(
+            "--time takes a time of 1970 to 2099 as YYYY-MM-DDTHH:MM:SS",
+        )),
     }
 }
 
@@ -256,12 +264,12 @@ fn plan<'b, I: Advance + Drop, S: Places + Drop, E: Eprint>(
 }
 
 /// What a fault of what was asked is to the program, where the setup record may be one that is made.
-fn misuse_of<'a>(fault: CompleteFault, request: &Request<'a>) -> Fault<'a> {
+fn misuse_of<'a>(fault: CompleteFault, request: &Request<'a>) -> CommandFault<'a> {
     match fault {
-        CompleteFault::SetupSize if request.auto_setup => Fault::Usage(
+        CompleteFault::SetupSize if request.auto_setup => CommandFault::Usage(
             "--auto-setup for a recording of more channels than a setup record has room for",
         ),
-        CompleteFault::SetupTwice if request.auto_setup => Fault::Usage(
+        CompleteFault::SetupTwice if request.auto_setup => CommandFault::Usage(
             "--auto-setup for a recording that has computer generated data of type 01",
         ),
         fault => fault_of(fault, request.recording, request.out),
@@ -318,10 +326,10 @@ pub fn answer_of_writing<'a>(
     written: Result<(), Unwritten>,
     recording: &'a str,
     out: &'a str,
-) -> Result<(), Fault<'a>> {
+) -> Result<(), CommandFault<'a>> {
     match written {
         Ok(()) => Ok(()),
         Err(Unwritten::Completing(fault)) => Err(fault_of(fault, recording, out)),
-        Err(Unwritten::Out(error)) => Err(Fault::of_stream(out, &error)),
+        Err(Unwritten::Out(error)) => Err(CommandFault::of_stream(out, &error)),
     }
 }

@@ -8,7 +8,7 @@ use command_parts::extracting::extract_options;
 use command_parts::looking::{tell_of_unknown, tell_of_unread};
 use command_parts::options::{choice, command_of};
 use command_parts::recordings::{Recording, Source, fault_of_reading};
-use command_parts::requests::Fault;
+use command_parts::requests::CommandFault;
 use command_parts::selecting::selection_options;
 use command_parts::showing::{Showing, showing_options};
 use std::alloc::{AllocError, Global};
@@ -79,9 +79,9 @@ pub fn request_in<'a>(given: &ArgMatches<'a>) -> Request<'a> {
 }
 
 /// The fault of a recording with this name that was not drawn.
-fn fault_of_drawing<'a>(name: &'a str, fault: DrawFault) -> Fault<'a> {
+fn fault_of_drawing<'a>(name: &'a str, fault: DrawFault) -> CommandFault<'a> {
     match fault {
-        DrawFault::Opening(error) => Fault::of_stream(name, &error),
+        DrawFault::Opening(error) => CommandFault::of_stream(name, &error),
         DrawFault::Recording(fault) => fault_of_reading(name, fault),
     }
 }
@@ -93,7 +93,7 @@ pub fn run<'a, R: Files<File: Hold> + AllocGlobal + Clock, E: Eprint + IsTermina
     rt: &R,
     errors: &E,
     request: &Request<'a>,
-) -> Result<(), Fault<'a>> {
+) -> Result<(), CommandFault<'a>> {
     let (showing, name) = (&request.showing, request.showing.extract.recording);
     let signals = showing.judge(rt, Kind::Picture)?;
     let selection = showing.selection(signals.as_slice())?;
@@ -128,7 +128,7 @@ fn draw_recording<'a, R: Files + AllocGlobal + Clock, E: Eprint + IsTerminal>(
     recording: &Recording<'_, 'a, R, E>,
     showing: &Showing<'a>,
     asked: &Asked<'_>,
-) -> Result<Drawn, Fault<'a>> {
+) -> Result<Drawn, CommandFault<'a>> {
     let known = showing.known(recording)?;
     let names = ChannelNames::of(known.front.as_slice());
     match draw(recording.alloc(), recording, asked, &known.clock, &names) {

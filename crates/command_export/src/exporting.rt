@@ -14,7 +14,7 @@ use command_parts::looking::{tell_of_unknown, tell_of_unread};
 use command_parts::options::{Row, choice, command_of, file, flag, time_channel};
 use command_parts::recordings::{Recording, Source, Times};
 use command_parts::replacing::{begin_to_write, is_replaced, put_or_give_up};
-use command_parts::requests::Fault;
+use command_parts::requests::CommandFault;
 use command_parts::selecting::selection_options;
 use command_parts::streams::flushed;
 use signal_dictionary::Signal;
@@ -129,7 +129,7 @@ impl<'a> Request<'a> {
     fn begin<R: Files<File: Hold> + AllocGlobal>(
         &self,
         rt: &R,
-    ) -> Result<(OutFile<'a, R::File>, R::File), Fault<'a>> {
+    ) -> Result<(OutFile<'a, R::File>, R::File), CommandFault<'a>> {
         begin_to_write(
             rt,
             self.extract.out,
@@ -183,7 +183,7 @@ pub fn run<'a, R: Files<File: Hold> + AllocGlobal + Clock, E: Eprint + IsTermina
     rt: &R,
     errors: &E,
     request: &Request<'a>,
-) -> Result<(), Fault<'a>> {
+) -> Result<(), CommandFault<'a>> {
     let signals = request
         .extract
         .judge(rt, request.exported.kind(), request.signals)?;
@@ -216,7 +216,7 @@ fn export_recording<'a, R: Files<File: Hold> + AllocGlobal + Clock, E: Eprint + 
     recording: &Recording<'_, 'a, R, E>,
     request: &Request<'a>,
     chosen: Chosen<'_>,
-) -> Result<bool, Fault<'a>> {
+) -> Result<bool, CommandFault<'a>> {
     if !is_replaced(rt, request.extract.out) {
         some_selected(recording, &request.extract, chosen.selection)?;
     }
@@ -242,18 +242,21 @@ pub(crate) fn some_selected<'a, R: Files + AllocGlobal + Clock, E: Eprint + IsTe
     recording: &Recording<'_, 'a, R, E>,
     extract: &Extract<'a>,
     selection: &Selection,
-) -> Result<(), Fault<'a>> {
+) -> Result<(), CommandFault<'a>> {
     let bytes = recording.begin_reading()?;
     let selected = selects_any(recording.alloc(), bytes, selection);
     judge_selected(extract, recording.answer(selected)?)
 }
 
 /// The fault of a selection that has no message.
-pub(crate) fn judge_selected<'a>(extract: &Extract<'a>, selected: bool) -> Result<(), Fault<'a>> {
+pub(crate) fn judge_selected<'a>(
+    extract: &Extract<'a>,
+    selected: bool,
+) -> Result<(), CommandFault<'a>> {
     if selected || extract.selection.is_empty() {
         Ok(())
     } else {
-        Err(Fault::NoneSelected)
+        Err(CommandFault::NoneSelected)
     }
 }
 
@@ -264,7 +267,7 @@ fn write_signals<'a, R: Files + AllocGlobal + Clock, E: Eprint + IsTerminal, W: 
     chosen: Chosen<'_>,
     clock: &RecordingClock,
     writer: W,
-) -> Result<(), Fault<'a>> {
+) -> Result<(), CommandFault<'a>> {
     let sheet = Sheet {
         table: Table {
             columns: request.exported.columns(),
@@ -285,7 +288,7 @@ fn write_messages<'a, R: Files + AllocGlobal + Clock, E: Eprint + IsTerminal, W:
     selection: &Selection,
     clock: &RecordingClock,
     writer: W,
-) -> Result<(), Fault<'a>> {
+) -> Result<(), CommandFault<'a>> {
     let first = recording.begin_reading()?;
     let alloc = recording.alloc();
     let written = match request.exported {
@@ -313,10 +316,10 @@ fn write_messages<'a, R: Files + AllocGlobal + Clock, E: Eprint + IsTerminal, W:
 }
 
 /// The fault of an out file that was not written to its end.
-pub(crate) fn fault_of_writing<'a>(out: &'a str, fault: WriteFault) -> Fault<'a> {
+pub(crate) fn fault_of_writing<'a>(out: &'a str, fault: WriteFault) -> CommandFault<'a> {
     match fault {
-        WriteFault::Memory => Fault::Memory,
-        WriteFault::Device => Fault::Device(out),
+        WriteFault::Memory => CommandFault::Memory,
+        WriteFault::Device => CommandFault::Device(out),
     }
 }
 

@@ -13,7 +13,7 @@ use command_parts::looking::{tell_of_unknown, tell_of_unread};
 use command_parts::options::{Row, argument, command_of, flag, time_channel};
 use command_parts::recordings::{Recording, Source, Times};
 use command_parts::replacing::{begin_to_write, is_replaced, put_or_give_up};
-use command_parts::requests::Fault;
+use command_parts::requests::CommandFault;
 use command_parts::selecting::selection_options;
 use std::alloc::{AllocError, Global};
 use std::io::{IsTerminal, Write};
@@ -115,7 +115,7 @@ pub fn run<'a, R: Files<File: Hold> + AllocGlobal + Clock, E: Eprint + IsTermina
     rt: &R,
     errors: &E,
     request: &Request<'a>,
-) -> Result<(), Fault<'a>> {
+) -> Result<(), CommandFault<'a>> {
     let (extract, dictionary) = (&request.extract, Some(request.dictionary));
     let signals = extract.judge(rt, Kind::Rows, dictionary)?;
     let selection = selection_by(&extract.selection, dictionary, signals.as_slice())?;
@@ -150,7 +150,7 @@ fn write_recording<'a, R: Files<File: Hold> + AllocGlobal + Clock, E: Eprint + I
     recording: &Recording<'_, 'a, R, E>,
     request: &Request<'a>,
     sheet: &Sheet<'_>,
-) -> Result<bool, Fault<'a>> {
+) -> Result<bool, CommandFault<'a>> {
     let extract = &request.extract;
     if !is_replaced(rt, extract.out) {
         some_selected(recording, extract, &sheet.table.selection)?;
@@ -180,7 +180,7 @@ pub(crate) fn write_values<
     sheet: &Sheet<'_>,
     clock: &RecordingClock,
     writer: W,
-) -> Result<(), Fault<'a>> {
+) -> Result<(), CommandFault<'a>> {
     let input = recording.begin_reading()?;
     match write_rows(recording.alloc(), input, sheet, clock, writer) {
         Ok(selected) => judge_selected(extract, selected),

@@ -2,7 +2,7 @@
 
 use bench_complete::Places;
 use command_parts::recordings::Recording;
-use command_parts::requests::{Fault, open_to_read};
+use command_parts::requests::{CommandFault, open_to_read};
 use std::io::{self, IsTerminal, Read, Seek, SeekFrom};
 use std::rt::{Clock, Files};
 
@@ -32,7 +32,7 @@ pub(crate) fn standing_of<'f, 'a, R: Files + AllocGlobal + Clock, E: Eprint + Is
     rt: &R,
     recording: &Recording<'f, 'a, R, E>,
     name: &'a str,
-) -> Result<Standing<'f, R::File>, Fault<'a>> {
+) -> Result<Standing<'f, R::File>, CommandFault<'a>> {
     match recording.bytes() {
         Some(bytes) => Ok(Standing::Kept(bytes)),
         None => Ok(Standing::File(open_to_read(rt, name)?)),

@@ -5,7 +5,7 @@ use bench_settings::{DEFAULT_LIMIT, DEFAULT_QUEUE, DEFAULT_VERSION, Settings, ju
 use clap::{ArgMatches, Command};
 use command_parts::dictionaries::signals_in;
 use command_parts::options::{command_of, file, flag, jobs, words_in};
-use command_parts::requests::{Fault, jobs_of, read_texts};
+use command_parts::requests::{CommandFault, jobs_of, read_texts};
 use command_parts::streams::{listing, on_stream, printed};
 use job_file::Job;
 use std::alloc::{AllocError, Global};
@@ -84,9 +84,9 @@ pub fn request_in<'a>(alloc: Global, given: &ArgMatches<'a>) -> Result<Request<'
 }
 
 /// The fault of jobs in which something is probably a mistake, where that is to be one.
-pub fn strict_verdict<'a>(is_suspicious: bool) -> Result<(), Fault<'a>> {
+pub fn strict_verdict<'a>(is_suspicious: bool) -> Result<(), CommandFault<'a>> {
     if is_suspicious {
-        Err(Fault::Suspicious)
+        Err(CommandFault::Suspicious)
     } else {
         Ok(())
     }
@@ -97,7 +97,7 @@ pub fn strict_verdict<'a>(is_suspicious: bool) -> Result<(), Fault<'a>> {
 pub fn run<'a, R: Files + AllocGlobal + Print>(
     rt: &R,
     request: &Request<'a>,
-) -> Result<(), Fault<'a>> {
+) -> Result<(), CommandFault<'a>> {
     let signals = signals_in(rt, request.signals)?;
     let names = request.jobs.as_slice();
     let texts = read_texts(rt, names)?;
@@ -113,7 +113,7 @@ pub fn run<'a, R: Files + AllocGlobal + Print>(
 }
 
 /// Judges jobs as those of a run with the settings that it has where none are given.
-fn judge_jobs<'a>(alloc: Global, jobs: &[Job]) -> Result<(), Fault<'a>> {
+fn judge_jobs<'a>(alloc: Global, jobs: &[Job]) -> Result<(), CommandFault<'a>> {
     let settings = Settings {
         version: DEFAULT_VERSION,
         limit: DEFAULT_LIMIT,
@@ -123,7 +123,7 @@ fn judge_jobs<'a>(alloc: Global, jobs: &[Job]) -> Result<(), Fault<'a>> {
     };
     match judge(jobs, &settings) {
         Ok(()) => Ok(()),
-        Err(refused) => Err(Fault::of_settings(refused)),
+        Err(refused) => Err(CommandFault::of_settings(refused)),
     }
 }
 
@@ -135,7 +135,7 @@ fn print_checks<'a, R: AllocGlobal + Print>(
     way: Way<'_>,
     texts: &[Vec<u8>],
     jobs: &[Job],
-) -> Result<(), Fault<'a>> {
+) -> Result<(), CommandFault<'a>> {
     let mut out = on_stream("-", BufWriter::new(rt.alloc(), listing(rt)))?;
     match check_each(rt.alloc(), names, way, texts, jobs, &mut out) {
         Ok(is_suspicious) => {

@@ -18,7 +18,8 @@ use command_parts::options::{argument, command_of, file, flag, force, json, opti
 use command_parts::recordings::{Recording, Source, fault_of_reading};
 use command_parts::replacing::may_write;
 use command_parts::requests::{
-    Fault, junit_of, read_whole, recording_first, rules_asked, rules_text, verdict_on, write_new,
+    CommandFault, junit_of, read_whole, recording_first, rules_asked, rules_text, verdict_on,
+    write_new,
 };
 use command_parts::streams::{listing, on_stream};
 use command_parts::terminals::is_for_people;
@@ -138,19 +139,19 @@ impl<'r> Spelled<'r> {
 }
 
 /// The fault of a recording with this name that was not judged to its end.
-pub fn fault_of_pass<'a>(name: &'a str, fault: PassFault) -> Fault<'a> {
+pub fn fault_of_pass<'a>(name: &'a str, fault: PassFault) -> CommandFault<'a> {
     match fault {
-        PassFault::Opening(error) => Fault::of_stream(name, &error),
+        PassFault::Opening(error) => CommandFault::of_stream(name, &error),
         PassFault::Recording(fault) => fault_of_reading(name, fault),
         PassFault::Printing(fault) => fault_of_printing(fault),
     }
 }
 
 /// The fault of verdicts that were not printed to their end.
-fn fault_of_printing<'a>(fault: PrintFault) -> Fault<'a> {
+fn fault_of_printing<'a>(fault: PrintFault) -> CommandFault<'a> {
     match fault {
-        PrintFault::Memory => Fault::Memory,
-        PrintFault::Device(error) => Fault::of_stream("-", &error),
+        PrintFault::Memory => CommandFault::Memory,
+        PrintFault::Device(error) => CommandFault::of_stream("-", &error),
     }
 }
 
@@ -168,7 +169,7 @@ pub fn run<'a, R: System, E: Eprint + IsTerminal>(
     rt: &R,
     errors: &E,
     request: &Request<'a>,
-) -> Result<(), Fault<'a>> {
+) -> Result<(), CommandFault<'a>> {
     if let Some(junit) = request.junit {
         let rules = request.rules.unwrap_or(request.recording);
         may_write(
@@ -195,7 +196,7 @@ pub fn run<'a, R: System, E: Eprint + IsTerminal>(
 pub(crate) fn given_rules<'a, R: Files + AllocGlobal>(
     rt: &R,
     request: &Request<'a>,
-) -> Result<Option<Vec<u8>>, Fault<'a>> {
+) -> Result<Option<Vec<u8>>, CommandFault<'a>> {
     match request.rules {
         Some(name) => Ok(Some(read_whole(rt, name)?)),
         None => Ok(None),
@@ -218,7 +219,7 @@ fn judge_recording<'a, R: System, E: Eprint + IsTerminal>(
     request: &Request<'a>,
     recording: &Recording<'_, 'a, R, E>,
     text: Option<&[u8]>,
-) -> Result<(), Fault<'a>> {
+) -> Result<(), CommandFault<'a>> {
     let rules = rules_asked(rt.alloc(), text);
     let read = if rules.is_ok() || request.skip {
         Ok(())
@@ -253,7 +254,7 @@ pub(crate) fn tells_packets(rules: &[Rule]) -> bool {
 pub(crate) fn skips_of<'a, R: Files + AllocGlobal + Clock, E: Eprint + IsTerminal>(
     recording: &Recording<'_, 'a, R, E>,
     asked: bool,
-) -> Result<Vec<Skip>, Fault<'a>> {
+) -> Result<Vec<Skip>, CommandFault<'a>> {
     if !asked {
         return Ok(Vec::new(recording.alloc()));
     }
@@ -268,7 +269,7 @@ fn judge_by<'a, R: System, E: Eprint + IsTerminal>(
     request: &Request<'a>,
     recording: &Recording<'_, 'a, R, E>,
     spelled: Spelled<'_>,
-) -> Result<(), Fault<'a>> {
+) -> Result<(), CommandFault<'a>> {
     let printed = if request.json {
         print_json(rt, request.recording, recording, spelled)
     } else {
@@ -296,10 +297,10 @@ fn judge_by<'a, R: System, E: Eprint + IsTerminal>(
 pub(crate) fn lost_of<'a, R: Files + AllocGlobal + Clock, E: Eprint + IsTerminal>(
     name: &'a str,
     recording: &Recording<'_, 'a, R, E>,
-) -> Result<Lost, Fault<'a>> {
+) -> Result<Lost, CommandFault<'a>> {
     match recording.reopen() {
         Ok(input) => recording.answer(count_lost(recording.alloc(), input)),
-        Err(error) => Err(Fault::of_stream(name, &error)),
+        Err(error) => Err(CommandFault::of_stream(name, &error)),
     }
 }
 
@@ -309,7 +310,7 @@ pub fn print_verdicts<'a, R: System, E: Eprint + IsTerminal>(
     name: &'a str,
     recording: &Recording<'_, 'a, R, E>,
     spelled: Spelled<'_>,
-) -> Result<Vec<RuleVerdict>, Fault<'a>> {
+) -> Result<Vec<RuleVerdict>, CommandFault<'a>> {
     match print_judged(rt, recording, spelled) {
         Ok(verdicts) => Ok(verdicts),
         Err(fault) => Err(fault_of_pass(name, fault)),
@@ -322,7 +323,7 @@ fn print_json<'a, R: System, E: Eprint + IsTerminal>(
     name: &'a str,
     recording: &Recording<'_, 'a, R, E>,
     spelled: Spelled<'_>,
-) -> Result<Vec<RuleVerdict>, Fault<'a>> {
+) -> Result<Vec<RuleVerdict>, CommandFault<'a>> {
     let alloc = rt.alloc();
     let lines = JsonLines::over(alloc, JsonSource::Lines, listing(rt));
     let mut out = on_stream("-", BufWriter::new(alloc, lines))?;
@@ -362,7 +363,7 @@ pub(crate) fn write_report<'a, R: Files<File: Hold> + AllocGlobal>(
     request: &Request<'a>,
     junit: &'a str,
     made: Result<Vec<u8>, PassFault>,
-) -> Result<(), Fault<'a>> {
+) -> Result<(), CommandFault<'a>> {
     match made {
         Ok(report) => write_new(rt, junit, Kind::Verdicts, request.force, report.as_slice()),
         Err(fault) => Err(fault_of_pass(request.recording, fault)),

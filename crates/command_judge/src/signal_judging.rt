@@ -10,7 +10,7 @@ use ch11_reader::Skip;
 use command_parts::hosts::System;
 use command_parts::looking::tell_of_unknown;
 use command_parts::recordings::{Recording, Source};
-use command_parts::requests::{Fault, junit_of, rules_text, verdict_on};
+use command_parts::requests::{CommandFault, junit_of, rules_text, verdict_on};
 use command_parts::streams::{listing, on_stream};
 use judge_rules::{RuleError, RuleFault};
 use signal_dictionary::Signal;
@@ -32,10 +32,10 @@ pub struct AllSpelled<'r, 'd> {
 }
 
 /// The fault of rules that were refused.
-fn fault_of_rules<'a>(error: RuleError) -> Fault<'a> {
+fn fault_of_rules<'a>(error: RuleError) -> CommandFault<'a> {
     match error.fault {
-        RuleFault::Memory => Fault::Memory,
-        RuleFault::Word | RuleFault::Number | RuleFault::Range => Fault::Rules(error),
+        RuleFault::Memory => CommandFault::Memory,
+        RuleFault::Word | RuleFault::Number | RuleFault::Range => CommandFault::Rules(error),
     }
 }
 
@@ -44,7 +44,7 @@ pub fn rules_among<'a, 'd>(
     alloc: Global,
     text: &[u8],
     signals: &'d [Signal],
-) -> Result<AllRules<'d>, Fault<'a>> {
+) -> Result<AllRules<'d>, CommandFault<'a>> {
     match read_all_rules(alloc, text, signals) {
         Ok(rules) => Ok(rules),
         Err(error) => Err(fault_of_rules(error)),
@@ -57,7 +57,7 @@ pub(crate) fn run_with<'a, R: System, E: Eprint + IsTerminal>(
     errors: &E,
     request: &Request<'a>,
     signals: &[Signal],
-) -> Result<(), Fault<'a>> {
+) -> Result<(), CommandFault<'a>> {
     let source = Source::of(rt, errors, request.recording)?;
     let given = given_rules(rt, request)?;
     let recording = source.recording(request.skip, true);
@@ -74,7 +74,7 @@ fn judge_recording<'a, R: System, E: Eprint + IsTerminal>(
     recording: &Recording<'_, 'a, R, E>,
     given: Option<&[u8]>,
     signals: &[Signal],
-) -> Result<(), Fault<'a>> {
+) -> Result<(), CommandFault<'a>> {
     let text = rules_text(given);
     let rules = match rules_among(rt.alloc(), text, signals) {
         Ok(rules) => rules,
@@ -107,7 +107,7 @@ fn judge_by<'a, R: System, E: Eprint + IsTerminal>(
     request: &Request<'a>,
     recording: &Recording<'_, 'a, R, E>,
     spelled: AllSpelled<'_, '_>,
-) -> Result<(), Fault<'a>> {
+) -> Result<(), CommandFault<'a>> {
     let printed = if request.json {
         print_json(rt, request.recording, recording, spelled)
     } else {
@@ -144,7 +144,7 @@ pub fn print_all_verdicts<'a, R: System, E: Eprint + IsTerminal>(
     name: &'a str,
     recording: &Recording<'_, 'a, R, E>,
     spelled: AllSpelled<'_, '_>,
-) -> Result<Vec<RuleVerdict>, Fault<'a>> {
+) -> Result<Vec<RuleVerdict>, CommandFault<'a>> {
     let alloc = rt.alloc();
     let mut out = on_stream("-", BufWriter::new(alloc, listing(rt)))?;
     let (rules, origins, skips) = (spelled.rules, spelled.origins, spelled.skips);
@@ -160,7 +160,7 @@ fn print_json<'a, R: System, E: Eprint + IsTerminal>(
     name: &'a str,
     recording: &Recording<'_, 'a, R, E>,
     spelled: AllSpelled<'_, '_>,
-) -> Result<Vec<RuleVerdict>, Fault<'a>> {
+) -> Result<Vec<RuleVerdict>, CommandFault<'a>> {
     let alloc = rt.alloc();
     let lines = JsonLines::over(alloc, JsonSource::Lines, listing(rt));
     let mut out = on_stream("-", BufWriter::new(alloc, lines))?;

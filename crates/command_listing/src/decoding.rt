@@ -6,7 +6,7 @@ use clap::ArgMatches;
 use command_parts::dictionaries::{selection_by, signals_in};
 use command_parts::looking::{tell_of_loss, tell_of_unknown};
 use command_parts::recordings::{Recording, Source};
-use command_parts::requests::{Fault, Listing, unless_gone};
+use command_parts::requests::{CommandFault, Listing, unless_gone};
 use command_parts::selecting::{GivenSelection, given_selection, judge_selection};
 use command_parts::streams::unless_refused;
 use command_parts::terminals::is_for_people;
@@ -36,7 +36,7 @@ pub struct Messages<'a> {
 impl<'a> Messages<'a> {
     /// The signals of the dictionary, none where no dictionary is named. A usage fault of the words comes before its
     /// own.
-    fn dictionary<R: Files + AllocGlobal>(&self, rt: &R) -> Result<Vec<Signal>, Fault<'a>> {
+    fn dictionary<R: Files + AllocGlobal>(&self, rt: &R) -> Result<Vec<Signal>, CommandFault<'a>> {
         judge_selection(&self.selection)?;
         signals_in(rt, self.signals)
     }
@@ -66,7 +66,7 @@ pub(crate) fn show_messages<
     'a,
     R: Env + Files + AllocGlobal + Print + Clock,
     E: Eprint + IsTerminal,
->(rt: &R, errors: &E, request: &Messages<'a>) -> Result<(), Fault<'a>> {
+>(rt: &R, errors: &E, request: &Messages<'a>) -> Result<(), CommandFault<'a>> {
     let signals = request.dictionary(rt)?;
     let output = output_of(rt, request, signals.as_slice())?;
     let source = if request.by_time {
@@ -119,7 +119,7 @@ fn output_of<'a, 's, R: Env + Files + AllocGlobal>(
     rt: &R,
     request: &Messages<'a>,
     signals: &'s [Signal],
-) -> Result<Output<'s>, Fault<'a>> {
+) -> Result<Output<'s>, CommandFault<'a>> {
     let selection = selection_by(&request.selection, request.signals, signals)?;
     Ok(Output {
         selection,
@@ -135,9 +135,9 @@ fn output_of<'a, 's, R: Env + Files + AllocGlobal>(
 }
 
 /// The fault of a selection that has none of the messages.
-fn some_selected<'a>(count: u64, output: &Output) -> Result<(), Fault<'a>> {
+fn some_selected<'a>(count: u64, output: &Output) -> Result<(), CommandFault<'a>> {
     if count == 0 && !output.selection.is_all() {
-        return Err(Fault::NoneSelected);
+        return Err(CommandFault::NoneSelected);
     }
     Ok(())
 }
@@ -150,7 +150,7 @@ fn print_messages<'a, R: Files + AllocGlobal + Clock, E: Eprint + IsTerminal, W:
     by_time: bool,
     output: &Output,
     out: &mut W,
-) -> Result<u64, Fault<'a>> {
+) -> Result<u64, CommandFault<'a>> {
     let alloc = recording.alloc();
     if by_time {
         let bytes = recording.bytes().unwrap_or(&[]);

@@ -7,7 +7,7 @@ use clap::{ArgMatches, Command};
 use command_parts::looking::{tell_of_loss, tell_of_unknown, tell_of_unread};
 use command_parts::options::{argument, command_of, file, flag, json, time_channel};
 use command_parts::recordings::{Recording, Source, Times};
-use command_parts::requests::{Fault, Listing, unless_gone};
+use command_parts::requests::{CommandFault, Listing, unless_gone};
 use command_parts::selecting::selection_options;
 use command_parts::streams::unless_refused;
 use std::alloc::{AllocError, Global};
@@ -126,7 +126,7 @@ pub fn run<'a, R: Env + Files + AllocGlobal + Print + Clock, E: Eprint + IsTermi
     rt: &R,
     errors: &E,
     request: &Request<'a>,
-) -> Result<(), Fault<'a>> {
+) -> Result<(), CommandFault<'a>> {
     match request {
         Request::Packets(packets) => show_packets(rt, errors, packets),
         Request::Messages(messages) => show_messages(rt, errors, messages),
@@ -138,7 +138,7 @@ fn show_packets<'a, R: Files + AllocGlobal + Print + Clock, E: Eprint + IsTermin
     rt: &R,
     errors: &E,
     request: &Packets<'a>,
-) -> Result<(), Fault<'a>> {
+) -> Result<(), CommandFault<'a>> {
     let source = Source::of(rt, errors, request.recording)?;
     let recording = source.recording(request.skip, true);
     let mut out = Listing::ending(io::writer(rt));
@@ -173,7 +173,7 @@ fn print_packets<'a, R: Files + AllocGlobal + Clock, E: Eprint + IsTerminal, W: 
     recording: &Recording<'_, 'a, R, E>,
     request: &Packets<'a>,
     out: &mut W,
-) -> Result<bool, Fault<'a>> {
+) -> Result<bool, CommandFault<'a>> {
     if request.skip {
         print_sound(recording, request.times, out)
     } else {
@@ -188,7 +188,7 @@ fn print_whole<'a, R: Files + AllocGlobal + Clock, E: Eprint + IsTerminal, W: Wr
     recording: &Recording<'_, 'a, R, E>,
     times: Times,
     out: &mut W,
-) -> Result<bool, Fault<'a>> {
+) -> Result<bool, CommandFault<'a>> {
     let alloc = recording.alloc();
     let first = recording.begin_reading()?;
     let second = recording.begin_printing()?;
@@ -209,7 +209,7 @@ fn print_sound<'a, R: Files + AllocGlobal + Clock, E: Eprint + IsTerminal, W: Wr
     recording: &Recording<'_, 'a, R, E>,
     times: Times,
     out: &mut W,
-) -> Result<bool, Fault<'a>> {
+) -> Result<bool, CommandFault<'a>> {
     let read = recording.clock(times)?;
     let bytes = recording.begin_printing()?;
     let printed = dump_skipping(recording.alloc(), bytes, &read.clock, times.asked, out);

@@ -14,7 +14,7 @@ use command_parts::dictionaries::{selection_by, signals_in};
 use command_parts::looking::{tell_of_loss, tell_of_unknown, tell_of_unread};
 use command_parts::options::{argument, choice, command_of, file, flag, json, time_channel};
 use command_parts::recordings::{Recording, Source, Times};
-use command_parts::requests::Fault;
+use command_parts::requests::CommandFault;
 use command_parts::selecting::{
     GivenSelection, given_selection, judge_selection, selection_options,
 };
@@ -97,7 +97,7 @@ pub struct Request<'a> {
 impl<'a> Request<'a> {
     /// The signals of the dictionary, none where no dictionary is named. A usage fault of the words comes before its
     /// own.
-    fn dictionary<R: Files + AllocGlobal>(&self, rt: &R) -> Result<Vec<Signal>, Fault<'a>> {
+    fn dictionary<R: Files + AllocGlobal>(&self, rt: &R) -> Result<Vec<Signal>, CommandFault<'a>> {
         judge_selection(&self.selection)?;
         signals_in(rt, self.signals)
     }
@@ -136,7 +136,7 @@ pub fn run<'a, R: Files + AllocGlobal + Print + Clock, E: Eprint + IsTerminal>(
     rt: &R,
     errors: &E,
     request: &Request<'a>,
-) -> Result<(), Fault<'a>> {
+) -> Result<(), CommandFault<'a>> {
     let signals = request.dictionary(rt)?;
     let selection = selection_by(&request.selection, request.signals, signals.as_slice())?;
     let source = Source::of(rt, errors, request.recording)?;
@@ -170,11 +170,11 @@ fn count<'a, R: Files + AllocGlobal + Clock, E: Eprint + IsTerminal>(
     request: &Request<'a>,
     selection: &Selection,
     signals: &[Signal],
-) -> Result<Counted, Fault<'a>> {
+) -> Result<Counted, CommandFault<'a>> {
     let bytes = recording.begin_reading()?;
     let figures = recording.answer(stat(recording.alloc(), bytes, selection))?;
     if !selection.is_all() && counts_nothing(figures.as_slice()) {
-        return Err(Fault::NoneSelected);
+        return Err(CommandFault::NoneSelected);
     }
     let times = recording.clock(request.times())?;
     let told = told_of(recording, request, selection, figures.as_slice())?;
@@ -196,7 +196,7 @@ fn signals_of<'a, R: Files + AllocGlobal + Clock, E: Eprint + IsTerminal>(
     request: &Request<'a>,
     selection: &Selection,
     signals: &[Signal],
-) -> Result<Vec<SignalFigures>, Fault<'a>> {
+) -> Result<Vec<SignalFigures>, CommandFault<'a>> {
     if request.signals.is_none() {
         return Ok(Vec::new(recording.alloc()));
     }
@@ -211,7 +211,7 @@ fn told_of<'a, R: Files + AllocGlobal + Clock, E: Eprint + IsTerminal>(
     request: &Request<'a>,
     selection: &Selection,
     figures: &[ChannelFigures],
-) -> Result<ToldChannels, Fault<'a>> {
+) -> Result<ToldChannels, CommandFault<'a>> {
     let alloc = recording.alloc();
     if !request.shown.needs_more() {
         return Ok(ToldChannels::new(alloc));
@@ -225,7 +225,7 @@ fn told_of<'a, R: Files + AllocGlobal + Clock, E: Eprint + IsTerminal>(
 fn kinds_of<'a, R: Files + AllocGlobal + Clock, E: Eprint + IsTerminal>(
     recording: &Recording<'_, 'a, R, E>,
     request: &Request<'a>,
-) -> Result<Vec<KindFigures>, Fault<'a>> {
+) -> Result<Vec<KindFigures>, CommandFault<'a>> {
     if !request.shown.long {
         return Ok(Vec::new(recording.alloc()));
     }
@@ -244,7 +244,7 @@ fn print_counted<'a, R: AllocGlobal + Print>(
     counted: &Counted,
     request: &Request<'a>,
     signals: &[Signal],
-) -> Result<(), Fault<'a>> {
+) -> Result<(), CommandFault<'a>> {
     if request.json {
         let out = on_stream("-", BufWriter::new(rt.alloc(), listing(rt)))?;
         let mut lines = JsonLines::over(rt.alloc(), JsonSource::Tables, out);

@@ -14,7 +14,7 @@ use command_parts::looking::tell_of_unknown;
 use command_parts::options::{argument, command_of, file, force, json, number};
 use command_parts::recordings::{Recording, Source, fault_of_reading};
 use command_parts::replacing::may_write;
-use command_parts::requests::{Fault, write_new};
+use command_parts::requests::{CommandFault, write_new};
 use command_parts::selecting::{GivenSelection, given_selection, selection_in, selection_options};
 use command_parts::streams::{listing, on_stream, printed};
 use command_parts::terminals::{is_for_people, prints_to_terminal};
@@ -94,7 +94,7 @@ pub fn run<'a, R: System, E: Eprint + IsTerminal>(
     rt: &R,
     errors: &E,
     request: &Request<'a>,
-) -> Result<(), Fault<'a>> {
+) -> Result<(), CommandFault<'a>> {
     judge_options(request)?;
     if let Some(junit) = request.junit {
         let read = [request.first, request.second];
@@ -108,21 +108,21 @@ pub fn run<'a, R: System, E: Eprint + IsTerminal>(
     second.end();
     let compared = compared?;
     if compared.is_empty() && !request.selection.is_empty() {
-        return Err(Fault::NoneSelected);
+        return Err(CommandFault::NoneSelected);
     }
     print_compared(rt, request, compared.as_slice())?;
     write_report(rt, request, compared.as_slice())?;
     if differing(compared.as_slice()) > 0 {
-        return Err(Fault::Differ);
+        return Err(CommandFault::Differ);
     }
     Ok(())
 }
 
 /// Refuses a selection that its options don't spell, and more ticks than there may be.
-fn judge_options<'a>(request: &Request<'a>) -> Result<(), Fault<'a>> {
+fn judge_options<'a>(request: &Request<'a>) -> Result<(), CommandFault<'a>> {
     selection_in(&request.selection)?;
     if request.within > MOST_TICKS {
-        return Err(Fault::Usage("--within takes 0 to 1000000 ticks of 0.1 us"));
+        return Err(CommandFault::Usage("--within takes 0 to 1000000 ticks of 0.1 us"));
     }
     Ok(())
 }
@@ -133,7 +133,7 @@ fn compare_recordings<'s, 'f, 'a, R: Files + AllocGlobal + Clock, E: Eprint + Is
     request: &Request<'a>,
     first: &'s Recording<'f, 'a, R, E>,
     second: &'s Recording<'f, 'a, R, E>,
-) -> Result<Vec<Compared>, Fault<'a>> {
+) -> Result<Vec<Compared>, CommandFault<'a>> {
     let timed = selection_in(&request.selection)?.is_timed();
     let one = first.stamps(timed)?;
     let other = second.stamps(timed)?;
@@ -153,7 +153,7 @@ fn compare_recordings<'s, 'f, 'a, R: Files + AllocGlobal + Clock, E: Eprint + Is
 fn selection_from<'s, 'a>(
     request: &Request<'a>,
     stamps: &'s Stamps,
-) -> Result<Selection<'s>, Fault<'a>> {
+) -> Result<Selection<'s>, CommandFault<'a>> {
     let selection = selection_in(&request.selection)?;
     Ok(selection.counting_from(stamps.origins.as_slice()))
 }
@@ -176,10 +176,13 @@ fn compare_chosen<'s, 'f, 'a, R: Files + AllocGlobal + Clock, E: Eprint + IsTerm
 }
 
 /// The fault of a recording with this name that was not compared to its end.
-fn fault_of_side<'a>(name: &'a str, fault: SideFault) -> Fault<'a> {
+fn fault_of_side<'a>(name: &'a str, fault: SideFault) -> CommandFault<'a> {
     match fault {
-        SideFault::Opening(error) => Fault::of_stream(name, &error),
-        SideFault::Reading(StreamFault::Refused(refusal)) => Fault::OneOfTwo { name, refusal },
+        SideFault::Opening(error) => CommandFault::of_stream(name, &error),
+        SideFault::Reading(StreamFault::Refused(refusal)) => CommandFault::OneOfTwo {
+            name,
+            refusal,
+        },
         SideFault::Reading(fault) => fault_of_reading(name, fault),
     }
 }
@@ -189,7 +192,7 @@ fn print_compared<'a, R: System>(
     rt: &R,
     request: &Request<'a>,
     compared: &[Compared],
-) -> Result<(), Fault<'a>> {
+) -> Result<(), CommandFault<'a>> {
     let mut out = on_stream("-", BufWriter::new(rt.alloc(), listing(rt)))?;
     if request.json {
         let text = json_of(rt.alloc(), compared)?;
@@ -209,13 +212,13 @@ fn write_report<'a, R: System>(
     rt: &R,
     request: &Request<'a>,
     compared: &[Compared],
-) -> Result<(), Fault<'a>> {
+) -> Result<(), CommandFault<'a>> {
     let Some(junit) = request.junit else {
         return Ok(());
     };
     let mut report = Vec::new(rt.alloc());
     match write_junit(rt.alloc(), compared, &mut report) {
         Ok(()) => write_new(rt, junit, Kind::Verdicts, request.force, report.as_slice()),
-        Err(_) => Err(Fault::Memory),
+        Err(_) => Err(CommandFault::Memory),
     }
 }

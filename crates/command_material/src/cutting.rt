@@ -10,7 +10,7 @@ use command_parts::looking::tell_of_unknown;
 use command_parts::options::{command_of, flag};
 use command_parts::recordings::{Recording, Source, fault_of_reading};
 use command_parts::replacing::{begin_to_write, is_replaced, put_or_give_up};
-use command_parts::requests::Fault;
+use command_parts::requests::CommandFault;
 use command_parts::selecting::{selection_in, selection_options};
 use command_parts::streams::on_stream;
 use std::alloc::{AllocError, Global};
@@ -65,7 +65,7 @@ pub fn run<'a, R: Files<File: Hold> + AllocGlobal + Clock, E: Eprint + IsTermina
     rt: &R,
     errors: &E,
     request: &Request<'a>,
-) -> Result<(), Fault<'a>> {
+) -> Result<(), CommandFault<'a>> {
     let _no_signals = request.extract.judge(rt, Kind::Recording, None)?;
     let selection = selection_in(&request.extract.selection)?;
     let source = Source::of(rt, errors, request.extract.recording)?;
@@ -86,7 +86,7 @@ fn cut_recording<'a, R: Files<File: Hold> + AllocGlobal + Clock, E: Eprint + IsT
     recording: &Recording<'_, 'a, R, E>,
     request: &Request<'a>,
     selection: &Selection,
-) -> Result<(), Fault<'a>> {
+) -> Result<(), CommandFault<'a>> {
     let (out, force) = (request.extract.out, request.extract.force);
     if !is_replaced(rt, out) {
         some_selected(recording, request, selection)?;
@@ -107,7 +107,7 @@ fn some_selected<'a, R: Files + AllocGlobal + Clock, E: Eprint + IsTerminal>(
     recording: &Recording<'_, 'a, R, E>,
     request: &Request<'a>,
     selection: &Selection,
-) -> Result<(), Fault<'a>> {
+) -> Result<(), CommandFault<'a>> {
     match cut_into(recording, request, selection, &mut io::sink())? {
         Some(selected) => judge_selected(request, selected),
         None => Ok(()),
@@ -115,11 +115,11 @@ fn some_selected<'a, R: Files + AllocGlobal + Clock, E: Eprint + IsTerminal>(
 }
 
 /// The fault of a selection that has no message.
-fn judge_selected<'a>(request: &Request<'a>, selected: bool) -> Result<(), Fault<'a>> {
+fn judge_selected<'a>(request: &Request<'a>, selected: bool) -> Result<(), CommandFault<'a>> {
     if selected || request.extract.selection.is_empty() {
         Ok(())
     } else {
-        Err(Fault::NoneSelected)
+        Err(CommandFault::NoneSelected)
     }
 }
 
@@ -129,7 +129,7 @@ fn write_messages<'a, R: Files + AllocGlobal + Clock, E: Eprint + IsTerminal, W:
     request: &Request<'a>,
     selection: &Selection,
     writer: W,
-) -> Result<(), Fault<'a>> {
+) -> Result<(), CommandFault<'a>> {
     let out = request.extract.out;
     let mut buffer = on_stream(out, BufWriter::new(recording.alloc(), writer))?;
     match cut_into(recording, request, selection, &mut buffer)? {
@@ -139,7 +139,7 @@ fn write_messages<'a, R: Files + AllocGlobal + Clock, E: Eprint + IsTerminal, W:
         }
         None => {
             some_selected(recording, request, selection)?;
-            Err(Fault::Device(out))
+            Err(CommandFault::Device(out))
         }
     }
 }
@@ -150,11 +150,11 @@ fn cut_into<'a, R: Files + AllocGlobal + Clock, E: Eprint + IsTerminal, W: Write
     request: &Request<'a>,
     selection: &Selection,
     out: &mut W,
-) -> Result<Option<bool>, Fault<'a>> {
+) -> Result<Option<bool>, CommandFault<'a>> {
     let name = request.extract.recording;
     let input = match recording.reopen() {
         Ok(input) => input,
-        Err(error) => return Err(Fault::of_stream(name, &error)),
+        Err(error) => return Err(CommandFault::of_stream(name, &error)),
     };
     match cut(recording.alloc(), input, selection, out) {
         Ok(selected) => Ok(Some(selected)),

@@ -1,7 +1,7 @@
 //! Dictionaries of signals that commands read.
 
 use crate::selecting::{GivenSelection, selection_among, selection_in};
-use bench_requests::{Fault, dictionary_of, read_whole};
+use bench_requests::{CommandFault, dictionary_of, read_whole};
 use bench_select::Selection;
 use signal_dictionary::Signal;
 use std::rt::Files;
@@ -10,7 +10,7 @@ use std::rt::Files;
 pub fn dictionary_in<'a, R: Files + AllocGlobal>(
     rt: &R,
     name: &'a str,
-) -> Result<Vec<Signal>, Fault<'a>> {
+) -> Result<Vec<Signal>, CommandFault<'a>> {
     let text = read_whole(rt, name)?;
     dictionary_of(rt.alloc(), text.as_slice())
 }
@@ -19,7 +19,7 @@ pub fn dictionary_in<'a, R: Files + AllocGlobal>(
 pub fn signals_in<'a, R: Files + AllocGlobal>(
     rt: &R,
     name: Option<&'a str>,
-) -> Result<Vec<Signal>, Fault<'a>> {
+) -> Result<Vec<Signal>, CommandFault<'a>> {
     match name {
         Some(name) => dictionary_in(rt, name),
         None => Ok(Vec::new(rt.alloc())),
@@ -31,7 +31,7 @@ pub fn selection_by<'a, 's>(
     given: &GivenSelection<'a>,
     name: Option<&'a str>,
     signals: &'s [Signal],
-) -> Result<Selection<'s>, Fault<'a>> {
+) -> Result<Selection<'s>, CommandFault<'a>> {
     match name {
         Some(_) => selection_among(given, signals),
         None => selection_in(given),

@@ -5,7 +5,7 @@ use crate::options::{Row, argument, file, force};
 use crate::replacing::may_write;
 use crate::selecting::{GivenSelection, given_selection, judge_selection};
 use bench_files::Kind;
-use bench_requests::Fault;
+use bench_requests::CommandFault;
 use clap::ArgMatches;
 use signal_dictionary::Signal;
 use std::rt::Files;
@@ -52,7 +52,7 @@ impl<'a> Extract<'a> {
         rt: &R,
         kind: Kind,
         dictionary: Option<&'a str>,
-    ) -> Result<Vec<Signal>, Fault<'a>> {
+    ) -> Result<Vec<Signal>, CommandFault<'a>> {
         judge_selection(&self.selection)?;
         let read = [self.recording, dictionary.unwrap_or(self.recording)];
         may_write(rt, self.out, kind, self.force, &read)?;

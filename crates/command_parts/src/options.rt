@@ -7,7 +7,7 @@ use std::alloc::{AllocError, Global};
 #[derive(Clone, Copy)]
 pub struct Row<'a> {
     name: &'a str,
-    form: Form<'a>,
+    takes: Takes<'a>,
     help: &'a str,
     /// Whether it has to be given.
     required: bool,
@@ -21,7 +21,7 @@ pub struct Row<'a> {
 
 /// What an option or an argument takes.
 #[derive(Clone, Copy)]
-enum Form<'a> {
+enum Takes<'a> {
     /// An option without a value.
     Flag,
     /// An option with a value that the help calls so.
@@ -44,10 +44,10 @@ enum Form<'a> {
 
 impl<'a> Row<'a> {
     /// An option or an argument that may be left out, whatever else is given.
-    fn new(name: &'a str, form: Form<'a>, help: &'a str) -> Row<'a> {
+    fn new(name: &'a str, takes: Takes<'a>, help: &'a str) -> Row<'a> {
         Row {
             name,
-            form,
+            takes,
             help,
             required: false,
             default: None,
@@ -90,7 +90,7 @@ impl<'a> Row<'a> {
         let arg = Arg::new(alloc, self.name)
             .help(self.help)
             .required(self.required);
-        let arg = defaulting(self.form.of(arg, self.name), self.default);
+        let arg = defaulting(self.takes.of(arg, self.name), self.default);
         let arg = arg.conflicts_with_all(self.excluded)?;
         match self.needed {
             Some(needed) => arg.requires_arg(needed),
@@ -99,26 +99,26 @@ impl<'a> Row<'a> {
     }
 }
 
-impl<'a> Form<'a> {
+impl<'a> Takes<'a> {
     /// An option or argument of this name that takes that.
     fn of(self, arg: Arg<'a>, name: &'a str) -> Arg<'a> {
         match self {
-            Form::Flag => arg.long(name).action(ArgAction::SetTrue),
-            Form::Value(called) => arg.long(name).value_name(called),
-            Form::Signed(called) => signed_option(arg, name, called),
-            Form::Choice(called, words) => arg.long(name).value_name(called).value_parser(words),
-            Form::Byte => {
+            Takes::Flag => arg.long(name).action(ArgAction::SetTrue),
+            Takes::Value(called) => arg.long(name).value_name(called),
+            Takes::Signed(called) => signed_option(arg, name, called),
+            Takes::Choice(called, words) => arg.long(name).value_name(called).value_parser(words),
+            Takes::Byte => {
                 signed_option(arg, name, "N").value_parser(value_parser!(u8).range(0..=255))
             }
-            Form::Channel => {
+            Takes::Channel => {
                 signed_option(arg, name, "N").value_parser(value_parser!(u16).range(1..=65535))
             }
-            Form::Number => {
+            Takes::Number => {
                 let numbers = value_parser!(u32).range(0..=4_294_967_295);
                 signed_option(arg, name, "N").value_parser(numbers)
             }
-            Form::Argument => arg,
-            Form::Arguments => arg.num_args(0usize..),
+            Takes::Argument => arg,
+            Takes::Arguments => arg.num_args(0usize..),
         }
     }
 }
@@ -140,27 +140,27 @@ fn defaulting<'a>(arg: Arg<'a>, default: Option<&'a str>) -> Arg<'a> {
 
 /// An option without a value.
 pub fn flag<'a>(name: &'a str, help: &'a str) -> Row<'a> {
-    Row::new(name, Form::Flag, help)
+    Row::new(name, Takes::Flag, help)
 }
 
 /// An option with a value that the help calls so.
 pub fn value<'a>(name: &'a str, called: &'a str, help: &'a str) -> Row<'a> {
-    Row::new(name, Form::Value(called), help)
+    Row::new(name, Takes::Value(called), help)
 }
 
 /// An option with a value that the help calls so, and that may begin with a minus sign.
 pub(crate) fn signed<'a>(name: &'a str, called: &'a str, help: &'a str) -> Row<'a> {
-    Row::new(name, Form::Signed(called), help)
+    Row::new(name, Takes::Signed(called), help)
 }
 
 /// An option with one of these words, which the help calls so.
 pub fn choice<'a>(name: &'a str, called: &'a str, words: &'a [&'a str], help: &'a str) -> Row<'a> {
-    Row::new(name, Form::Choice(called, words), help)
+    Row::new(name, Takes::Choice(called, words), help)
 }
 
 /// An option with the number of a channel.
 pub fn channel<'a>(name: &'a str, help: &'a str) -> Row<'a> {
-    Row::new(name, Form::Channel, help)
+    Row::new(name, Takes::Channel, help)
 }
 
 /// The channel whose time packets tell times of day.
@@ -171,7 +171,7 @@ pub fn time_channel<'a>() -> Row<'a> {
 
 /// An option whose number the command judges.
 pub fn number<'a>(name: &'a str, help: &'a str) -> Row<'a> {
-    Row::new(name, Form::Number, help)
+    Row::new(name, Takes::Number, help)
 }
 
 /// An option with the name of a file.
@@ -198,12 +198,12 @@ pub fn json<'a>() -> Row<'a> {
 /// The data type version of what is written.
 pub fn version<'a>() -> Row<'a> {
     let help = "The data type version in each packet's header, 0 to 255, as you choose it";
-    Row::new("version", Form::Byte, help)
+    Row::new("version", Takes::Byte, help)
 }
 
 /// An argument.
 pub fn optional<'a>(name: &'a str, help: &'a str) -> Row<'a> {
-    Row::new(name, Form::Argument, help)
+    Row::new(name, Takes::Argument, help)
 }
 
 /// An argument that has to be given.
@@ -213,7 +213,7 @@ pub fn argument<'a>(name: &'a str, help: &'a str) -> Row<'a> {
 
 /// An argument that is given any number of times.
 pub fn arguments<'a>(name: &'a str, help: &'a str) -> Row<'a> {
-    Row::new(name, Form::Arguments, help)
+    Row::new(name, Takes::Arguments, help)
 }
 
 /// The jobs that are run.

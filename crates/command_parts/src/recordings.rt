@@ -3,7 +3,7 @@
 
 use crate::terminals::prints_to_terminal;
 use bench_clock::{ReadClock, read_clock, read_sound_clock};
-use bench_requests::{Fault, open_to_read, read_whole};
+use bench_requests::{CommandFault, open_to_read, read_whole};
 use bench_select::{Stamps, read_stamps};
 use bench_watch::{Reopen, SystemFile, Watch, Watched};
 use ch11_check::check;
@@ -103,7 +103,7 @@ pub struct Source<'f, 'a, R, E> {
 fn kept_of<'a, R: Files + AllocGlobal>(
     rt: &R,
     name: &'a str,
-) -> Result<Option<Vec<u8>>, Fault<'a>> {
+) -> Result<Option<Vec<u8>>, CommandFault<'a>> {
     match fs::metadata(rt, name) {
         Ok(about) if about.is_file() => {
             drop(open_to_read(rt, name)?);
@@ -116,7 +116,11 @@ fn kept_of<'a, R: Files + AllocGlobal>(
 impl<'f, 'a, R: Files + AllocGlobal + Clock, E: Eprint + IsTerminal> Source<'f, 'a, R, E> {
     /// The recording with this name. Bytes are kept of what is no plain file. One that cannot be opened, or not be read
     /// where it is kept, is a device fault with its name as given.
-    pub fn of(rt: &'f R, errors: &'f E, name: &'a str) -> Result<Source<'f, 'a, R, E>, Fault<'a>> {
+    pub fn of(
+        rt: &'f R,
+        errors: &'f E,
+        name: &'a str,
+    ) -> Result<Source<'f, 'a, R, E>, CommandFault<'a>> {
         let kept = kept_of(rt, name)?;
         Ok(Source {
             rt,
@@ -131,7 +135,7 @@ impl<'f, 'a, R: Files + AllocGlobal + Clock, E: Eprint + IsTerminal> Source<'f, 
         rt: &'f R,
         errors: &'f E,
         name: &'a str,
-    ) -> Result<Source<'f, 'a, R, E>, Fault<'a>> {
+    ) -> Result<Source<'f, 'a, R, E>, CommandFault<'a>> {
         let kept = read_whole(rt, name)?;
         Ok(Source {
             rt,
@@ -192,10 +196,10 @@ impl<'f, 'a, R: Files + AllocGlobal + Clock, E: Eprint + IsTerminal> Recording<'
     }
 
     /// The same, where one that cannot be opened is a device fault with its name.
-    fn begin(&self, shown: bool) -> Result<Bytes<'f, SystemFile<R::File>, R, E>, Fault<'a>> {
+    fn begin(&self, shown: bool) -> Result<Bytes<'f, SystemFile<R::File>, R, E>, CommandFault<'a>> {
         match self.open(shown) {
             Ok(bytes) => Ok(bytes),
-            Err(error) => Err(Fault::of_stream(self.name, &error)),
+            Err(error) => Err(CommandFault::of_stream(self.name, &error)),
         }
     }
 
@@ -210,29 +214,31 @@ impl<'f, 'a, R: Files + AllocGlobal + Clock, E: Eprint + IsTerminal> Recording<'
     }
 
     /// All its bytes, for a pass that prints nothing.
-    pub fn begin_reading(&self) -> Result<Bytes<'f, SystemFile<R::File>, R, E>, Fault<'a>> {
+    pub fn begin_reading(&self) -> Result<Bytes<'f, SystemFile<R::File>, R, E>, CommandFault<'a>> {
         self.begin(true)
     }
 
     /// All its bytes, for a pass that prints to the standard output.
-    pub fn begin_printing(&self) -> Result<Bytes<'f, SystemFile<R::File>, R, E>, Fault<'a>> {
+    pub fn begin_printing(&self) -> Result<Bytes<'f, SystemFile<R::File>, R, E>, CommandFault<'a>> {
         self.begin(!prints_to_terminal(self.rt))
     }
 
     /// All its bytes, for a pass that is shown nowhere.
-    pub(crate) fn begin_unseen(&self) -> Result<Bytes<'f, SystemFile<R::File>, R, E>, Fault<'a>> {
+    pub(crate) fn begin_unseen(
+        &self,
+    ) -> Result<Bytes<'f, SystemFile<R::File>, R, E>, CommandFault<'a>> {
         self.begin(false)
     }
 
     /// Whether it can be read to its end, or its first fault.
-    pub fn check(&self) -> Result<(), Fault<'a>> {
+    pub fn check(&self) -> Result<(), CommandFault<'a>> {
         let bytes = self.begin_reading()?;
         answer_of_reading(self.name, check(self.alloc(), bytes))
     }
 
     /// Its clock, or that of what is sound of it, in a pass of its own where times of day are asked for, and else one
     /// that tells none.
-    pub fn clock(&self, times: Times) -> Result<ReadClock, Fault<'a>> {
+    pub fn clock(&self, times: Times) -> Result<ReadClock, CommandFault<'a>> {
         let alloc = self.alloc();
         if !times.asked {
             return Ok(ReadClock::unset(alloc));
@@ -248,7 +254,7 @@ impl<'f, 'a, R: Files + AllocGlobal + Clock, E: Eprint + IsTerminal> Recording<'
 
     /// What its time stamps are, or those of what is sound of it, in a pass of its own where times are asked for, and
     /// else those of no message.
-    pub fn stamps(&self, asked: bool) -> Result<Stamps, Fault<'a>> {
+    pub fn stamps(&self, asked: bool) -> Result<Stamps, CommandFault<'a>> {
         if !asked {
             let none: &[u8] = &[];
             return answer_of_reading(self.name, read_stamps(self.alloc(), none));
@@ -264,7 +270,7 @@ impl<'f, 'a, R: Files + AllocGlobal + Clock, E: Eprint + IsTerminal> Recording<'
     }
 
     /// The same behind all that was asked, in a pass that is shown nowhere.
-    pub fn stamps_unseen(&self) -> Result<Stamps, Fault<'a>> {
+    pub fn stamps_unseen(&self) -> Result<Stamps, CommandFault<'a>> {
         let bytes = self.begin_unseen()?;
         self.stamps_among(bytes)
     }
@@ -273,7 +279,7 @@ impl<'f, 'a, R: Files + AllocGlobal + Clock, E: Eprint + IsTerminal> Recording<'
     fn stamps_among(
         &self,
         bytes: Bytes<'f, SystemFile<R::File>, R, E>,
-    ) -> Result<Stamps, Fault<'a>> {
+    ) -> Result<Stamps, CommandFault<'a>> {
         let pass = Pass::over(self.alloc(), bytes, self.skip)?;
         answer_of_reading(self.name, read_stamps(self.alloc(), pass))
     }
@@ -297,12 +303,12 @@ impl<'f, 'a, R: Files + AllocGlobal + Clock, E: Eprint + IsTerminal> Recording<'
     }
 
     /// What was made of it, or the fault of one that could not be read to its end.
-    pub fn answer<T>(&self, answer: Result<T, StreamFault>) -> Result<T, Fault<'a>> {
+    pub fn answer<T>(&self, answer: Result<T, StreamFault>) -> Result<T, CommandFault<'a>> {
         answer_of_reading(self.name, answer)
     }
 
     /// What was printed of it, or why it was not printed to its end.
-    pub fn printed<T>(&self, answer: Result<T, StreamFault>) -> Result<T, Fault<'a>> {
+    pub fn printed<T>(&self, answer: Result<T, StreamFault>) -> Result<T, CommandFault<'a>> {
         match answer {
             Ok(made) => Ok(made),
             Err(fault) => Err(fault_of_dump(self.name, fault, self.watch.has_failed())),
@@ -328,11 +334,11 @@ impl<'f, 'a, R: Files + AllocGlobal + Clock, E: Eprint + IsTerminal> Reopen
 }
 
 /// The fault of a recording that was not read to its end, where a device's failure is that of this name.
-pub fn fault_of_reading<'a>(name: &'a str, fault: StreamFault) -> Fault<'a> {
+pub fn fault_of_reading<'a>(name: &'a str, fault: StreamFault) -> CommandFault<'a> {
     match fault {
-        StreamFault::Refused(refusal) => Fault::Recording(refusal),
-        StreamFault::Memory => Fault::Memory,
-        StreamFault::Device => Fault::Device(name),
+        StreamFault::Refused(refusal) => CommandFault::Recording(refusal),
+        StreamFault::Memory => CommandFault::Memory,
+        StreamFault::Device => CommandFault::Device(name),
     }
 }
 
@@ -340,7 +346,7 @@ pub fn fault_of_reading<'a>(name: &'a str, fault: StreamFault) -> Fault<'a> {
 pub fn answer_of_reading<'a, T>(
     name: &'a str,
     answer: Result<T, StreamFault>,
-) -> Result<T, Fault<'a>> {
+) -> Result<T, CommandFault<'a>> {
     match answer {
         Ok(made) => Ok(made),
         Err(fault) => Err(fault_of_reading(name, fault)),
@@ -348,6 +354,6 @@ pub fn answer_of_reading<'a, T>(
 }
 
 /// The fault of a recording that was not printed to its end: the reader's, where that failed.
-pub fn fault_of_dump<'a>(name: &'a str, fault: StreamFault, failed: bool) -> Fault<'a> {
+pub fn fault_of_dump<'a>(name: &'a str, fault: StreamFault, failed: bool) -> CommandFault<'a> {
     fault_of_reading(if failed { name } else { "-" }, fault)
 }

@@ -1,7 +1,7 @@
 //! The file that a command writes: judged before anything is read, and in its place once it is whole.
 
 use bench_files::{Hold, Kind, OutFile, leads_to_output};
-use bench_requests::{Fault, begin, put_in_place, replaceable, told_apart, writer_of};
+use bench_requests::{CommandFault, begin, put_in_place, replaceable, told_apart, writer_of};
 use std::fs;
 use std::rt::Files;
 
@@ -13,7 +13,7 @@ pub fn may_write<'a, R: Files + AllocGlobal>(
     kind: Kind,
     force: bool,
     read: &[&'a str],
-) -> Result<(), Fault<'a>> {
+) -> Result<(), CommandFault<'a>> {
     told_apart(rt, &[out], read)?;
     replaceable(rt, out, kind, force)
 }
@@ -24,7 +24,7 @@ pub fn begin_to_write<'a, R: Files<File: Hold> + AllocGlobal>(
     out: &'a str,
     kind: Kind,
     force: bool,
-) -> Result<(OutFile<'a, R::File>, R::File), Fault<'a>> {
+) -> Result<(OutFile<'a, R::File>, R::File), CommandFault<'a>> {
     let mut file = begin(rt, out, kind, force)?;
     match writer_of(rt, out, &mut file) {
         Ok(writer) => Ok((file, writer)),
@@ -40,8 +40,8 @@ pub fn put_or_give_up<'a, R: Files<File: Hold>>(
     rt: &R,
     out: &'a str,
     file: OutFile<'a, R::File>,
-    written: Result<(), Fault<'a>>,
-) -> Result<(), Fault<'a>> {
+    written: Result<(), CommandFault<'a>>,
+) -> Result<(), CommandFault<'a>> {
     match written {
         Ok(()) => put_in_place(rt, out, file),
         Err(fault) => {

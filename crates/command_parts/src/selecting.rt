@@ -1,7 +1,7 @@
 //! The options that choose messages of a recording, for all commands that look at one.
 
 use crate::options::{Row, channel, choice, flag, signed};
-use bench_requests::Fault;
+use bench_requests::CommandFault;
 use bench_select::{Bound, Selection, read_bound};
 use clap::ArgMatches;
 use judge_rules::{RuleFault, Selector, selector_of};
@@ -83,11 +83,13 @@ pub fn given_selection<'a>(given: &ArgMatches<'a>) -> GivenSelection<'a> {
 }
 
 /// The selection that a command line asks for, or the usage fault of an option that spells none.
-pub fn selection_in<'a>(given: &GivenSelection<'a>) -> Result<Selection<'static>, Fault<'a>> {
+pub fn selection_in<'a>(
+    given: &GivenSelection<'a>,
+) -> Result<Selection<'static>, CommandFault<'a>> {
     match only_in(given.only)? {
         Only::Any => selection_of(given, None, None),
         Only::Commands(selector) => selection_of(given, Some(selector), None),
-        Only::Signal(_) => Err(Fault::Usage(
+        Only::Signal(_) => Err(CommandFault::Usage(
             "--only signal NAME asks for a signal of a dictionary, and there is none",
         )),
     }
@@ -97,13 +99,13 @@ pub fn selection_in<'a>(given: &GivenSelection<'a>) -> Result<Selection<'static>
 pub fn selection_among<'a, 's>(
     given: &GivenSelection<'a>,
     signals: &'s [Signal],
-) -> Result<Selection<'s>, Fault<'a>> {
+) -> Result<Selection<'s>, CommandFault<'a>> {
     match only_in(given.only)? {
         Only::Any => selection_of(given, None, None),
         Only::Commands(selector) => selection_of(given, Some(selector), None),
         Only::Signal(name) => match signal_named(signals, name) {
             Some(signal) => selection_of(given, None, Some(signal)),
-            None => Err(Fault::Usage(
+            None => Err(CommandFault::Usage(
                 "--only signal NAME asks for a signal that the dictionary does not have",
             )),
         },
@@ -111,7 +113,7 @@ pub fn selection_among<'a, 's>(
 }
 
 /// The usage fault of an option of a selection, wherever its signal is looked for.
-pub fn judge_selection<'a>(given: &GivenSelection<'a>) -> Result<(), Fault<'a>> {
+pub fn judge_selection<'a>(given: &GivenSelection<'a>) -> Result<(), CommandFault<'a>> {
     only_in(given.only)?;
     let _selection = selection_of(given, None, None)?;
     Ok(())
@@ -132,7 +134,7 @@ fn selection_of<'a, 's>(
     given: &GivenSelection<'a>,
     selector: Option<Selector>,
     signal: Option<&'s Signal>,
-) -> Result<Selection<'s>, Fault<'a>> {
+) -> Result<Selection<'s>, CommandFault<'a>> {
     Ok(Selection {
         channel: given.channel,
         line: match given.line {
@@ -156,13 +158,16 @@ fn selection_of<'a, 's>(
 }
 
 /// The bound that an option spells, if it is given.
-fn bound_in<'a>(text: Option<&'a str>, fault: &'static str) -> Result<Option<Bound>, Fault<'a>> {
+fn bound_in<'a>(
+    text: Option<&'a str>,
+    fault: &'static str,
+) -> Result<Option<Bound>, CommandFault<'a>> {
     let Some(text) = text else {
         return Ok(None);
     };
     match read_bound(text.as_bytes()) {
         Some(bound) => Ok(Some(bound)),
-        None => Err(Fault::Usage(fault)),
+        None => Err(CommandFault::Usage(fault)),
     }
 }
 
@@ -178,7 +183,7 @@ enum Only<'a> {
 }
 
 /// What the option spells, if it is given.
-fn only_in<'a>(text: Option<&'a str>) -> Result<Only<'a>, Fault<'a>> {
+fn only_in<'a>(text: Option<&'a str>) -> Result<Only<'a>, CommandFault<'a>> {
     let Some(text) = text else {
         return Ok(Only::Any);
     };
@@ -188,21 +193,21 @@ fn only_in<'a>(text: Option<&'a str>) -> Result<Only<'a>, Fault<'a>> {
     }
     match (words.next(), words.next()) {
         (Some(name), None) => Ok(Only::Signal(name)),
-        _ => Err(Fault::Usage("--only signal takes one name of a dictionary")),
+        _ => Err(CommandFault::Usage("--only signal takes one name of a dictionary")),
     }
 }
 
 /// The selector that a text spells.
-fn selector_in<'a>(text: &str) -> Result<Only<'a>, Fault<'a>> {
+fn selector_in<'a>(text: &str) -> Result<Only<'a>, CommandFault<'a>> {
     match selector_of(text.as_bytes()) {
         Ok(selector) => Ok(Only::Commands(selector)),
-        Err(RuleFault::Number) => Err(Fault::Usage(
+        Err(RuleFault::Number) => Err(CommandFault::Usage(
             "--only takes a selector of rules, as \"tx 5 3\" or \"mode * 2\", with a number or * in each place",
         )),
-        Err(RuleFault::Range) => Err(Fault::Usage(
+        Err(RuleFault::Range) => Err(CommandFault::Usage(
             "--only takes addresses of 0 to 30, subaddresses of 1 to 30 and mode codes of 0 to 31",
         )),
-        Err(_) => Err(Fault::Usage(
+        Err(_) => Err(CommandFault::Usage(
             "--only takes a selector of rules: any, rx A S, tx A S, rt A S A S, mode A C, brx S, brt A S S or bmode C",
         )),
     }

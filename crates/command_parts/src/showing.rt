@@ -6,7 +6,7 @@ use crate::options::{Row, file, time_channel};
 use crate::recordings::{Recording, Times};
 use bench_clock::Clock as RecordingClock;
 use bench_files::{Hold, Kind};
-use bench_requests::{Fault, write_new};
+use bench_requests::{CommandFault, write_new};
 use bench_select::Selection;
 use clap::ArgMatches;
 use signal_dictionary::Signal;
@@ -56,12 +56,12 @@ impl<'a> Showing<'a> {
         &self,
         rt: &R,
         kind: Kind,
-    ) -> Result<Vec<Signal>, Fault<'a>> {
+    ) -> Result<Vec<Signal>, CommandFault<'a>> {
         self.extract.judge(rt, kind, self.signals)
     }
 
     /// The selection that it asks for, by these signals too.
-    pub fn selection<'s>(&self, signals: &'s [Signal]) -> Result<Selection<'s>, Fault<'a>> {
+    pub fn selection<'s>(&self, signals: &'s [Signal]) -> Result<Selection<'s>, CommandFault<'a>> {
         selection_by(&self.extract.selection, self.signals, signals)
     }
 
@@ -69,7 +69,7 @@ impl<'a> Showing<'a> {
     pub fn known<R: Files + AllocGlobal + Clock, E: Eprint + IsTerminal>(
         &self,
         recording: &Recording<'_, 'a, R, E>,
-    ) -> Result<Known, Fault<'a>> {
+    ) -> Result<Known, CommandFault<'a>> {
         let read = recording.clock(Times {
             asked: true,
             channel: self.time_channel,
@@ -90,10 +90,10 @@ impl<'a> Showing<'a> {
         kind: Kind,
         messages: u64,
         text: &[u8],
-    ) -> Result<(), Fault<'a>> {
+    ) -> Result<(), CommandFault<'a>> {
         let extract = &self.extract;
         if messages == 0 && !extract.selection.is_empty() {
-            return Err(Fault::NoneSelected);
+            return Err(CommandFault::NoneSelected);
         }
         write_new(rt, extract.out, kind, extract.force, text)
     }

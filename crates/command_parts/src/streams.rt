@@ -1,15 +1,15 @@
 //! Files and streams that fail, and printing to the standard output.
 
-use bench_requests::{Fault, Listing};
+use bench_requests::{CommandFault, Listing};
 use std::io;
 use std::io::{BufWriter, Printer, Write};
 use text_lines::WriteFault;
 
 /// What a call on the file or stream with this name answered, `-` for standard input and output; or its fault.
-pub fn on_stream<'a, T>(name: &'a str, answer: io::Result<T>) -> Result<T, Fault<'a>> {
+pub fn on_stream<'a, T>(name: &'a str, answer: io::Result<T>) -> Result<T, CommandFault<'a>> {
     match answer {
         Ok(value) => Ok(value),
-        Err(error) => Err(Fault::of_stream(name, &error)),
+        Err(error) => Err(CommandFault::of_stream(name, &error)),
     }
 }
 
@@ -36,21 +36,24 @@ pub fn print_to_output<R: AllocGlobal + Print, P: Printable>(
 }
 
 /// What printing to the standard output comes to that ended so, once all is handed on.
-pub fn printed<'a, W: Write>(answer: Result<(), WriteFault>, out: &mut W) -> Result<(), Fault<'a>> {
+pub fn printed<'a, W: Write>(
+    answer: Result<(), WriteFault>,
+    out: &mut W,
+) -> Result<(), CommandFault<'a>> {
     match answer {
         Ok(()) => on_stream("-", out.flush()),
-        Err(WriteFault::Memory) => Err(Fault::Memory),
-        Err(WriteFault::Device) => Err(Fault::Device("-")),
+        Err(WriteFault::Memory) => Err(CommandFault::Memory),
+        Err(WriteFault::Device) => Err(CommandFault::Device("-")),
     }
 }
 
 /// What printing came to, which is want of memory where memory for something on its way was refused.
 pub fn unless_refused<'a, T: Drop>(
     is_refused: bool,
-    answer: Result<T, Fault<'a>>,
-) -> Result<T, Fault<'a>> {
+    answer: Result<T, CommandFault<'a>>,
+) -> Result<T, CommandFault<'a>> {
     if is_refused {
-        return Err(Fault::Memory);
+        return Err(CommandFault::Memory);
     }
     answer
 }

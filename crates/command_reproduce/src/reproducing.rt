@@ -3,14 +3,14 @@
 use crate::channels::{Found, find_channel};
 use bench_compare::write_part;
 use bench_files::{Hold, Kind};
-use bench_reproduce::{Form, ReproduceFault, Reproduction, Verdict, reproduce};
+use bench_reproduce::{JobForm, ReproduceFault, Reproduction, Verdict, reproduce};
 use bench_watch::Reopen;
 use clap::{ArgMatches, Command};
 use command_parts::hosts::System;
 use command_parts::options::{argument, command_of, file, flag, force, number};
 use command_parts::recordings::{Recording, Source, fault_of_reading};
 use command_parts::replacing::may_write;
-use command_parts::requests::{Fault, write_new};
+use command_parts::requests::{CommandFault, write_new};
 use command_parts::streams::{listing, on_stream, printed};
 use std::alloc::{AllocError, Global};
 use std::io::{BufWriter, IsTerminal, Write};
@@ -85,7 +85,7 @@ pub fn run<'a, R: System, E: Eprint + IsTerminal>(
     rt: &R,
     errors: &E,
     request: &Request<'a>,
-) -> Result<(), Fault<'a>> {
+) -> Result<(), CommandFault<'a>> {
     let named = named_channel(request)?;
     may_write(
         rt,
@@ -109,14 +109,14 @@ pub fn run<'a, R: System, E: Eprint + IsTerminal>(
     tell_of_frames(errors, request, done.form);
     print_verdict(rt, &done.verdict)?;
     if done.verdict.same < done.verdict.messages {
-        return Err(Fault::Differ);
+        return Err(CommandFault::Differ);
     }
     Ok(())
 }
 
 /// Says that the job has no frames, where they were asked for.
-fn tell_of_frames<E: Eprint>(errors: &E, request: &Request<'_>, form: Form) {
-    if request.frames && form == Form::Inserts {
+fn tell_of_frames<E: Eprint>(errors: &E, request: &Request<'_>, form: JobForm) {
+    if request.frames && form == JobForm::Inserts {
         // Nothing else is lost where standard error takes no more.
         let _ = eprintln!(errors;
             "bench: {}: no frames: no messages recur, or fewer come out the same by them",
@@ -126,12 +126,12 @@ fn tell_of_frames<E: Eprint>(errors: &E, request: &Request<'_>, form: Form) {
 }
 
 /// The channel that is named; a usage fault of a number that no channel has.
-fn named_channel<'a>(request: &Request<'a>) -> Result<Option<u16>, Fault<'a>> {
+fn named_channel<'a>(request: &Request<'a>) -> Result<Option<u16>, CommandFault<'a>> {
     match request.channel {
         None => Ok(None),
         Some(number) => match u16::try_from(number) {
             Ok(channel) if channel > 0 => Ok(Some(channel)),
-            _ => Err(Fault::Usage("--channel takes 1 to 65535")),
+            _ => Err(CommandFault::Usage("--channel takes 1 to 65535")),
         },
     }
 }
@@ -140,10 +140,10 @@ fn named_channel<'a>(request: &Request<'a>) -> Result<Option<u16>, Fault<'a>> {
 fn reopened<'f, 'a, R: Files + AllocGlobal + Clock, E: Eprint + IsTerminal>(
     recording: &Recording<'f, 'a, R, E>,
     name: &'a str,
-) -> Result<<Recording<'f, 'a, R, E> as Reopen>::Reader, Fault<'a>> {
+) -> Result<<Recording<'f, 'a, R, E> as Reopen>::Reader, CommandFault<'a>> {
     match recording.reopen() {
         Ok(input) => Ok(input),
-        Err(error) => Err(Fault::of_stream(name, &error)),
+        Err(error) => Err(CommandFault::of_stream(name, &error)),
     }
 }
 
@@ -152,17 +152,17 @@ fn channel_of<'a, R: Files + AllocGlobal + Clock, E: Eprint + IsTerminal>(
     recording: &Recording<'_, 'a, R, E>,
     name: &'a str,
     named: Option<u16>,
-) -> Result<u16, Fault<'a>> {
+) -> Result<u16, CommandFault<'a>> {
     if let Some(channel) = named {
         return Ok(channel);
     }
     match find_channel(recording.alloc(), reopened(recording, name)?) {
-        Ok(Found::One(0)) => Err(Fault::Usage(
+        Ok(Found::One(0)) => Err(CommandFault::Usage(
             "this recording has messages of channel 0 alone: the channels of jobs are 1 to 65535",
         )),
         Ok(Found::One(channel)) => Ok(channel),
-        Ok(Found::None) => Err(Fault::NoneSelected),
-        Ok(Found::Several) => Err(Fault::Usage(
+        Ok(Found::None) => Err(CommandFault::NoneSelected),
+        Ok(Found::Several) => Err(CommandFault::Usage(
             "this recording has messages of several channels: --channel says which",
         )),
         Err(fault) => Err(fault_of_reading(name, fault)),
@@ -174,14 +174,14 @@ fn reproduce_channel<'a, R: Files + AllocGlobal + Clock, E: Eprint + IsTerminal>
     recording: &Recording<'_, 'a, R, E>,
     request: &Request<'a>,
     named: Option<u16>,
-) -> Result<Reproduction, Fault<'a>> {
+) -> Result<Reproduction, CommandFault<'a>> {
     let name = request.recording;
     let channel = channel_of(recording, name, named)?;
     let input = reopened(recording, name)?;
     let form = if request.frames {
-        Form::Frames
+        JobForm::Frames
     } else {
-        Form::Inserts
+        JobForm::Inserts
     };
     match reproduce(recording.alloc(), input, channel, form) {
         Ok(done) => Ok(done),
@@ -190,22 +190,22 @@ fn reproduce_channel<'a, R: Files + AllocGlobal + Clock, E: Eprint + IsTerminal>
 }
 
 /// The fault of a recording with this name that was not reproduced.
-fn fault_of_reproducing<'a>(name: &'a str, fault: ReproduceFault) -> Fault<'a> {
+fn fault_of_reproducing<'a>(name: &'a str, fault: ReproduceFault) -> CommandFault<'a> {
     match fault {
         ReproduceFault::Reading(fault) => fault_of_reading(name, fault),
-        ReproduceFault::Nothing => Fault::NoneSelected,
-        ReproduceFault::Many => Fault::Usage(
+        ReproduceFault::Nothing => CommandFault::NoneSelected,
+        ReproduceFault::Many => CommandFault::Usage(
             "a job plays 1000000 messages at most: bench cut --from --to takes a part of the recording",
         ),
-        ReproduceFault::Span => Fault::Usage(
+        ReproduceFault::Span => CommandFault::Usage(
             "the messages are more than 2^47 ticks apart: bench cut --from --to takes a part of the recording",
         ),
-        ReproduceFault::Refused(fault) => Fault::Job(fault),
+        ReproduceFault::Refused(fault) => CommandFault::Job(fault),
     }
 }
 
 /// Prints what running the job came to.
-fn print_verdict<'a, R: System>(rt: &R, verdict: &Verdict) -> Result<(), Fault<'a>> {
+fn print_verdict<'a, R: System>(rt: &R, verdict: &Verdict) -> Result<(), CommandFault<'a>> {
     let mut out = on_stream("-", BufWriter::new(rt.alloc(), listing(rt)))?;
     let written = write_verdict(rt.alloc(), verdict, &mut out);
     printed(written, &mut out)

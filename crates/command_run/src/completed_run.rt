@@ -14,7 +14,7 @@ use command_export::completing::{
 };
 use command_parts::hosts::{Errors, Host};
 use command_parts::options::{Row, file, flag};
-use command_parts::requests::{Ending, Fault, RunFiles, RunRequest};
+use command_parts::requests::{CommandFault, Ending, RunFiles, RunRequest};
 use job_file::{Job, next_record};
 use std::alloc::{AllocError, Global};
 use std::rt::Files;
@@ -62,7 +62,7 @@ pub(crate) fn completing_in<'a>(given: &ArgMatches<'a>) -> Option<Completing<'a>
 /// The time at tick 0 that a run is given.
 pub(crate) fn start_in<'a>(
     completing: Option<&Completing<'a>>,
-) -> Result<Option<UtcSecond>, Fault<'a>> {
+) -> Result<Option<UtcSecond>, CommandFault<'a>> {
     match completing {
         Some(asked) => start_of(asked.time),
         None => Ok(None),
@@ -84,7 +84,7 @@ pub(crate) fn additions_in<'a, 'b>(
     start: Option<UtcSecond>,
     setup: &'b [u8],
     version: u8,
-) -> Result<Option<Additions<'b>>, Fault<'a>> {
+) -> Result<Option<Additions<'b>>, CommandFault<'a>> {
     let Some(asked) = completing else {
         return Ok(None);
     };
@@ -141,7 +141,7 @@ pub(crate) fn record_completed<'a, R: Host, E: Errors>(
     run: Run<'_, '_>,
     additions: &Additions<'_>,
     files: RunFiles<'a, R::File>,
-) -> Result<Report, Fault<'a>>
+) -> Result<Report, CommandFault<'a>>
 where
     R::Reader: 'static,
 {
@@ -172,7 +172,7 @@ fn complete_into<'a, R: Host, E: Errors>(
     run: Run<'_, '_>,
     additions: &Additions<'_>,
     files: &mut RunFiles<'a, R::File>,
-) -> Result<Report, Fault<'a>>
+) -> Result<Report, CommandFault<'a>>
 where
     R::Reader: 'static,
 {
@@ -191,14 +191,14 @@ fn record_in_memory<'a, R: Host, E: Errors>(
     rt: &R,
     errors: &E,
     run: Run<'_, '_>,
-) -> Result<(Report, MemorySink), Fault<'a>>
+) -> Result<(Report, MemorySink), CommandFault<'a>>
 where
     R::Reader: 'static,
 {
     match record(rt, errors, run, MemorySink::make(rt.alloc())) {
         Ok(recorded) => Ok(recorded),
-        Err(RunError::Sink { .. }) => Err(Fault::Memory),
-        Err(error) => Err(Fault::of_run(&error)),
+        Err(RunError::Sink { .. }) => Err(CommandFault::Memory),
+        Err(error) => Err(CommandFault::of_run(&error)),
     }
 }
 
@@ -209,7 +209,7 @@ fn write_completed<'a, R: Files<File: Hold> + AllocGlobal>(
     recording: &[u8],
     additions: &Additions<'_>,
     files: &mut RunFiles<'a, R::File>,
-) -> Result<(), Fault<'a>> {
+) -> Result<(), CommandFault<'a>> {
     let text = additions.setup.unwrap_or(&[]);
     match Completion::plan(
         rt.alloc(),
@@ -227,7 +227,7 @@ fn write_planned<'a, R: Files<File: Hold> + AllocGlobal>(
     name: &'a str,
     completion: Completion<'_, &[u8]>,
     files: &mut RunFiles<'a, R::File>,
-) -> Result<(), Fault<'a>> {
+) -> Result<(), CommandFault<'a>> {
     let writer = files.recording(rt)?;
     answer_of_writing(write_out(rt.alloc(), writer, completion), name, name)
 }

@@ -7,7 +7,7 @@ use command_judge::signal_judging::{AllSpelled, print_all_verdicts, rules_among}
 use command_parts::hosts::System;
 use command_parts::options::{Row, file, value};
 use command_parts::recordings::{Recording, Source};
-use command_parts::requests::{Fault, RunRequest, read_whole, rules_of, verdict_on};
+use command_parts::requests::{CommandFault, RunRequest, read_whole, rules_of, verdict_on};
 use judge_rules::Rule;
 use signal_dictionary::Signal;
 use signal_judge::{AllRules, write_all_verdicts};
@@ -64,9 +64,12 @@ fn is_kept<R: Files>(rt: &R, name: &str) -> bool {
 }
 
 /// That a run that is judged records into a file that can be read back; else a usage fault.
-pub(crate) fn judge_kept<'a, R: Files>(rt: &R, request: &RunRequest<'a>) -> Result<(), Fault<'a>> {
+pub(crate) fn judge_kept<'a, R: Files>(
+    rt: &R,
+    request: &RunRequest<'a>,
+) -> Result<(), CommandFault<'a>> {
     if request.judge.is_some() && !is_kept(rt, request.out) {
-        return Err(Fault::Usage(
+        return Err(CommandFault::Usage(
             "--judge reads the recording back: --out has to be a file, and no pipe, device or standard output",
         ));
     }
@@ -78,7 +81,7 @@ pub(crate) fn rules_of_run<'a, 'd, R: Files + AllocGlobal>(
     rt: &R,
     request: &RunRequest<'a>,
     signals: &'d [Signal],
-) -> Result<Option<RunRules<'d>>, Fault<'a>> {
+) -> Result<Option<RunRules<'d>>, CommandFault<'a>> {
     let Some(name) = request.judge else {
         return Ok(None);
     };
@@ -138,7 +141,7 @@ pub(crate) fn judge_run<'a, R: System, E: Eprint + IsTerminal>(
     errors: &E,
     request: &RunRequest<'a>,
     given: &RunRules<'_>,
-) -> Result<(), Fault<'a>> {
+) -> Result<(), CommandFault<'a>> {
     let source = Source::of(rt, errors, request.out)?;
     let judged = judge_recorded(rt, errors, request, given, &source.recording(false, true));
     source.end();
@@ -152,7 +155,7 @@ fn judge_recorded<'a, R: System, E: Eprint + IsTerminal>(
     request: &RunRequest<'a>,
     given: &RunRules<'_>,
     recording: &Recording<'_, 'a, R, E>,
-) -> Result<Vec<RuleVerdict>, Fault<'a>> {
+) -> Result<Vec<RuleVerdict>, CommandFault<'a>> {
     if !leads_to_output(rt, request.report) {
         return print_judged(rt, request, given, recording);
     }
@@ -168,7 +171,7 @@ fn print_judged<'a, R: System, E: Eprint + IsTerminal>(
     request: &RunRequest<'a>,
     given: &RunRules<'_>,
     recording: &Recording<'_, 'a, R, E>,
-) -> Result<Vec<RuleVerdict>, Fault<'a>> {
+) -> Result<Vec<RuleVerdict>, CommandFault<'a>> {
     // the stamps of a run are ticks of the recorder's counter
     let origins: &[Option<u64>] = &[];
     let text = given.text.as_slice();

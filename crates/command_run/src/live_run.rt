@@ -15,7 +15,7 @@ use ch11_writer::Sink;
 use clap::ArgMatches;
 use command_parts::hosts::{Errors, Host};
 use command_parts::options::{Row, flag, value};
-use command_parts::requests::{Fault, RunRequest};
+use command_parts::requests::{CommandFault, RunRequest};
 use command_parts::terminals::is_for_people;
 use job_file::Job;
 use std::alloc::{AllocError, Global};
@@ -81,9 +81,9 @@ pub(crate) fn way_of<'a, R: Files>(
     rt: &R,
     going: &Going<'a>,
     request: &RunRequest<'a>,
-) -> Result<Way, Fault<'a>> {
+) -> Result<Way, CommandFault<'a>> {
     if going.show && (leads_to_output(rt, request.out) || leads_to_output(rt, request.report)) {
-        return Err(Fault::Usage(
+        return Err(CommandFault::Usage(
             "--show prints on the standard output: neither --out nor --report can lead there",
         ));
     }
@@ -93,7 +93,7 @@ pub(crate) fn way_of<'a, R: Files>(
         Some(text) => match Pace::read(text.as_bytes()) {
             Some(pace) => Some(pace),
             None => {
-                return Err(Fault::Usage(
+                return Err(CommandFault::Usage(
                     "--pace takes a number from 0.1 to 1000, with up to three digits behind a point",
                 ));
             }

@@ -17,8 +17,8 @@ use command_judge::checking::strict_verdict;
 use command_parts::dictionaries::signals_in;
 use command_parts::hosts::{Errors, Host};
 use command_parts::requests::{
-    Ending, Fault, RunFiles, RunRequest, ending_of_run, ending_of_settings, jobs_of, read_texts,
-    read_whole, settings_of, told_apart,
+    CommandFault, Ending, RunFiles, RunRequest, ending_of_run, ending_of_settings, jobs_of,
+    read_texts, read_whole, settings_of, told_apart,
 };
 use command_parts::streams::{Printable, on_stream, print_to_output};
 use std::alloc::{AllocError, Global};
@@ -33,7 +33,11 @@ use std::rt::Files;
 /// rules are read and judged before all that; the recording is judged by them behind its counts. Where that is asked
 /// for, the complete file of the recording stands in its place. Behind the counts it is also said what is probably a
 /// mistake in the jobs, where that is asked for: a fault of its own then, behind all others.
-pub fn run<'a, R: Host, E: Errors>(rt: &R, errors: &E, asked: &Request<'a>) -> Result<(), Fault<'a>>
+pub fn run<'a, R: Host, E: Errors>(
+    rt: &R,
+    errors: &E,
+    asked: &Request<'a>,
+) -> Result<(), CommandFault<'a>>
 where
     R::Reader: 'static,
 {
@@ -61,7 +65,7 @@ where
     let files = RunFiles::begin(rt, request)?;
     if let Err(refused) = judge(&jobs, &settings) {
         files.end(rt, ending_of_settings(&refused))?;
-        return Err(Fault::of_settings(refused));
+        return Err(CommandFault::of_settings(refused));
     }
     let run = Run {
         jobs: &jobs,
@@ -87,13 +91,13 @@ fn record_and_tell<'a, R: Host, E: Errors>(
     run: Run<'_, '_>,
     additions: Option<Additions<'_>>,
     files: RunFiles<'a, R::File>,
-) -> Result<(), Fault<'a>>
+) -> Result<(), CommandFault<'a>>
 where
     R::Reader: 'static,
 {
     let is_output = files.are_output();
     let Ok(showing) = begin_showing(rt, going) else {
-        return Err(ended(rt, files, Ending::Broken, Fault::Memory));
+        return Err(ended(rt, files, Ending::Broken, CommandFault::Memory));
     };
     let show = show_of(&showing);
     let run = Run {
@@ -126,8 +130,8 @@ pub(crate) fn ended<'a, R: Files<File: Hold>>(
     rt: &R,
     files: RunFiles<'a, R::File>,
     ending: Ending,
-    fault: Fault<'a>,
-) -> Fault<'a> {
+    fault: CommandFault<'a>,
+) -> CommandFault<'a> {
     match files.end(rt, ending) {
         Ok(()) => fault,
         Err(other) => other,
@@ -140,7 +144,7 @@ fn record_into<'a, R: Host, E: Errors>(
     errors: &E,
     run: Run<'_, '_>,
     files: RunFiles<'a, R::File>,
-) -> Result<Report, Fault<'a>>
+) -> Result<Report, CommandFault<'a>>
 where
     R::Reader: 'static,
 {
@@ -161,13 +165,13 @@ fn record_to<'a, R: Host, E: Errors>(
     errors: &E,
     run: Run<'_, '_>,
     file: R::File,
-) -> Result<Report, (Fault<'a>, Ending)>
+) -> Result<Report, (CommandFault<'a>, Ending)>
 where
     R::Reader: 'static,
 {
     match record(rt, errors, run, StdSink::make(file)) {
         Ok((report, _)) => Ok(report),
-        Err(error) => Err((Fault::of_run(&error), ending_of_run(&error))),
+        Err(error) => Err((CommandFault::of_run(&error), ending_of_run(&error))),
     }
 }
 
@@ -176,7 +180,7 @@ pub(crate) fn finish<'a, R: Files<File: Hold> + AllocGlobal>(
     rt: &R,
     files: RunFiles<'a, R::File>,
     report: Report,
-) -> Result<Report, Fault<'a>> {
+) -> Result<Report, CommandFault<'a>> {
     files.finish(rt, &report)?;
     Ok(report)
 }
@@ -188,7 +192,7 @@ fn tell<'a, R: AllocGlobal + Print, E: Eprint>(
     errors: &E,
     is_output: bool,
     report: &Report,
-) -> Result<(), Fault<'a>> {
+) -> Result<(), CommandFault<'a>> {
     let counts = Counts::of_report(report);
     if is_output {
         // Nothing else is lost where standard error takes no more.

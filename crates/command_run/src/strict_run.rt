@@ -4,7 +4,7 @@ use crate::judged_run::ErrorStream;
 use bench_check::{mistakes_in, print_mistakes};
 use command_judge::checking::print_name;
 use command_parts::options::{Row, flag};
-use command_parts::requests::{Fault, RunRequest};
+use command_parts::requests::{CommandFault, RunRequest};
 use command_parts::streams::flushed;
 use job_file::Job;
 use std::alloc::Global;
@@ -28,14 +28,14 @@ pub(crate) fn tell_mistakes<'a, E: Eprint>(
     request: &RunRequest<'a>,
     texts: &[Vec<u8>],
     jobs: &[Job],
-) -> Result<bool, Fault<'a>> {
+) -> Result<bool, CommandFault<'a>> {
     if !request.strict {
         return Ok(false);
     }
     match mistakes_told(alloc, errors, request, texts, jobs) {
         Ok(is_suspicious) => Ok(is_suspicious),
-        Err(WriteFault::Memory) => Err(Fault::Memory),
-        Err(WriteFault::Device) => Err(Fault::Device("-")),
+        Err(WriteFault::Memory) => Err(CommandFault::Memory),
+        Err(WriteFault::Device) => Err(CommandFault::Device("-")),
     }
 }
 

@@ -5,7 +5,7 @@ use bench_files::{Hold, Kind, leads_to_output};
 use clap::{ArgMatches, Command};
 use command_parts::options::{argument, command_of, force};
 use command_parts::replacing::may_write;
-use command_parts::requests::{Fault, read_whole, write_new};
+use command_parts::requests::{CommandFault, read_whole, write_new};
 use command_parts::streams::{Printable, on_stream, print_to_output};
 use std::alloc::{AllocError, Global};
 use std::io;
@@ -52,14 +52,14 @@ pub fn run<'a, R: Files<File: Hold> + AllocGlobal + Print, E: Eprint>(
     rt: &R,
     errors: &E,
     request: &Request<'a>,
-) -> Result<(), Fault<'a>> {
+) -> Result<(), CommandFault<'a>> {
     let (script, image, force) = (request.script, request.image, request.force);
     may_write(rt, image, Kind::Image, force, &[script])?;
     let text = read_whole(rt, script)?;
     let (bytes, sizes) = match assemble_text(rt.alloc(), text.as_slice()) {
         Ok(made) => made,
-        Err(AssembleFault::Memory) => return Err(Fault::Memory),
-        Err(fault) => return Err(Fault::Script(fault)),
+        Err(AssembleFault::Memory) => return Err(CommandFault::Memory),
+        Err(fault) => return Err(CommandFault::Script(fault)),
     };
     let is_output = leads_to_output(rt, image);
     write_new(rt, image, Kind::Image, force, bytes.as_slice())?;

@@ -3,7 +3,7 @@
 use bench_explain::{explain, print_explanation, print_list};
 use clap::{ArgMatches, Command};
 use command_parts::options::{arguments, command_of, words_in};
-use command_parts::requests::Fault;
+use command_parts::requests::CommandFault;
 use command_parts::streams::{Printable, on_stream, print_to_output};
 use std::alloc::{AllocError, Global};
 use std::io;
@@ -34,12 +34,15 @@ pub fn request_in<'a>(alloc: Global, given: &ArgMatches<'a>) -> Result<Request<'
 
 /// Prints what codes mean, or a line for each code where none is given. A word may have several codes, separated by
 /// spaces. An unknown code is refused, and nothing is printed.
-pub fn run<'a, R: AllocGlobal + Print>(rt: &R, request: &Request<'a>) -> Result<(), Fault<'a>> {
+pub fn run<'a, R: AllocGlobal + Print>(
+    rt: &R,
+    request: &Request<'a>,
+) -> Result<(), CommandFault<'a>> {
     let given = request.codes.as_slice();
     for word in given {
         for code in word.split(' ') {
             if !code.is_empty() && explain(code).is_none() {
-                return Err(Fault::Unknown(code));
+                return Err(CommandFault::Unknown(code));
             }
         }
     }

@@ -3,7 +3,7 @@
 use bench_one::{OneFault, one, print_bytes};
 use clap::{ArgMatches, Command};
 use command_parts::options::{argument, channel, command_of, version};
-use command_parts::requests::Fault;
+use command_parts::requests::CommandFault;
 use command_parts::streams::{Printable, on_stream, print_to_output};
 use std::alloc::{AllocError, Global};
 use std::io;
@@ -43,12 +43,15 @@ pub fn request_in<'a>(given: &ArgMatches<'a>) -> Request<'a> {
 }
 
 /// Runs a message on fresh terminals, and prints its packet.
-pub fn run<'a, R: AllocGlobal + Print>(rt: &R, request: &Request<'a>) -> Result<(), Fault<'a>> {
+pub fn run<'a, R: AllocGlobal + Print>(
+    rt: &R,
+    request: &Request<'a>,
+) -> Result<(), CommandFault<'a>> {
     let text = request.text.as_bytes();
     let bytes = match one(rt.alloc(), request.channel, request.version, text) {
         Ok(bytes) => bytes,
-        Err(OneFault::Memory) => return Err(Fault::Memory),
-        Err(fault) => return Err(Fault::Text(fault)),
+        Err(OneFault::Memory) => return Err(CommandFault::Memory),
+        Err(fault) => return Err(CommandFault::Text(fault)),
     };
     let packet = PacketBytes {
         bytes: bytes.as_slice(),

@@ -9,7 +9,9 @@ use clap::{ArgMatches, Command};
 use command_parts::context::Context;
 use command_parts::options::{argument, arguments, command_of, words_in};
 use command_parts::recordings::answer_of_reading;
-use command_parts::requests::{Fault, Listing, jobs_of, read_texts, read_whole, unless_gone};
+use command_parts::requests::{
+    CommandFault, Listing, jobs_of, read_texts, read_whole, unless_gone,
+};
 use command_parts::streams::on_stream;
 use job_file::Job;
 use std::alloc::{AllocError, Global};
@@ -81,7 +83,7 @@ pub fn run<'a, R: Files + AllocGlobal + Input<Reader: IsTerminal> + Print, E: Ep
     errors: &E,
     request: &Request<'a>,
     context: Context,
-) -> Result<(), Fault<'a>> {
+) -> Result<(), CommandFault<'a>> {
     let explains = context.is_shown_behind_replies(errors);
     let recording = read_whole(rt, request.recording)?;
     let report = read_whole(rt, request.report)?;
@@ -98,18 +100,22 @@ fn step_read<'a, R: AllocGlobal + Input<Reader: IsTerminal> + Print, E: Eprint +
     recording: &[u8],
     report: &[u8],
     texts: &[Vec<u8>],
-) -> Result<(), Fault<'a>> {
+) -> Result<(), CommandFault<'a>> {
     let report = judge_report(rt.alloc(), report)?;
     let jobs = jobs_of(rt.alloc(), texts)?;
     walk(rt, errors, explains, jobs, &report, recording)
 }
 
 /// A recording is judged before the report and the jobs are, by a pass that keeps nothing of it.
-fn judge_recording<'a>(alloc: Global, name: &'a str, recording: &[u8]) -> Result<(), Fault<'a>> {
+fn judge_recording<'a>(
+    alloc: Global,
+    name: &'a str,
+    recording: &[u8],
+) -> Result<(), CommandFault<'a>> {
     answer_of_reading(name, check(alloc, recording))
 }
 
-fn judge_report<'a>(alloc: Global, text: &[u8]) -> Result<Report, Fault<'a>> {
+fn judge_report<'a>(alloc: Global, text: &[u8]) -> Result<Report, CommandFault<'a>> {
     match read_report(alloc, text) {
         Ok(report) => Ok(report),
         Err(
@@ -117,8 +123,8 @@ fn judge_report<'a>(alloc: Global, text: &[u8]) -> Result<Report, Fault<'a>> {
                 fault: ReportFault::Memory,
                 ..
             },
-        ) => Err(Fault::Memory),
-        Err(fault) => Err(Fault::Report(fault)),
+        ) => Err(CommandFault::Memory),
+        Err(fault) => Err(CommandFault::Report(fault)),
     }
 }
 
@@ -129,12 +135,12 @@ fn walk<'a, R: AllocGlobal + Input<Reader: IsTerminal> + Print, E: Eprint + IsTe
     jobs: Vec<Job>,
     report: &Report,
     recording: &[u8],
-) -> Result<(), Fault<'a>> {
+) -> Result<(), CommandFault<'a>> {
     let lines = Prompted::begin(rt.reader(), errors);
     let manner = lines.manner();
     let mut input = match BufReader::new(rt.alloc(), lines) {
         Ok(input) => input,
-        Err(error) => return Err(Fault::of_stream("-", &error)),
+        Err(error) => return Err(CommandFault::of_stream("-", &error)),
     };
     let out = on_stream("-", BufWriter::new(rt.alloc(), io::writer(rt)))?;
     let mut out = Listing::ending(Explained::begin(out, errors, explains));
@@ -148,6 +154,6 @@ fn walk<'a, R: AllocGlobal + Input<Reader: IsTerminal> + Print, E: Eprint + IsTe
         &mut out,
     ) {
         Ok(()) => Ok(()),
-        Err(fault) => unless_gone(out.is_gone(), Err(Fault::of_step(&fault))),
+        Err(fault) => unless_gone(out.is_gone(), Err(CommandFault::of_step(&fault))),
     }
 }

@@ -9,7 +9,7 @@ use command_parts::extracting::extract_options;
 use command_parts::looking::{tell_of_unknown, tell_of_unread};
 use command_parts::options::command_of;
 use command_parts::recordings::{Recording, Source};
-use command_parts::requests::Fault;
+use command_parts::requests::CommandFault;
 use command_parts::selecting::selection_options;
 use command_parts::showing::{Showing, showing_options};
 use signal_dictionary::Signal;
@@ -65,7 +65,7 @@ pub fn run<'a, R: Files<File: Hold> + AllocGlobal + Clock, E: Eprint + IsTermina
     rt: &R,
     errors: &E,
     request: &Request<'a>,
-) -> Result<(), Fault<'a>> {
+) -> Result<(), CommandFault<'a>> {
     let (showing, name) = (&request.showing, request.showing.extract.recording);
     let signals = showing.judge(rt, Kind::Page)?;
     let selection = showing.selection(signals.as_slice())?;
@@ -117,7 +117,7 @@ fn make_page<'a, R: Files + AllocGlobal + Clock, E: Eprint + IsTerminal>(
     showing: &Showing<'a>,
     selection: Selection<'_>,
     signals: &[Signal],
-) -> Result<Made, Fault<'a>> {
+) -> Result<Made, CommandFault<'a>> {
     let alloc = recording.alloc();
     let known = showing.known(recording)?;
     let names = ChannelNames::of(known.front.as_slice());

@@ -10,8 +10,8 @@ use Rattle.frame_tree.specs.declared.names.Scope.{Empty, the_lemmas}
 use Rattle.frame_text.specs.Reading.{◌>>=◌, Failure, fails, Tokens, same_bytes, FailsReadingTokens, Breaks, IsOfText}
 use Rattle.frame_text.specs.Frames.{block_at, fresh_name_at, script_at, bounded}
 use Rattle.frame_text.specs.declared.faults.Cause.TheVariants as cause
-use Rattle.frame_text.specs.declared.faults.Fault.{Fault}
-use Rattle.frame_text.specs.declared.faults.Fault.TheVariants as fault
+use Rattle.frame_text.specs.declared.faults.TextFault.{TextFault}
+use Rattle.frame_text.specs.declared.faults.TextFault.TheVariants as fault
 use Rattle.frame_text.proofs.Scripts.{defines}
 
 pub no_names : scope_of Empty ≡ []
@@ -21,11 +21,11 @@ module _ (k : ℕ) (ds : Scope ℕ) (w : List ℕ) (text ts : Tokens) (is : text
   abbrev whole : Result ((List ℕ × Tree) × Tokens) Failure → Result Tree Failure
   whole r = r >>= (λ x. script_at (k - 1) ((x.0.0, depth_in ds x.0.1) ∷ ds) x.1 >>= (λ t. Ok (define x.0.0 x.0.1 t)))
 
-  pub name_fails : (R : Type 0) (f : Fault) → FailsReadingTokens f (fresh_name_at ds ts) → IsOfText f → Breaks R f (script_at k ds text)
+  pub name_fails : (R : Type 0) (f : TextFault) → FailsReadingTokens f (fresh_name_at ds ts) → IsOfText f → Breaks R f (script_at k ds text)
   name_fails R (fault.Text c left) e of_text = defines k ds w text ts is h some ∙ ap (λ r. whole (r >>= (λ n. block_at ds 17 n.1 >>= (λ b. Ok ((n.0, b.0), b.1))))) e
   name_fails R (fault.Memory left) e of_text = absurd of_text
 
-  pub body_fails : (R : Type 0) (f : Fault) (n : List ℕ) (us : Tokens) → fresh_name_at ds ts ≡ Ok (n, us) → Breaks R f (block_at ds 17 us) → Breaks R f (script_at k ds text)
+  pub body_fails : (R : Type 0) (f : TextFault) (n : List ℕ) (us : Tokens) → fresh_name_at ds ts ≡ Ok (n, us) → Breaks R f (block_at ds 17 us) → Breaks R f (script_at k ds text)
   body_fails R (fault.Text c left) n us g e =
       defines k ds w text ts is h some ∙ ap (λ r. whole (r >>= (λ n. block_at ds 17 n.1 >>= (λ b. Ok ((n.0, b.0), b.1))))) g ∙ ap (λ r. whole (r >>= (λ b. Ok ((n, b.0), b.1)))) e
   body_fails R (fault.Memory left) n us g e = e
@@ -35,7 +35,7 @@ module _ (k : ℕ) (ds : Scope ℕ) (w : List ℕ) (text ts : Tokens) (is : text
   rest_is n us vs b g e =
       defines k ds w text ts is h some ∙ ap (λ r. whole (r >>= (λ n. block_at ds 17 n.1 >>= (λ b. Ok ((n.0, b.0), b.1))))) g ∙ ap (λ r. whole (r >>= (λ b. Ok ((n, b.0), b.1)))) e
 
-  pub rest_fails : (R : Type 0) (f : Fault) (n : List ℕ) (us vs : Tokens) (b : Tree) (es : Scope ℕ) → fresh_name_at ds ts ≡ Ok (n, us) → block_at ds 17 us ≡ Ok (b, vs) → es ≡ (n, depth_in ds b) ∷ ds → Breaks R f (script_at (k - 1) es vs) → Breaks R f (script_at k ds text)
+  pub rest_fails : (R : Type 0) (f : TextFault) (n : List ℕ) (us vs : Tokens) (b : Tree) (es : Scope ℕ) → fresh_name_at ds ts ≡ Ok (n, us) → block_at ds 17 us ≡ Ok (b, vs) → es ≡ (n, depth_in ds b) ∷ ds → Breaks R f (script_at (k - 1) es vs) → Breaks R f (script_at k ds text)
   rest_fails R (fault.Text c left) n us vs b es g e s r = rest_is n us vs b g e ∙ ap (λ z. z >>= (λ t. Ok (define n b t))) (ap (λ z. script_at (k - 1) z vs) (sym s) ∙ r)
   rest_fails R (fault.Memory left) n us vs b es g e s r = r
 

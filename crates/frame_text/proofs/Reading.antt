@@ -3,7 +3,7 @@ use Rattle.std.proofs.Common.{◌≡◌, ℕ, zero, suc, ◌++◌, true, false, 
 use Rattle.std.proofs.lemmas.List.{append-nil}
 use Rattle.std.specs.Prelude.{codes}
 use Rattle.frame_text.specs.Reading.{Tokens, fails, TokenReading, ◌>>=◌, same_bytes, FailsReadingTokens, IsFault}
-use Rattle.frame_text.specs.declared.faults.Fault.{Fault}
+use Rattle.frame_text.specs.declared.faults.TextFault.{TextFault}
 use Rattle.numerals.specs.Numerals.{data_word_of}
 use Rattle.frame_text.specs.Words.{words_at, counted, spelled, unspelled}
 use Rattle.frame_text.specs.declared.faults.Cause.{Cause}
@@ -56,5 +56,5 @@ take_again (suc n) (x ∷ xs) ys = ap (λ z. x ∷ z) (take_again n xs ys)
 pub close_counted : (all items : List ℕ) (whole : TokenReading (List ℕ)) (ts : Tokens) → items ≡ take 33 all → whole ≡ Ok (all ++ [], ts) → counted whole ≡ Ok (items, ts)
 close_counted all items whole ts i e = ap counted e ∙ ap (λ xs. Ok (take 33 xs, ts)) (append-nil all) ∙ ap (λ xs. Ok (xs, ts)) (sym i)
 
-pub wrong_counted : (f : Fault) (c : Cause) (ts : Tokens) (whole : TokenReading (List ℕ)) → IsFault c ts f → whole ≡ fails c ts → FailsReadingTokens f (counted whole)
+pub wrong_counted : (f : TextFault) (c : Cause) (ts : Tokens) (whole : TokenReading (List ℕ)) → IsFault c ts f → whole ≡ fails c ts → FailsReadingTokens f (counted whole)
 wrong_counted f c ts whole h e = subst (λ g. FailsReadingTokens g (counted whole)) (sym h) (ap counted e)

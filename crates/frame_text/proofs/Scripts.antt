@@ -8,8 +8,8 @@ use Rattle.frame_text.specs.Reading.{◌>>=◌, Failure, fails, Tokens, TokenRea
 use Rattle.frame_text.specs.Frames.{Reader, frame_at, frames_at, inner_at, label_at, main_at, definition_at, script_at}
 use Rattle.frame_text.specs.declared.faults.Cause.{Cause}
 use Rattle.frame_text.specs.declared.faults.Cause.TheVariants as cause
-use Rattle.frame_text.specs.declared.faults.Fault.{Fault}
-use Rattle.frame_text.specs.declared.faults.Fault.TheVariants as fault
+use Rattle.frame_text.specs.declared.faults.TextFault.{TextFault}
+use Rattle.frame_text.specs.declared.faults.TextFault.TheVariants as fault
 
 pub inner_some : (ds : Scope ℕ) (d : ℕ) → d ≢ 0 → inner_at ds d ≡ Ok (λ ts. frames_at (frame_at ds (d - 1)) (length ts) ts)
 unfolding inner_at
@@ -86,14 +86,14 @@ frames_fail frame zero w text ts fs c whole is h b r e = absurd (omega (arith, h
 frames_fail frame (suc n) w text ts fs c whole is h b r e =
     e ∙ ap (onto fs) (frames_on frame n w text ts is b ∙ ap (λ z. z >>= (λ x. frames_at frame n x.1 >>= (λ y. Ok (chained x.0 y.0, y.1)))) r)
 
-pub frames_refused : (R : Type 0) (f : Fault) (frame : Reader) (n : ℕ) (w : List ℕ) (text ts : Tokens) (fs : List Tree) (whole : TokenReading Tree) → text ≡ w ∷ ts → length text ≤ n → same_bytes w (codes "}") ≡ false → Breaks R f (frame text) → whole ≡ onto fs (frames_at frame n text) → Breaks R f whole
+pub frames_refused : (R : Type 0) (f : TextFault) (frame : Reader) (n : ℕ) (w : List ℕ) (text ts : Tokens) (fs : List Tree) (whole : TokenReading Tree) → text ≡ w ∷ ts → length text ≤ n → same_bytes w (codes "}") ≡ false → Breaks R f (frame text) → whole ≡ onto fs (frames_at frame n text) → Breaks R f whole
 frames_refused R (fault.Text c left) frame n w text ts fs whole is h b r e = frames_fail frame n w text ts fs (c, left) whole is h b r e
 frames_refused R (fault.Memory left) frame n w text ts fs whole is h b r e = r
 
-pub fails_with : (f : Fault) (c : Cause) (ts : Tokens) {Y : Type 0} (read : Result Y Failure) → IsFault c ts f → read ≡ fails c ts → FailsReadingTokens f read
+pub fails_with : (f : TextFault) (c : Cause) (ts : Tokens) {Y : Type 0} (read : Result Y Failure) → IsFault c ts f → read ≡ fails c ts → FailsReadingTokens f read
 fails_with f c ts read h e = subst (λ g. FailsReadingTokens g read) (sym h) e
 
-pub breaks_with : (R : Type 0) (f : Fault) (c : Cause) (ts : Tokens) {Y : Type 0} (read : Result Y Failure) → IsFault c ts f → read ≡ fails c ts → Breaks R f read
+pub breaks_with : (R : Type 0) (f : TextFault) (c : Cause) (ts : Tokens) {Y : Type 0} (read : Result Y Failure) → IsFault c ts f → read ≡ fails c ts → Breaks R f read
 breaks_with R f c ts read h e = subst (λ g. Breaks R g read) (sym h) e
 
 abbrev pub onto_script : List Tree → Result Tree Failure → Result Tree Failure
@@ -132,7 +132,7 @@ main_fail : (ds : Scope ℕ) (n : ℕ) (w : List ℕ) (text ts : Tokens) (fs : L
 main_fail ds zero w text ts fs c whole is h r e = absurd (omega (arith, h, ap length is))
 main_fail ds (suc n) w text ts fs c whole is h r e = e ∙ ap (onto_script fs) (main_on ds n w text ts is ∙ ap (λ z. z >>= (λ x. main_at ds n x.1 >>= (λ y. Ok (chained x.0 y)))) r)
 
-pub main_refused : (R : Type 0) (f : Fault) (ds : Scope ℕ) (n : ℕ) (w : List ℕ) (text ts : Tokens) (fs : List Tree) (whole : Result Tree Failure) → text ≡ w ∷ ts → length text ≤ n → Breaks R f (frame_at ds 16 text) → whole ≡ onto_script fs (main_at ds n text) → Breaks R f whole
+pub main_refused : (R : Type 0) (f : TextFault) (ds : Scope ℕ) (n : ℕ) (w : List ℕ) (text ts : Tokens) (fs : List Tree) (whole : Result Tree Failure) → text ≡ w ∷ ts → length text ≤ n → Breaks R f (frame_at ds 16 text) → whole ≡ onto_script fs (main_at ds n text) → Breaks R f whole
 main_refused R (fault.Text c left) ds n w text ts fs whole is h r e = main_fail ds n w text ts fs (c, left) whole is h r e
 main_refused R (fault.Memory left) ds n w text ts fs whole is h r e = r
 

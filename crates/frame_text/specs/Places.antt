@@ -7,8 +7,8 @@ use Rattle.frame_text.specs.Reading.{Failure}
 use Rattle.frame_text.specs.declared.faults.Cause.{Cause}
 use Rattle.frame_text.specs.declared.faults.Cause.TheVariants as cause
 use Rattle.frame_text.specs.declared.faults.Place.{Place}
-use Rattle.frame_text.specs.declared.faults.Fault.{Fault}
-use Rattle.frame_text.specs.declared.faults.Fault.TheVariants as fault
+use Rattle.frame_text.specs.declared.faults.TextFault.{TextFault}
+use Rattle.frame_text.specs.declared.faults.TextFault.TheVariants as fault
 use Rattle.frame_text.specs.declared.faults.ScriptError.{ScriptError}
 use Rattle.frame_text.specs.declared.faults.ScriptError.TheVariants as error
 
@@ -44,7 +44,7 @@ TellsFault text read (error.Text c place) = placed text read ≡ Err (c, place)
 TellsFault text read (error.Memory place) = Unit {0}
 
 -- a fault of the text is told with its place
-abbrev pub HasPlaceOfFault : List ℕ → Fault → ScriptError → Type 0
+abbrev pub HasPlaceOfFault : List ℕ → TextFault → ScriptError → Type 0
 HasPlaceOfFault text (fault.Text c left) (error.Text d place) = place ≡ fault_place text c left
 HasPlaceOfFault text (fault.Memory left) (error.Memory place) = Unit {0}
 HasPlaceOfFault text _ _ = ⊥

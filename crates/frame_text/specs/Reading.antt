@@ -4,8 +4,8 @@ use Rattle.std.specs.Prelude.{Result, Ok, Err, codes}
 use Rattle.frame_text.specs.Tokens.{in_word, tokens}
 use Rattle.frame_text.specs.declared.faults.Cause.{Cause}
 use Rattle.frame_text.specs.declared.faults.Cause.TheVariants as cause
-use Rattle.frame_text.specs.declared.faults.Fault.{Fault}
-use Rattle.frame_text.specs.declared.faults.Fault.TheVariants as fault
+use Rattle.frame_text.specs.declared.faults.TextFault.{TextFault}
+use Rattle.frame_text.specs.declared.faults.TextFault.TheVariants as fault
 use Rattle.frame_text.specs.declared.faults.ScriptError.{ScriptError}
 use Rattle.frame_text.specs.declared.faults.ScriptError.TheVariants as error
 pub use Rattle.frame_tree.specs.Names.{same_bytes}
@@ -41,26 +41,26 @@ abbrev pub ◌>>=◌ : {X Y : Type 0} → Result X Failure → (X → Result Y F
 (Err e) >>= f = Err e
 
 -- a fault of the text is the one that reading comes to; want of memory says nothing
-abbrev pub FailsReadingTokens : {Y : Type 0} → Fault → Result Y Failure → Type 0
+abbrev pub FailsReadingTokens : {Y : Type 0} → TextFault → Result Y Failure → Type 0
 FailsReadingTokens (fault.Text c left) read = read ≡ Err (c, left)
 FailsReadingTokens (fault.Memory left) read = Unit {0}
 
 -- what a call answered is what reading comes to, but for want of memory
-abbrev pub ReadsTokens : {X Y : Type 0} → (X → Y) → Result X Fault → Result Y Failure → Type 0
+abbrev pub ReadsTokens : {X Y : Type 0} → (X → Y) → Result X TextFault → Result Y Failure → Type 0
 ReadsTokens view (Ok x) read = read ≡ Ok (view x)
 ReadsTokens view (Err e) read = FailsReadingTokens e read
 
 -- the same where this is known when memory was refused
-abbrev pub Breaks : {Y : Type 0} → Type 0 → Fault → Result Y Failure → Type 0
+abbrev pub Breaks : {Y : Type 0} → Type 0 → TextFault → Result Y Failure → Type 0
 Breaks refused (fault.Text c left) read = read ≡ Err (c, left)
 Breaks refused (fault.Memory left) read = refused
 
-abbrev pub ReadsTokensInMemory : {X Y : Type 0} → Type 0 → (X → Y) → Result X Fault → Result Y Failure → Type 0
+abbrev pub ReadsTokensInMemory : {X Y : Type 0} → Type 0 → (X → Y) → Result X TextFault → Result Y Failure → Type 0
 ReadsTokensInMemory refused view (Ok x) read = read ≡ Ok (view x)
 ReadsTokensInMemory refused view (Err e) read = Breaks refused e read
 
 -- what a call made of a text is what reading its tokens comes to, and fewer of them are left
-abbrev pub Makes : {X Y : Type 0} → Type 0 → (X → Y × Tokens) → (Tokens → TokenReading Y) → List ℕ → Result X Fault
+abbrev pub Makes : {X Y : Type 0} → Type 0 → (X → Y × Tokens) → (Tokens → TokenReading Y) → List ℕ → Result X TextFault
     → Type 0
 Makes refused view reader text (Ok x) =
     (reader (tokens text) ≡ Ok (view x)) × (length (view x).1 < length (tokens text))
@@ -105,11 +105,11 @@ to_the_end (x, []) = Ok x
 to_the_end (x, (w ∷ ts)) = fails (misplaced w) (w ∷ ts)
 
 -- the fault with this cause at the first of these tokens, at the end where there are none
-abbrev pub IsFault : Cause → Tokens → Fault → Type 0
+abbrev pub IsFault : Cause → Tokens → TextFault → Type 0
 IsFault c ts f = f ≡ fault.Text c (length ts)
 
 -- a fault of the text, and not want of memory
-abbrev pub IsOfText : Fault → Type 0
+abbrev pub IsOfText : TextFault → Type 0
 IsOfText (fault.Text c left) = Unit {0}
 IsOfText (fault.Memory left) = ⊥
 
@@ -118,7 +118,7 @@ IsTextError (error.Text c place) = Unit {0}
 IsTextError (error.Memory place) = ⊥
 
 -- the same fault, with its place
-abbrev pub IsLocated : Fault → ScriptError → Type 0
+abbrev pub IsLocated : TextFault → ScriptError → Type 0
 IsLocated (fault.Text c left) (error.Text d place) = d ≡ c
 IsLocated (fault.Memory left) (error.Memory place) = Unit {0}
 IsLocated _ _ = ⊥

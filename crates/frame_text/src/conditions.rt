@@ -6,7 +6,7 @@ ghost use Rattle.frame_text.specs.Tokens.{tokens};
 ghost use Rattle.std.specs.Prelude.{◌<◌, length, IfOk, IfErr};
 
 use crate::builder::Builder;
-use crate::faults::{Cause, Fault};
+use crate::faults::{Cause, TextFault};
 use crate::keywords::{ConditionWord, condition_word, misplaced};
 use crate::memory::or_refused;
 use crate::tokens::{after_token, fault, next};
@@ -15,7 +15,7 @@ use mil_status::StatusBit;
 
 // The status bit of a name.
 #[tactic(auto, unfolding(crate::specs::Conditions::name_at))]
-fn name(text: &[u8]) -> Result<(StatusBit, &[u8]), Fault>
+fn name(text: &[u8]) -> Result<(StatusBit, &[u8]), TextFault>
     ensures tree { ReadsTokens (λ x. (x.0, tokens x.1.now)) result (name_at (tokens text.now)) }
     ensures fewer { IfOk result (λ x. length (tokens x.1.now) < length (tokens text.now)) }
     ensures of_text { IfErr result (λ e. IsOfText e) }
@@ -31,7 +31,7 @@ fn name(text: &[u8]) -> Result<(StatusBit, &[u8]), Fault>
 
 // How many operators may stand above a test within an operator, which is the first token of the text.
 #[tactic(auto, using(crate::proofs::Below::below_some, crate::proofs::Below::below_none))]
-fn within(depth: u8, text: &[u8]) -> Result<u8, Fault>
+fn within(depth: u8, text: &[u8]) -> Result<u8, TextFault>
     ensures tree { ReadsTokens (λ d. condition_at d) result (at_first (tokens text.now) (below_at depth)) }
     ensures fewer { IfOk result (λ d. d < depth) }
     ensures of_text { IfErr result (λ e. IsOfText e) }
@@ -49,7 +49,7 @@ fn pair<'a, B: Builder>(
     builder: &B,
     text: &'a [u8],
     depth: u8,
-) -> Result<(B::Cond, B::Cond, &'a [u8]), Fault>
+) -> Result<(B::Cond, B::Cond, &'a [u8]), TextFault>
     ensures tree { ReadsTokensInMemory B.refused (λ x. ((B.condition x.0, B.condition x.1), tokens x.2.now)) result
         (pair_at (condition_at depth) (tokens text.now)) }
     ensures fewer { IfOk result (λ x. length (tokens x.2.now) < length (tokens text.now)) }
@@ -68,7 +68,7 @@ pub fn condition<'a, B: Builder>(
     builder: &B,
     text: &'a [u8],
     depth: u8,
-) -> Result<(B::Cond, &'a [u8]), Fault>
+) -> Result<(B::Cond, &'a [u8]), TextFault>
     ensures tree { ReadsTokensInMemory B.refused (λ x. (B.condition x.0, tokens x.1.now)) result
         (condition_at depth (tokens text.now)) }
     ensures fewer { IfOk result (λ x. length (tokens x.1.now) < length (tokens text.now)) }

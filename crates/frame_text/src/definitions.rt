@@ -7,7 +7,7 @@ ghost use Rattle.frame_tree.specs.Scopes.{scope_of};
 ghost use Rattle.std.specs.Prelude.{length, IfOk, IfErr};
 
 use crate::builder::Builder;
-use crate::faults::{Cause, Fault};
+use crate::faults::{Cause, TextFault};
 use crate::frames::{Around, block, frame, label};
 use crate::keywords::is;
 use crate::memory::or_refused;
@@ -15,7 +15,7 @@ use crate::tokens::{fault, next};
 use frame_tree::{Name, Scope};
 
 // A name that is not in scope yet.
-fn fresh_name<'a>(text: &'a [u8], scope: &Scope<'_>) -> Result<(Name, &'a [u8]), Fault>
+fn fresh_name<'a>(text: &'a [u8], scope: &Scope<'_>) -> Result<(Name, &'a [u8]), TextFault>
     ensures tree { ReadsTokens (λ x. (x.0, tokens x.1.now)) result
         (fresh_name_at (scope_of scope.now) (tokens text.now)) }
     ensures of_text { IfErr result (λ e. IsOfText e) }
@@ -33,7 +33,7 @@ fn main<B: Builder>(
     text: &[u8],
     scope: &Scope<'_>,
     costs: &Scope<'_>,
-) -> Result<B::Frame, Fault>
+) -> Result<B::Frame, TextFault>
     ensures tree { ReadsTokensInMemory B.refused B.tree result
         (main_at (scope_of scope.now) (length (tokens text.now)) (tokens text.now)) }
     ensures fits { IfOk result (λ f. B.fits (scope_of scope.now) (scope_of costs.now) f) }
@@ -64,7 +64,7 @@ pub fn script<'s, B: Builder>(
     scope: &'s Scope<'s>,
     costs: &'s Scope<'s>,
     left: u8,
-) -> Result<B::Frame, Fault>
+) -> Result<B::Frame, TextFault>
     ensures tree { ReadsTokensInMemory B.refused B.tree result (script_at left (scope_of scope.now) (tokens text.now)) }
     ensures fits { IfOk result (λ f. B.fits (scope_of scope.now) (scope_of costs.now) f) }
 {

@@ -49,7 +49,7 @@ pub enum ScriptError {
 
 /// A fault of a text that is being read.
 #[derive(Clone, Copy, Debug, PartialEq, Eq)]
-pub enum Fault {
+pub enum TextFault {
     /// What is wrong, and how many tokens are left from its place on, none at the end of the text.
     Text(Cause, usize),
     /// Memory was refused when this many bytes behind the token were left.

@@ -11,7 +11,7 @@ ghost use Rattle.std.specs.Prelude.{◌≡◌, ◌<◌, ◌≤◌, ℕ, length, 
 
 use crate::builder::Builder;
 use crate::conditions::condition;
-use crate::faults::{Cause, Fault};
+use crate::faults::{Cause, TextFault};
 use crate::keywords::{FrameWord, frame_word, is, misplaced};
 use crate::memory::or_refused;
 use crate::messages::send;
@@ -46,7 +46,7 @@ fn no_frames<'a, B: Builder>(builder: &B, rest: &'a [u8]) -> Read<'a, B::Frame>
 
 // How many blocks may stand in a block, whose opening brace is the first token of the text.
 #[tactic(auto, using(crate::proofs::Scripts::inner_some, crate::proofs::Scripts::inner_none))]
-fn within(scope: &Scope<'_>, depth: u8, text: &[u8]) -> Result<u8, Fault>
+fn within(scope: &Scope<'_>, depth: u8, text: &[u8]) -> Result<u8, TextFault>
     ensures tree { ReadsTokens (λ d. λ ts. frames_at (frame_at (scope_of scope.now) d) (length ts) ts) result
         (at_first (tokens text.now) (inner_at (scope_of scope.now) depth)) }
     ensures fewer { IfOk result (λ d. d < depth) }
@@ -133,7 +133,7 @@ fn retry<'a, B: Builder>(builder: &B, text: &'a [u8]) -> Read<'a, B::Frame>
 
 /// The name of a definition.
 #[tactic(auto, unfolding(crate::specs::Frames::label_at))]
-pub fn label(text: &[u8]) -> Result<(Name, &[u8]), Fault>
+pub fn label(text: &[u8]) -> Result<(Name, &[u8]), TextFault>
     ensures tree { ReadsTokens (λ x. (x.0, tokens x.1.now)) result (label_at (tokens text.now)) }
     ensures fewer { IfOk result (λ x. length (tokens x.1.now) < length (tokens text.now)) }
     ensures of_text { IfErr result (λ e. IsOfText e) }

@@ -6,7 +6,7 @@ macro_rules! or_refused {
     ($call:expr, $rest:expr) => {
         match $call {
             Ok(value) => value,
-            Err(_) => return Err(Fault::Memory($rest.len())),
+            Err(_) => return Err(TextFault::Memory($rest.len())),
         }
     };
 }

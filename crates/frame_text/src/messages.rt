@@ -6,7 +6,7 @@ ghost use Rattle.frame_text.specs.Tokens.{tokens};
 ghost use Rattle.mil_message.specs.Request.{request_of};
 ghost use Rattle.std.specs.Prelude.{◌≡◌, ◌<◌, length, IfOk, IfErr};
 
-use crate::faults::{Cause, Fault};
+use crate::faults::{Cause, TextFault};
 use crate::keywords::{MessageWord, is, message_word, misplaced};
 use crate::tokens::{fault, next};
 use crate::words::{bracketed, number, optional};
@@ -14,7 +14,7 @@ use mil_message::{Draft, Message, ModeSubaddress};
 use mil_word::Line;
 
 #[tactic(auto, unfolding(crate::specs::Messages::line_at))]
-fn line(text: &[u8]) -> Result<(Line, &[u8]), Fault>
+fn line(text: &[u8]) -> Result<(Line, &[u8]), TextFault>
     ensures tree { ReadsTokens (λ x. (x.0, tokens x.1.now)) result (reads.line_at (tokens text.now)) }
     ensures fewer { IfOk result (λ x. length (tokens x.1.now) < length (tokens text.now)) }
     ensures of_text { IfErr result (λ e. IsOfText e) }
@@ -32,7 +32,7 @@ fn line(text: &[u8]) -> Result<(Line, &[u8]), Fault>
 }
 
 // The message that a draft asks for; `text` begins with its first word, and `rest` comes after it.
-fn made<'a>(draft: Draft<'_>, text: &[u8], rest: &'a [u8]) -> Result<(Message, &'a [u8]), Fault>
+fn made<'a>(draft: Draft<'_>, text: &[u8], rest: &'a [u8]) -> Result<(Message, &'a [u8]), TextFault>
     ensures tree { ReadsTokens (λ x. (x.0, tokens x.1.now)) result
         (reads.made (tokens text.now) (request_of draft.entry) (tokens rest.now)) }
     ensures rest { IfOk result (λ x. x.1.now ≡ rest.now) }
@@ -45,7 +45,7 @@ fn made<'a>(draft: Draft<'_>, text: &[u8], rest: &'a [u8]) -> Result<(Message, &
 }
 
 #[tactic(auto, unfolding(crate::specs::Messages::receive_at))]
-fn receive<'a>(text: &[u8], rest: &'a [u8]) -> Result<(Message, &'a [u8]), Fault>
+fn receive<'a>(text: &[u8], rest: &'a [u8]) -> Result<(Message, &'a [u8]), TextFault>
     ensures tree { ReadsTokens (λ x. (x.0, tokens x.1.now)) result
         (reads.receive_at (tokens text.now) (tokens rest.now)) }
     ensures fewer { IfOk result (λ x. length (tokens x.1.now) < length (tokens rest.now)) }
@@ -66,7 +66,7 @@ fn receive<'a>(text: &[u8], rest: &'a [u8]) -> Result<(Message, &'a [u8]), Fault
 }
 
 #[tactic(auto, unfolding(crate::specs::Messages::transmit_at))]
-fn transmit<'a>(text: &[u8], rest: &'a [u8]) -> Result<(Message, &'a [u8]), Fault>
+fn transmit<'a>(text: &[u8], rest: &'a [u8]) -> Result<(Message, &'a [u8]), TextFault>
     ensures tree { ReadsTokens (λ x. (x.0, tokens x.1.now)) result
         (reads.transmit_at (tokens text.now) (tokens rest.now)) }
     ensures fewer { IfOk result (λ x. length (tokens x.1.now) < length (tokens rest.now)) }
@@ -87,7 +87,7 @@ fn transmit<'a>(text: &[u8], rest: &'a [u8]) -> Result<(Message, &'a [u8]), Faul
 }
 
 #[tactic(auto, unfolding(crate::specs::Messages::transfer_at))]
-fn transfer<'a>(text: &[u8], rest: &'a [u8]) -> Result<(Message, &'a [u8]), Fault>
+fn transfer<'a>(text: &[u8], rest: &'a [u8]) -> Result<(Message, &'a [u8]), TextFault>
     ensures tree { ReadsTokens (λ x. (x.0, tokens x.1.now)) result
         (reads.transfer_at (tokens text.now) (tokens rest.now)) }
     ensures fewer { IfOk result (λ x. length (tokens x.1.now) < length (tokens rest.now)) }
@@ -116,7 +116,7 @@ fn mode<'a>(
     text: &[u8],
     rest: &'a [u8],
     subaddress: ModeSubaddress,
-) -> Result<(Message, &'a [u8]), Fault>
+) -> Result<(Message, &'a [u8]), TextFault>
     ensures tree { ReadsTokens (λ x. (x.0, tokens x.1.now)) result
         (reads.mode_at subaddress (tokens text.now) (tokens rest.now)) }
     ensures fewer { IfOk result (λ x. length (tokens x.1.now) < length (tokens rest.now)) }
@@ -134,7 +134,7 @@ fn mode<'a>(
 }
 
 #[tactic(auto, unfolding(crate::specs::Messages::receive_all_at))]
-fn receive_all<'a>(text: &[u8], rest: &'a [u8]) -> Result<(Message, &'a [u8]), Fault>
+fn receive_all<'a>(text: &[u8], rest: &'a [u8]) -> Result<(Message, &'a [u8]), TextFault>
     ensures tree { ReadsTokens (λ x. (x.0, tokens x.1.now)) result
         (reads.receive_all_at (tokens text.now) (tokens rest.now)) }
     ensures fewer { IfOk result (λ x. length (tokens x.1.now) < length (tokens rest.now)) }
@@ -153,7 +153,7 @@ fn receive_all<'a>(text: &[u8], rest: &'a [u8]) -> Result<(Message, &'a [u8]), F
 }
 
 #[tactic(auto, unfolding(crate::specs::Messages::transfer_all_at))]
-fn transfer_all<'a>(text: &[u8], rest: &'a [u8]) -> Result<(Message, &'a [u8]), Fault>
+fn transfer_all<'a>(text: &[u8], rest: &'a [u8]) -> Result<(Message, &'a [u8]), TextFault>
     ensures tree { ReadsTokens (λ x. (x.0, tokens x.1.now)) result
         (reads.transfer_all_at (tokens text.now) (tokens rest.now)) }
     ensures fewer { IfOk result (λ x. length (tokens x.1.now) < length (tokens rest.now)) }
@@ -180,7 +180,7 @@ fn mode_all<'a>(
     text: &[u8],
     rest: &'a [u8],
     subaddress: ModeSubaddress,
-) -> Result<(Message, &'a [u8]), Fault>
+) -> Result<(Message, &'a [u8]), TextFault>
     ensures tree { ReadsTokens (λ x. (x.0, tokens x.1.now)) result
         (reads.mode_all_at subaddress (tokens text.now) (tokens rest.now)) }
     ensures fewer { IfOk result (λ x. length (tokens x.1.now) < length (tokens rest.now)) }
@@ -197,7 +197,7 @@ fn mode_all<'a>(
 }
 
 #[tactic(auto, unfolding(crate::specs::Messages::message_at, crate::specs::Messages::message_of))]
-fn message(text: &[u8]) -> Result<(Message, &[u8]), Fault>
+fn message(text: &[u8]) -> Result<(Message, &[u8]), TextFault>
     ensures tree { ReadsTokens (λ x. (x.0, tokens x.1.now)) result (reads.message_at (tokens text.now)) }
     ensures fewer { IfOk result (λ x. length (tokens x.1.now) < length (tokens text.now)) }
     ensures of_text { IfErr result (λ e. IsOfText e) }
@@ -221,7 +221,7 @@ fn message(text: &[u8]) -> Result<(Message, &[u8]), Fault>
 
 /// A line and a message.
 #[tactic(auto, unfolding(crate::specs::Messages::send_at))]
-pub fn send(text: &[u8]) -> Result<(Line, Message, &[u8]), Fault>
+pub fn send(text: &[u8]) -> Result<(Line, Message, &[u8]), TextFault>
     ensures tree { ReadsTokens (λ x. ((x.0, x.1), tokens x.2.now)) result (reads.send_at (tokens text.now)) }
     ensures fewer { IfOk result (λ x. length (tokens x.2.now) < length (tokens text.now)) }
     ensures of_text { IfErr result (λ e. IsOfText e) }

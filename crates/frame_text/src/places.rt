@@ -4,7 +4,7 @@ ghost use Rattle.frame_text.specs.Places.{place_behind, token_place, fault_place
 ghost use Rattle.frame_text.specs.Reading.{IsLocated, IsOfText, IsTextError};
 ghost use Rattle.std.specs.Prelude.{◌≡◌, ◌++◌, ◌-◌, List, ℕ, length, take};
 
-use crate::faults::{Cause, Fault, Place, ScriptError};
+use crate::faults::{Cause, Place, ScriptError, TextFault};
 use crate::keywords::is_word_byte;
 use crate::tokens::last;
 
@@ -73,18 +73,18 @@ fn place_of_fault(text: &[u8], cause: Cause, left: usize) -> Place
 }
 
 /// A fault with its place in the whole text.
-pub fn located(text: &[u8], fault: Fault) -> ScriptError
+pub fn located(text: &[u8], fault: TextFault) -> ScriptError
     ensures same { IsLocated fault result }
     ensures of_text { IsOfText fault → IsTextError result }
     ensures place { HasPlaceOfFault text.now fault result }
     ensures inside { StandsIn text.now result }
 {
     match fault {
-        Fault::Text(cause, left) => ScriptError::Text {
+        TextFault::Text(cause, left) => ScriptError::Text {
             cause,
             place: place_of_fault(text, cause, left),
         },
-        Fault::Memory(left) => ScriptError::Memory {
+        TextFault::Memory(left) => ScriptError::Memory {
             place: place_after(before_last_token(without_last(text, left))),
         },
     }

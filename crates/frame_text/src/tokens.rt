@@ -5,11 +5,11 @@ ghost use Rattle.frame_text.specs.Starts.{from_token, behind_token, last_tokens}
 ghost use Rattle.frame_text.specs.Tokens.{is_blank, tokens, BeginsToken};
 ghost use Rattle.std.specs.Prelude.{◌≡◌, ◌<◌, ◌≤◌, [], ◌∷◌, false, drop, length, MatchOption, IfSome, IfOk, IfErr};
 
-use crate::faults::{Cause, Fault};
+use crate::faults::{Cause, TextFault};
 use crate::keywords::{is, is_word_byte, misplaced};
 
 /// What was read, and what comes after it.
-pub type Read<'a, T> = Result<(T, &'a [u8]), Fault>;
+pub type Read<'a, T> = Result<(T, &'a [u8]), TextFault>;
 
 fn is_blank_byte(b: u8) -> bool
     ensures { result ≡ is_blank b }
@@ -106,16 +106,16 @@ pub fn last(text: &[u8], left: usize) -> &[u8]
 }
 
 /// The fault at the first token of what is left of the text, or at its end.
-pub fn fault(cause: Cause, text: &[u8]) -> Fault
+pub fn fault(cause: Cause, text: &[u8]) -> TextFault
     ensures is { IsFault cause (tokens text.now) result }
     ensures of_text { IsOfText result }
 {
-    Fault::Text(cause, count(text))
+    TextFault::Text(cause, count(text))
 }
 
 /// What comes after a token that has to stand here.
 #[tactic(auto, unfolding(crate::specs::Reading::past))]
-pub fn after_token<'a>(text: &'a [u8], expected: &[u8]) -> Result<&'a [u8], Fault>
+pub fn after_token<'a>(text: &'a [u8], expected: &[u8]) -> Result<&'a [u8], TextFault>
     ensures tree { ReadsTokens (λ x. tokens x.now) result (past expected.now (tokens text.now)) }
     ensures fewer { IfOk result (λ x. length (tokens x.now) < length (tokens text.now)) }
     ensures of_text { IfErr result (λ e. IsOfText e) }

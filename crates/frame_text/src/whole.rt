@@ -13,7 +13,7 @@ ghost use Rattle.std.specs.Prelude.{IfOk, IfErr};
 
 use crate::boxes::Boxes;
 use crate::builder::Builder;
-use crate::faults::{Cause, Fault, ScriptError};
+use crate::faults::{Cause, ScriptError, TextFault};
 use crate::keywords::misplaced;
 use crate::places::located;
 use crate::tokens::{fault, next};
@@ -25,7 +25,7 @@ use mil_word::Line;
 use std::alloc::Allocator;
 
 // The frame of a script, with at most 1,000,000 messages at worst.
-fn script<B: Builder>(builder: &B, text: &[u8]) -> Result<B::Frame, Fault>
+fn script<B: Builder>(builder: &B, text: &[u8]) -> Result<B::Frame, TextFault>
     ensures tree { ReadsTokensInMemory B.refused B.tree result (whole_script text.now) }
     ensures sound { IfOk result (λ f. IsSound (B.tree f)) }
     ensures script { IfOk result (λ f. IsScript (B.tree f)) }
@@ -39,7 +39,7 @@ fn script<B: Builder>(builder: &B, text: &[u8]) -> Result<B::Frame, Fault>
 
 // The line and the message of a whole text.
 #[tactic(auto, unfolding(crate::specs::Reading::to_the_end))]
-fn send(text: &[u8]) -> Result<(Line, Message), Fault>
+fn send(text: &[u8]) -> Result<(Line, Message), TextFault>
     ensures tree { ReadsTokens (λ x. x) result (whole_send text.now) }
     ensures of_text { IfErr result (λ e. IsOfText e) }
 {
@@ -52,7 +52,7 @@ fn send(text: &[u8]) -> Result<(Line, Message), Fault>
 
 // The condition of a whole text.
 #[tactic(auto, unfolding(crate::specs::Reading::to_the_end))]
-fn condition<B: Builder>(builder: &B, text: &[u8]) -> Result<B::Cond, Fault>
+fn condition<B: Builder>(builder: &B, text: &[u8]) -> Result<B::Cond, TextFault>
     ensures { ReadsTokensInMemory B.refused B.condition result (whole_condition text.now) }
 {
     let (condition, rest) = conditions::condition(builder, text, 16)?;
@@ -65,11 +65,11 @@ fn condition<B: Builder>(builder: &B, text: &[u8]) -> Result<B::Cond, Fault>
 // The fault of a script. Where memory was refused the text is read once more, without memory, so that a fault of the
 // text comes before want of memory.
 #[tactic(auto, using(crate::proofs::Refusing::read_again, crate::proofs::Refusing::sure))]
-fn script_fault(text: &[u8], fault: Fault) -> Fault
+fn script_fault(text: &[u8], fault: TextFault) -> TextFault
     requires { FailsReadingTokens fault (whole_script text.now) }
     ensures { Breaks (HasNoFault (whole_script text.now)) result (whole_script text.now) }
 {
-    if let Fault::Text(..) = fault {
+    if let TextFault::Text(..) = fault {
         return fault;
     }
     match script(&Weigher, text) {
@@ -80,11 +80,11 @@ fn script_fault(text: &[u8], fault: Fault) -> Fault
 
 // The same of a condition.
 #[tactic(auto, using(crate::proofs::Refusing::read_again, crate::proofs::Refusing::sure))]
-fn condition_fault(text: &[u8], fault: Fault) -> Fault
+fn condition_fault(text: &[u8], fault: TextFault) -> TextFault
     requires { FailsReadingTokens fault (whole_condition text.now) }
     ensures { Breaks (HasNoFault (whole_condition text.now)) result (whole_condition text.now) }
 {
-    if let Fault::Text(..) = fault {
+    if let TextFault::Text(..) = fault {
         return fault;
     }
     match condition(&Weigher, text) {
@@ -95,7 +95,7 @@ fn condition_fault(text: &[u8], fault: Fault) -> Fault
 
 // The frame of a script in memory, or its first fault.
 #[tactic(auto, using(crate::proofs::Refusing::unsure))]
-fn first_script<A: Allocator + Clone>(alloc: A, text: &[u8]) -> Result<Frame<A>, Fault>
+fn first_script<A: Allocator + Clone>(alloc: A, text: &[u8]) -> Result<Frame<A>, TextFault>
     ensures tree { ReadsTokensInMemory (HasNoFault (whole_script text.now)) tree_of result (whole_script text.now) }
     ensures sound { IfOk result (λ f. IsSound (tree_of f)) }
     ensures script { IfOk result (λ f. IsScript (tree_of f)) }
@@ -108,7 +108,7 @@ fn first_script<A: Allocator + Clone>(alloc: A, text: &[u8]) -> Result<Frame<A>,
 
 // The same of a condition.
 #[tactic(auto, using(crate::proofs::Refusing::unsure))]
-fn first_condition<A: Allocator + Clone>(alloc: A, text: &[u8]) -> Result<Cond<A>, Fault>
+fn first_condition<A: Allocator + Clone>(alloc: A, text: &[u8]) -> Result<Cond<A>, TextFault>
     ensures { ReadsTokensInMemory (HasNoFault (whole_condition text.now)) condition_in result
         (whole_condition text.now) }
 {

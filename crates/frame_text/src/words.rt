@@ -7,7 +7,7 @@ ghost use Rattle.frame_text.specs.Words.{words_at, counted, bracketed_at, option
 ghost use Rattle.numerals.specs.Numerals.{data_word_of, number_of};
 ghost use Rattle.std.specs.Prelude.{◌≡◌, ◌<◌, ◌≤◌, ◌++◌, ◌∷◌, [], length, take, IfOk, option_map, IfErr};
 
-use crate::faults::{Cause, Fault};
+use crate::faults::{Cause, TextFault};
 use crate::keywords::{is, is_word, misplaced};
 use crate::tokens::{after_token, fault, next};
 use arrayvec::ArrayVec;
@@ -33,7 +33,7 @@ fn data_word_in(word: &[u8]) -> Option<u16>
 }
 
 // The fault of the first token of the text, which should have spelled something.
-fn unspelled_fault(word: &[u8], text: &[u8]) -> Fault
+fn unspelled_fault(word: &[u8], text: &[u8]) -> TextFault
     ensures is { IsFault (unspelled word.now) (tokens text.now) result }
     ensures of_text { IsOfText result }
 {
@@ -47,7 +47,7 @@ fn unspelled_fault(word: &[u8], text: &[u8]) -> Fault
 
 /// A number of one to seven digits.
 #[tactic(auto, unfolding(crate::specs::Words::number_at))]
-pub fn number(text: &[u8]) -> Result<(u32, &[u8]), Fault>
+pub fn number(text: &[u8]) -> Result<(u32, &[u8]), TextFault>
     ensures tree { ReadsTokens (λ x. (x.0, tokens x.1.now)) result (number_at (tokens text.now)) }
     ensures fewer { IfOk result (λ x. length (tokens x.1.now) < length (tokens text.now)) }
     ensures of_text { IfErr result (λ e. IsOfText e) }
@@ -63,7 +63,7 @@ pub fn number(text: &[u8]) -> Result<(u32, &[u8]), Fault>
 
 /// A number from `low` to `high`.
 #[tactic(auto, unfolding(crate::specs::Words::number_within))]
-pub fn number_in_range(text: &[u8], low: u32, high: u32) -> Result<(u32, &[u8]), Fault>
+pub fn number_in_range(text: &[u8], low: u32, high: u32) -> Result<(u32, &[u8]), TextFault>
     ensures tree { ReadsTokens (λ x. (x.0, tokens x.1.now)) result (number_within low high (tokens text.now)) }
     ensures fewer { IfOk result (λ x. length (tokens x.1.now) < length (tokens text.now)) }
     ensures of_text { IfErr result (λ e. IsOfText e) }
@@ -78,7 +78,7 @@ pub fn number_in_range(text: &[u8], low: u32, high: u32) -> Result<(u32, &[u8]),
 
 /// A period: a number of µs, a multiple of 100 from 100 to 6,553,500. The answer is in hundreds of µs.
 #[tactic(auto, unfolding(crate::specs::Words::period_at))]
-pub fn period(text: &[u8]) -> Result<(u16, &[u8]), Fault>
+pub fn period(text: &[u8]) -> Result<(u16, &[u8]), TextFault>
     ensures tree { ReadsTokens (λ x. (x.0, tokens x.1.now)) result (period_at (tokens text.now)) }
     ensures fewer { IfOk result (λ x. length (tokens x.1.now) < length (tokens text.now)) }
     ensures of_text { IfErr result (λ e. IsOfText e) }
@@ -100,7 +100,7 @@ fn keep(found: &mut DataWords, value: u16)
 }
 
 // Data words up to the closing bracket.
-fn words(text: &[u8]) -> Result<(DataWords, &[u8]), Fault>
+fn words(text: &[u8]) -> Result<(DataWords, &[u8]), TextFault>
     ensures tree { ReadsTokens (λ x. (x.0.items, tokens x.1.now)) result (counted (words_at (tokens text.now))) }
     ensures fewer { IfOk result (λ x. length (tokens x.1.now) < length (tokens text.now)) }
     ensures of_text { IfErr result (λ e. IsOfText e) }
@@ -122,7 +122,7 @@ fn words(text: &[u8]) -> Result<(DataWords, &[u8]), Fault>
 
 /// Data words in their brackets.
 #[tactic(auto, unfolding(crate::specs::Words::bracketed_at))]
-pub fn bracketed(text: &[u8]) -> Result<(DataWords, &[u8]), Fault>
+pub fn bracketed(text: &[u8]) -> Result<(DataWords, &[u8]), TextFault>
     ensures tree { ReadsTokens (λ x. (x.0.items, tokens x.1.now)) result (bracketed_at (tokens text.now)) }
     ensures fewer { IfOk result (λ x. length (tokens x.1.now) < length (tokens text.now)) }
     ensures of_text { IfErr result (λ e. IsOfText e) }
@@ -133,7 +133,7 @@ pub fn bracketed(text: &[u8]) -> Result<(DataWords, &[u8]), Fault>
 
 /// Data words in their brackets, where a bracket opens here.
 #[tactic(auto, unfolding(crate::specs::Words::optional_at))]
-pub fn optional(text: &[u8]) -> Result<(Option<DataWords>, &[u8]), Fault>
+pub fn optional(text: &[u8]) -> Result<(Option<DataWords>, &[u8]), TextFault>
     ensures tree { ReadsTokens (λ x. (option_map (λ w. w.items) x.0, tokens x.1.now)) result
         (optional_at (tokens text.now)) }
     ensures fewer { IfOk result (λ x. length (tokens x.1.now) ≤ length (tokens text.now)) }

@@ -8,7 +8,7 @@ use Rattle.std.proofs.lemmas.List.Elements.{All-append, All-map, All-same, All-t
 use Rattle.job_moments.specs.declared.met.Met.{Met}
 use Rattle.job_moments.specs.declared.moments.Moment.{Moment}
 use Rattle.job_moments.specs.declared.moments.Moment.TheVariants.{Time}
-use Rattle.job_moments.specs.declared.waiting.Line.{Line}
+use Rattle.job_moments.specs.declared.waiting.Pending.{Pending}
 use Rattle.job_moments.specs.Awaiting.{awaited, awaited_of, due_of, IsStill, IsFirstAt, IsPicked, Picks}
 use Rattle.job_moments.specs.Moments.{is_due}
 use Rattle.job_moments.specs.Waits.{Awaited, Waits, first_due, moments_of, given_at, left_at, Taken}
@@ -54,7 +54,7 @@ module _ {T : Type 0} where
         others = sym (ap (λ (o : Option ℕ). left_at o all) found ∙ remove_at front one rest);
       }
 
-  none_due : (made : List Met) (next : Met) (lines : List (Line T)) → All (IsStill made next) lines
+  none_due : (made : List Met) (next : Met) (lines : List (Pending T)) → All (IsStill made next) lines
       → first_due made next (moments_of (awaited_of lines)) ≡ None
   none_due made next lines still =
       let moments : All (λ (m : Moment). is_due made next m ≡ false) (moments_of (awaited_of lines)) =
@@ -62,7 +62,7 @@ module _ {T : Type 0} where
       (All-map (λ (a : Awaited T). is_due made next a.moment ≡ false) awaited lines still) in
       position_none (is_due made next) (moments_of (awaited_of lines)) (Time 0) (λ k lt. moments k (Time 0) lt)
 
-  pub picks_taken : (made : List Met) (next : Met) (old new : List (Line T)) (given : Option T)
+  pub picks_taken : (made : List Met) (next : Met) (old new : List (Pending T)) (given : Option T)
       → Picks made next old new given → Taken made next (awaited_of old) (awaited_of new) given
   picks_taken made next old new None picked =
       let none = none_due made next old picked.0 in
@@ -85,7 +85,7 @@ module _ {T : Type 0} where
 
   -- ---- among more lines
 
-  picked_behind : (made : List Met) (next : Met) (front old new : List (Line T)) (payload : T)
+  picked_behind : (made : List Met) (next : Met) (front old new : List (Pending T)) (payload : T)
       → All (IsStill made next) front → IsPicked made next old new payload
       → IsPicked made next (front ++ old) (front ++ new) payload
   picked_behind made next front old new payload still p = record {
@@ -94,12 +94,12 @@ module _ {T : Type 0} where
     rest = p.rest;
     still = All-append (IsStill made next) front p.front still p.still;
     due = p.due;
-    old_is = ap (λ (ls : List (Line T)). front ++ ls) p.old_is ∙ sym (append_assoc front p.front (p.one ∷ p.rest));
-    new_is = ap (λ (ls : List (Line T)). front ++ ls) p.new_is ∙ sym (append_assoc front p.front p.rest);
+    old_is = ap (λ (ls : List (Pending T)). front ++ ls) p.old_is ∙ sym (append_assoc front p.front (p.one ∷ p.rest));
+    new_is = ap (λ (ls : List (Pending T)). front ++ ls) p.new_is ∙ sym (append_assoc front p.front p.rest);
     given = p.given;
   }
 
-  picked_before : (made : List Met) (next : Met) (rest old new : List (Line T)) (payload : T)
+  picked_before : (made : List Met) (next : Met) (rest old new : List (Pending T)) (payload : T)
       → IsPicked made next old new payload → IsPicked made next (old ++ rest) (new ++ rest) payload
   picked_before made next rest old new payload p = record {
     front = p.front;
@@ -107,13 +107,13 @@ module _ {T : Type 0} where
     rest = p.rest ++ rest;
     still = p.still;
     due = p.due;
-    old_is = ap (λ (ls : List (Line T)). ls ++ rest) p.old_is ∙ append_assoc p.front (p.one ∷ p.rest) rest;
-    new_is = ap (λ (ls : List (Line T)). ls ++ rest) p.new_is ∙ append_assoc p.front p.rest rest;
+    old_is = ap (λ (ls : List (Pending T)). ls ++ rest) p.old_is ∙ append_assoc p.front (p.one ∷ p.rest) rest;
+    new_is = ap (λ (ls : List (Pending T)). ls ++ rest) p.new_is ∙ append_assoc p.front p.rest rest;
     given = p.given;
   }
 
   -- what is true of each line is true of those that are left
-  pub picks_all : (P : Line T → Type 0) (made : List Met) (next : Met) (old new : List (Line T)) (given : Option T)
+  pub picks_all : (P : Pending T → Type 0) (made : List Met) (next : Met) (old new : List (Pending T)) (given : Option T)
       → Picks made next old new given → All P old → All P new
   picks_all P made next old new None picked all = All-same P new old picked.1 all
   picks_all P made next old new (Some payload) p all =
@@ -123,7 +123,7 @@ module _ {T : Type 0} where
       (All-tail P p.one p.rest (all_rest P p.front (p.one ∷ p.rest) parts)))
 
   -- in one chunk
-  pub picked_one : (made : List Met) (next : Met) (lines new : List (Line T)) (place : ℕ) (one : Line T)
+  pub picked_one : (made : List Met) (next : Met) (lines new : List (Pending T)) (place : ℕ) (one : Pending T)
       → IsFirstAt made next lines place → one ≡ get_or lines place one → new ≡ remove lines place
       → IsPicked made next lines new one.payload
   picked_one made next lines new place one first is left =
@@ -133,31 +133,31 @@ module _ {T : Type 0} where
         one = one;
         rest = drop (suc place) lines;
         still = first.before;
-        due = subst (λ (l : Line T). due_of l made next ≡ true) (sym is) (first.due one);
+        due = subst (λ (l : Pending T). due_of l made next ≡ true) (sym is) (first.due one);
         old_is = sym (take-append-drop place lines)
-            ∙ ap (λ (ls : List (Line T)). take place lines ++ ls) (drop_more lines place one first.there
+            ∙ ap (λ (ls : List (Pending T)). take place lines ++ ls) (drop_more lines place one first.there
             ∙ ap (λ (n : ℕ). get_or lines place one ∷ drop n lines) behind
-            ∙ ap (λ (l : Line T). l ∷ drop (suc place) lines) (sym is));
+            ∙ ap (λ (l : Pending T). l ∷ drop (suc place) lines) (sym is));
         new_is = left;
         given = refl;
       }
 
   -- and how many lines there are
-  fewer : (made : List Met) (next : Met) (old new : List (Line T)) (payload : T) → IsPicked made next old new payload
+  fewer : (made : List Met) (next : Met) (old new : List (Pending T)) (payload : T) → IsPicked made next old new payload
       → length new + 1 ≡ length old
   fewer made next old new payload p =
       let olds : length old ≡ length p.front + length (p.one ∷ p.rest) = ap length p.old_is ∙ length-append p.front (p.one ∷ p.rest) in
       let news : length new ≡ length p.front + length p.rest = ap length p.new_is ∙ length-append p.front p.rest in
       omega (arith, olds, news)
 
-  pub as_many : (made : List Met) (next : Met) (old new : List (Line T)) (given : Option T) → Picks made next old new given
+  pub as_many : (made : List Met) (next : Met) (old new : List (Pending T)) (given : Option T) → Picks made next old new given
       → length new + (if is_some given then 1 else 0) ≡ length old
   as_many made next old new None picked = omega (arith, ap length picked.1)
   as_many made next old new (Some payload) picked = fewer made next old new payload picked
 
 -- ---- among the lines of chunks, or of groups
 
-module _ {T X : Type 0} (f : X → List (Line T)) where
+module _ {T X : Type 0} (f : X → List (Pending T)) where
   -- an item none of whose lines was due
   pub record IsPassed (made : List Met) (next : Met) (old new : X) : Type 0 where
     pub lines : f new ≡ f old
@@ -175,14 +175,14 @@ module _ {T X : Type 0} (f : X → List (Line T)) where
   picked_at made next zero (o ∷ os) (n ∷ ns) payload long there before at behind =
       let rest : flat_map f ns ≡ flat_map f os =
       same_joined f os ns (omega (arith, long)) (λ k d lt. ap f (behind (suc k) d (omega arith))) in
-      subst (λ (ls : List (Line T)). IsPicked made next (f o ++ flat_map f os) (f n ++ ls) payload) (sym rest)
+      subst (λ (ls : List (Pending T)). IsPicked made next (f o ++ flat_map f os) (f n ++ ls) payload) (sym rest)
       (picked_before made next (flat_map f os) (f o) (f n) payload (at o))
   picked_at made next (suc i) (o ∷ os) (n ∷ ns) payload long there before at behind =
       let first = before 0 o (omega arith) in
       let rest : IsPicked made next (flat_map f os) (flat_map f ns) payload =
       picked_at made next i os ns payload (omega (arith, long)) (omega (arith, there))
       (λ k d lt. before (suc k) d (omega (arith, lt))) at (λ k d lt. behind (suc k) d (omega (arith, lt))) in
-      subst (λ (ls : List (Line T)). IsPicked made next (f o ++ flat_map f os) (ls ++ flat_map f ns) payload) (sym first.lines)
+      subst (λ (ls : List (Pending T)). IsPicked made next (f o ++ flat_map f os) (ls ++ flat_map f ns) payload) (sym first.lines)
       (picked_behind made next (f o) (flat_map f os) (flat_map f ns) payload first.still rest)
 
   -- in the same way, of what may be given

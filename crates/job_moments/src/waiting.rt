@@ -18,13 +18,13 @@ use std::marker::Model;
 
 /// A moment with the place of its counter, and what is due at it.
 #[derive(Drop)]
-struct Line<T: Drop> {
+struct Pending<T: Drop> {
     moment: Moment,
     counter: usize,
     payload: T,
 }
 
-impl<T: Drop> Line<T> {
+impl<T: Drop> Pending<T> {
     /// Whether it is due in front of a message.
     fn is_due(&self, counts: &Counts, next: &Met) -> bool
         requires few { length counts.now.made < 1000000 }
@@ -46,7 +46,7 @@ impl<T: Drop> Line<T> {
 }
 
 /// The place of the first line that is due in front of a message.
-fn first_of<T: Drop>(lines: &[Line<T>], counts: &Counts, next: &Met) -> Option<usize>
+fn first_of<T: Drop>(lines: &[Pending<T>], counts: &Counts, next: &Met) -> Option<usize>
     requires few { length counts.now.made < 1000000 }
     requires counters { All (HasItsCounter counts.now.selectors) lines.now }
     ensures { IsFirst counts.now.made next.now lines.now result }
@@ -60,7 +60,7 @@ fn first_of<T: Drop>(lines: &[Line<T>], counts: &Counts, next: &Met) -> Option<u
 }
 
 /// Messages in front of which none of these lines is due.
-fn quiet_of<T: Drop>(lines: &[Line<T>], counts: &Counts) -> Quiet
+fn quiet_of<T: Drop>(lines: &[Pending<T>], counts: &Counts) -> Quiet
     requires few { length counts.now.made ≤ 1000000 }
     requires counters { All (HasItsCounter counts.now.selectors) lines.now }
     ensures { All (λ line. Sleeps result counts.now.made (due_of line)) lines.now }
@@ -74,7 +74,7 @@ fn quiet_of<T: Drop>(lines: &[Line<T>], counts: &Counts) -> Quiet
 
 /// Takes out the first line of a chunk that is due in front of a message, and gives what is due. Where none is, the
 /// chunk learns in front of which messages none will be.
-fn take_one<T: Drop>(chunk: &mut Chunk<Line<T>>, counts: &Counts, next: &Met) -> Option<T>
+fn take_one<T: Drop>(chunk: &mut Chunk<Pending<T>>, counts: &Counts, next: &Met) -> Option<T>
     requires few { length counts.now.made < 1000000 }
     requires known { KnowsChunk counts.now chunk.old }
     ensures taken { Picks counts.now.made next.now (lines_in chunk.old) (lines_in chunk.new) result }
@@ -93,7 +93,7 @@ fn take_one<T: Drop>(chunk: &mut Chunk<Line<T>>, counts: &Counts, next: &Met) ->
 }
 
 /// Takes out the first line of these chunks that is due in front of a message, and gives what is due.
-fn take_first<T: Drop>(chunks: &mut [Chunk<Line<T>>], counts: &Counts, next: &Met) -> Option<T>
+fn take_first<T: Drop>(chunks: &mut [Chunk<Pending<T>>], counts: &Counts, next: &Met) -> Option<T>
     requires few { length counts.now.made < 1000000 }
     requires known { All (KnowsChunk counts.now) chunks.old }
     ensures taken { Picks counts.now.made next.now (lines_of chunks.old) (lines_of chunks.new) result }
@@ -110,7 +110,7 @@ fn take_first<T: Drop>(chunks: &mut [Chunk<Line<T>>], counts: &Counts, next: &Me
 
 /// Takes out the first line of a group that is due in front of a message, and gives what is due. Where none is, the
 /// group learns in front of which messages none will be.
-fn take_inside<T: Drop>(group: &mut Group<Line<T>>, counts: &Counts, next: &Met) -> Option<T>
+fn take_inside<T: Drop>(group: &mut Group<Pending<T>>, counts: &Counts, next: &Met) -> Option<T>
     requires few { length counts.now.made < 1000000 }
     requires known { KnowsGroup counts.now group.old }
     ensures taken { Picks counts.now.made next.now (lines_inside group.old) (lines_inside group.new) result }
@@ -127,7 +127,7 @@ fn take_inside<T: Drop>(group: &mut Group<Line<T>>, counts: &Counts, next: &Met)
 }
 
 /// Takes out the first line of these groups that is due in front of a message, and gives what is due.
-fn take_from<T: Drop>(groups: &mut [Group<Line<T>>], counts: &Counts, next: &Met) -> Option<T>
+fn take_from<T: Drop>(groups: &mut [Group<Pending<T>>], counts: &Counts, next: &Met) -> Option<T>
     requires few { length counts.now.made < 1000000 }
     requires known { All (KnowsGroup counts.now) groups.old }
     ensures taken { Picks counts.now.made next.now (lines_of_groups groups.old) (lines_of_groups groups.new) result }
@@ -148,7 +148,7 @@ fn take_from<T: Drop>(groups: &mut [Group<Line<T>>], counts: &Counts, next: &Met
 /// counted.
 #[derive(Drop)]
 pub struct Waiting<T: Drop> {
-    groups: Vec<Group<Line<T>>>,
+    groups: Vec<Group<Pending<T>>>,
     /// How many lines they have.
     number: usize,
     counts: Counts,
@@ -196,7 +196,7 @@ impl<T: Drop> Waiting<T> {
             return Err(AllocError);
         };
         let counter = self.counts.counter_of(moment.selector())?;
-        let line = Line {
+        let line = Pending {
             moment,
             counter,
             payload,

@@ -6,7 +6,7 @@ use crate::tests::streams::{Slow, reader_of};
 use bench_clock::Clock;
 use bench_dump::dump_skipping;
 use ch11_header::HeaderError;
-use ch11_reader::{Fault, Index, Packet, Skip};
+use ch11_reader::{Index, Packet, PacketFault, Skip};
 use ch11_stream::{StreamFault, Stretch, Stretches};
 use std::alloc::Global;
 use std::process::Abort;
@@ -52,7 +52,7 @@ fn a_failing_reader_is_told(rt: HostRuntime) {
     let skip = Skip {
         offset: 0,
         length: 3,
-        fault: Fault::Header(HeaderError::Sync),
+        fault: PacketFault::Header(HeaderError::Sync),
     };
     gives(&rt, &mut stretches, Ok(Some(Stretch::Skipped(skip))));
     same(&rt, &stretches.messages().left(), &0);

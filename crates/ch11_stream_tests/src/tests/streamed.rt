@@ -6,7 +6,7 @@ use bench_select::Selection;
 use bench_stat::{ChannelFigures, Errors, Stretches, TerminalFigures, Traffic, stat};
 use ch11_header::HeaderError;
 use ch11_layout::StampKind;
-use ch11_reader::{Fault, Refusal};
+use ch11_reader::{PacketFault, Refusal};
 use ch11_stream::StreamFault;
 use std::alloc::Global;
 use test_values::FOREIGN;
@@ -34,7 +34,7 @@ pub(crate) fn damaged() -> [u8; 192] {
 pub(crate) fn refusal() -> Refusal {
     Refusal {
         offset: 128,
-        fault: Fault::Header(HeaderError::Sync),
+        fault: PacketFault::Header(HeaderError::Sync),
     }
 }
 

@@ -3,7 +3,7 @@
 use crate::tests::equal::{put, same};
 use ch11_f1::BodyError;
 use ch11_header::{Header, HeaderError, write_header};
-use ch11_reader::{Fault, Index, ReadError, Refusal};
+use ch11_reader::{Index, PacketFault, ReadError, Refusal};
 use std::alloc::Global;
 use std::process::Abort;
 use test_values::{FOREIGN, ONE_PACKET};
@@ -26,7 +26,7 @@ fn count_of(index: &Index<'_>, channel: u16) -> u64 {
 }
 
 /// A fault of the packet at the start of a file.
-fn at_start(fault: Fault) -> Result<u64, ReadError> {
+fn at_start(fault: PacketFault) -> Result<u64, ReadError> {
     Err(ReadError::Refused(Refusal { offset: 0, fault }))
 }
 
@@ -101,9 +101,9 @@ fn reads_or_refuses_each_cut(rt: HostRuntime) {
     is_answered(&rt, rt.alloc(), &[], Ok(0));
     for length in 1..52 {
         let fault = if length < 24 {
-            Fault::Header(HeaderError::Short)
+            PacketFault::Header(HeaderError::Short)
         } else {
-            Fault::End
+            PacketFault::End
         };
         is_answered(&rt, rt.alloc(), &ONE_PACKET[..length], at_start(fault));
     }
@@ -116,10 +116,10 @@ fn reads_or_refuses_each_change(rt: HostRuntime) {
         let mut file = ONE_PACKET;
         file[place] ^= 0xFF;
         let wanted = match place {
-            0..=1 => at_start(Fault::Header(HeaderError::Sync)),
-            2..=23 => at_start(Fault::Header(HeaderError::Checksum)),
-            24..=26 | 41 => at_start(Fault::Body(BodyError::End)),
-            40 => at_start(Fault::Body(BodyError::Odd)),
+            0..=1 => at_start(PacketFault::Header(HeaderError::Sync)),
+            2..=23 => at_start(PacketFault::Header(HeaderError::Checksum)),
+            24..=26 | 41 => at_start(PacketFault::Body(BodyError::End)),
+            40 => at_start(PacketFault::Body(BodyError::Odd)),
             _ => Ok(1),
         };
         is_answered(&rt, rt.alloc(), &file, wanted);
@@ -132,7 +132,7 @@ fn names_the_fault_of_a_later_packet(rt: HostRuntime) {
     file[32] = 0;
     let refusal = Refusal {
         offset: 32,
-        fault: Fault::Header(HeaderError::Sync),
+        fault: PacketFault::Header(HeaderError::Sync),
     };
     is_answered(&rt, rt.alloc(), &file, Err(ReadError::Refused(refusal)));
 }

@@ -5,7 +5,7 @@ use crate::tests::equal::{are_bytes, put, same};
 use crate::tests::readers::words_of;
 use ch11_f1::BodyError;
 use ch11_header::{Header, HeaderError, write_header};
-use ch11_reader::{Fault, Index, ReadError, Refusal, Skip, SkippingIndex};
+use ch11_reader::{Index, PacketFault, ReadError, Refusal, Skip, SkippingIndex};
 use std::alloc::Global;
 use std::process::Abort;
 use test_values::{FOREIGN, ONE_PACKET, foreign_with};
@@ -63,7 +63,7 @@ fn is_one_skip(
     counts: (usize, u64),
     offset: usize,
     length: usize,
-    fault: Fault,
+    fault: PacketFault,
 ) {
     let skip = Skip {
         offset,
@@ -74,13 +74,13 @@ fn is_one_skip(
 }
 
 /// The reading that stops at the first fault stops there.
-fn stops_at(rt: &impl Abort, alloc: Global, file: &[u8], offset: usize, fault: Fault) {
+fn stops_at(rt: &impl Abort, alloc: Global, file: &[u8], offset: usize, fault: PacketFault) {
     let refusal = Refusal { offset, fault };
     same(rt, &refusal_of(alloc, file), &Some(refusal));
 }
 
 /// A file that is one packet: its messages, or its fault, by both readings.
-fn is_one(rt: &impl Abort, alloc: Global, file: &[u8], wanted: Result<u64, Fault>) {
+fn is_one(rt: &impl Abort, alloc: Global, file: &[u8], wanted: Result<u64, PacketFault>) {
     same(rt, &is_read_alike(rt, alloc, file), &true);
     match wanted {
         Ok(messages) => is_found(rt, alloc, file, 1, messages, &[]),
@@ -101,31 +101,31 @@ fn changed(first: usize, byte: u8, second: usize, other: u8) -> [u8; 52] {
 }
 
 /// Two bytes of the worked packet, by place and value, where 52 is no place; and its messages with them, or its fault.
-type Changed = (usize, u8, usize, u8, Result<u64, Fault>);
+type Changed = (usize, u8, usize, u8, Result<u64, PacketFault>);
 
 /// Changes of its body, and of its header.
 const CHANGED: [Changed; 10] = [
     (27, 0x80, 52, 0, Ok(1)),
     (27, 0x4F, 52, 0, Ok(1)),
     (24, 0x00, 52, 0, Ok(0)),
-    (24, 0x02, 52, 0, Err(Fault::Body(BodyError::End))),
-    (40, 0x0B, 52, 0, Err(Fault::Body(BodyError::Odd))),
-    (40, 0x0C, 52, 0, Err(Fault::Body(BodyError::End))),
+    (24, 0x02, 52, 0, Err(PacketFault::Body(BodyError::End))),
+    (40, 0x0B, 52, 0, Err(PacketFault::Body(BodyError::Odd))),
+    (40, 0x0C, 52, 0, Err(PacketFault::Body(BodyError::End))),
     (40, 0x08, 52, 0, Ok(1)),
-    (8, 0x02, 22, 0x62, Err(Fault::Body(BodyError::Short))),
+    (8, 0x02, 22, 0x62, Err(PacketFault::Body(BodyError::Short))),
     (
         4,
         0x35,
         22,
         0x7D,
-        Err(Fault::Header(HeaderError::PacketLength)),
+        Err(PacketFault::Header(HeaderError::PacketLength)),
     ),
     (
         8,
         0x1D,
         22,
         0x7D,
-        Err(Fault::Header(HeaderError::DataLength)),
+        Err(PacketFault::Header(HeaderError::DataLength)),
     ),
 ];
 
@@ -164,7 +164,7 @@ fn skips_once(
     file: &[u8],
     offset: usize,
     length: usize,
-    fault: Fault,
+    fault: PacketFault,
 ) {
     stops_at(rt, alloc, file, offset, fault);
     is_one_skip(rt, alloc, file, (1, 1), offset, length, fault);
@@ -173,7 +173,7 @@ fn skips_once(
 #[test]
 fn skips_the_bytes_behind_a_packet(rt: HostRuntime) {
     let file = joined(&rt, rt.alloc(), &ONE_PACKET, &[0, 0, 0]);
-    let fault = Fault::Header(HeaderError::Short);
+    let fault = PacketFault::Header(HeaderError::Short);
     skips_once(&rt, rt.alloc(), &file, 52, 3, fault);
 }
 
@@ -181,7 +181,7 @@ fn skips_the_bytes_behind_a_packet(rt: HostRuntime) {
 fn skips_a_packet_in_front_of_another(rt: HostRuntime) {
     let damaged = changed(22, 0x7D, 52, 0);
     let file = joined(&rt, rt.alloc(), &damaged, &ONE_PACKET);
-    let fault = Fault::Header(HeaderError::Checksum);
+    let fault = PacketFault::Header(HeaderError::Checksum);
     skips_once(&rt, rt.alloc(), &file, 0, 52, fault);
     prints(&rt, rt.alloc(), &file, true, PRINTED);
 }
@@ -196,7 +196,7 @@ fn reads_the_foreign_file_damaged(rt: HostRuntime) {
     let mut file = FOREIGN;
     is_found(&rt, rt.alloc(), &file, 2, 1, &[]);
     file[32] = 0;
-    let fault = Fault::Header(HeaderError::Sync);
+    let fault = PacketFault::Header(HeaderError::Sync);
     is_one_skip(&rt, rt.alloc(), &file, (1, 0), 32, 64, fault);
     let text = "packet 0 channel 0 type 01 skipped\nskipped 32 length 64 K2\n";
     prints(&rt, rt.alloc(), &file, true, text);
@@ -387,7 +387,7 @@ fn skips_headers_that_lie(rt: HostRuntime) {
 
 /// The headers of a file are skipped by both readings.
 fn lie(rt: &impl Abort, alloc: Global, file: &[u8]) {
-    let fault = Fault::Body(BodyError::Odd);
+    let fault = PacketFault::Body(BodyError::Odd);
     same(rt, &is_read_alike(rt, alloc, file), &true);
     is_one_skip(rt, alloc, file, (1, 1), 0, 48000, fault);
 }

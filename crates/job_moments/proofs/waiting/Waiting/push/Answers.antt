@@ -3,7 +3,7 @@ use Rattle.std.proofs.lemmas.List.{append-nil, map-append}
 use Rattle.std.proofs.lemmas.List.Elements.{All-nil, All-cons}
 use Rattle.std.specs.Prelude.{Option}
 use Rattle.judge_rules.specs.declared.rules.Selector.{Selector}
-use Rattle.job_moments.specs.declared.waiting.Line.{Line}
+use Rattle.job_moments.specs.declared.waiting.Pending.{Pending}
 use Rattle.job_moments.specs.Awaiting.{awaited, awaited_of, due_of, HasItsCounter}
 use Rattle.job_moments.specs.Groups.{lines_of_groups}
 use Rattle.job_moments.specs.Counting.{HasCounter}
@@ -30,7 +30,7 @@ pub invariant_of-self-2 : goal.invariant_of-self-2
 invariant_of-self-2 g c =
     let old = c.self.inside.groups.items in
     let new = c.put_behind.new.groups.items in
-    let line : Line g.row.T.Denot = record { moment = c.args.moment; counter = c.in_ok-counter.counter; payload = c.args.payload } in
+    let line : Pending g.row.T.Denot = record { moment = c.args.moment; counter = c.in_ok-counter.counter; payload = c.args.payload } in
     let selectors = c.counter_of.new.self.selectors in
     record {
       known = group_put_known HasItsCounter due_of old new (line ∷ []) c.self.inside.counts c.counter_of.new.self
@@ -64,7 +64,7 @@ pub returns-clause-pushed : goal.returns-clause-pushed
 returns-clause-pushed g c =
     let old = c.self.inside.groups.items in
     let new = c.put_behind.new.groups.items in
-    let line : Line g.row.T.Denot = record { moment = c.args.moment; counter = c.in_ok-counter.counter; payload = c.args.payload } in
+    let line : Pending g.row.T.Denot = record { moment = c.args.moment; counter = c.in_ok-counter.counter; payload = c.args.payload } in
     let left : awaited_of (lines_of_groups new) ≡ c.args.self.now.left ++ awaited line ∷ [] =
     ap awaited_of (group_lines old new (line ∷ []) c.in_ok-put_behind.ensures) ∙ map-append awaited (lines_of_groups old) (line ∷ [])
     ∙ ap (λ (v : Waits g.row.T.Denot). v.left ++ awaited line ∷ []) c.self.view_is in
