@@ -1,11 +1,11 @@
 //! Moments that are still to come.
-ghost use Rattle.job_moments.specs.Awaiting.{due_of, HasItsCounter, IsFirst, KnowsChunk, KnowsGroup, Picks};
+ghost use Rattle.job_moments.specs.Awaiting.{due_of, HasItsCounter, IsFirst, IsStill, KnowsChunk, KnowsGroup, Picks};
 ghost use Rattle.job_moments.specs.Chunks.{lines_in, lines_of};
 ghost use Rattle.job_moments.specs.Groups.{lines_inside, lines_of_groups};
 ghost use Rattle.job_moments.specs.Moments.{is_due};
 ghost use Rattle.job_moments.specs.Quiet.{IsPart, Sleeps};
 ghost use Rattle.job_moments.specs.Waits.{Taken};
-ghost use Rattle.std.specs.Prelude.{◌≡◌, ◌<◌, ◌≤◌, ◌++◌, ◌∷◌, [], All, length, OnOk, OnErr};
+ghost use Rattle.std.specs.Prelude.{◌≡◌, ◌<◌, ◌≤◌, ◌++◌, ◌∷◌, [], All, length, true, OnOk, OnErr};
 
 use crate::chunks::Chunk;
 use crate::counts::Counts;
@@ -72,6 +72,14 @@ fn quiet_of<T: Drop>(lines: &[Pending<T>], counts: &Counts) -> Quiet
     quiet
 }
 
+/// Whether a chunk knows that none of its lines is due in front of a message.
+fn is_quiet_chunk<T: Drop>(chunk: &Chunk<Pending<T>>, counts: &Counts, next: &Met) -> bool
+    requires { KnowsChunk counts.now chunk.now }
+    ensures { result ≡ true → All (IsStill counts.now.made next.now) (lines_in chunk.now) }
+{
+    chunk.quiet.has(counts.number(), next)
+}
+
 /// Takes out the first line of a chunk that is due in front of a message, and gives what is due. Where none is, the
 /// chunk learns in front of which messages none will be.
 fn take_one<T: Drop>(chunk: &mut Chunk<Pending<T>>, counts: &Counts, next: &Met) -> Option<T>
@@ -80,9 +88,6 @@ fn take_one<T: Drop>(chunk: &mut Chunk<Pending<T>>, counts: &Counts, next: &Met)
     ensures taken { Picks counts.now.made next.now (lines_in chunk.old) (lines_in chunk.new) result }
     ensures known { KnowsChunk counts.now chunk.new }
 {
-    if chunk.quiet.has(counts.number(), next) {
-        return None;
-    }
     match first_of(&chunk.lines, counts, next) {
         Some(place) => Some(chunk.lines.remove(place).payload),
         None => {
@@ -100,12 +105,23 @@ fn take_first<T: Drop>(chunks: &mut [Chunk<Pending<T>>], counts: &Counts, next: 
     ensures known { All (KnowsChunk counts.now) chunks.new }
 {
     for chunk in chunks.iter_mut() {
+        if is_quiet_chunk(chunk, counts, next) {
+            continue;
+        }
         let payload = take_one(chunk, counts, next);
         if payload.is_some() {
             return payload;
         }
     }
     None
+}
+
+/// Whether a group knows that none of its lines is due in front of a message.
+fn is_quiet_group<T: Drop>(group: &Group<Pending<T>>, counts: &Counts, next: &Met) -> bool
+    requires { KnowsGroup counts.now group.now }
+    ensures { result ≡ true → All (IsStill counts.now.made next.now) (lines_inside group.now) }
+{
+    group.quiet.has(counts.number(), next)
 }
 
 /// Takes out the first line of a group that is due in front of a message, and gives what is due. Where none is, the
@@ -116,9 +132,6 @@ fn take_inside<T: Drop>(group: &mut Group<Pending<T>>, counts: &Counts, next: &M
     ensures taken { Picks counts.now.made next.now (lines_inside group.old) (lines_inside group.new) result }
     ensures known { KnowsGroup counts.now group.new }
 {
-    if group.quiet.has(counts.number(), next) {
-        return None;
-    }
     let payload = take_first(&mut group.chunks, counts, next);
     if payload.is_none() {
         group.quiet = quiet_for_all(&group.chunks);
@@ -134,6 +147,9 @@ fn take_from<T: Drop>(groups: &mut [Group<Pending<T>>], counts: &Counts, next: &
     ensures known { All (KnowsGroup counts.now) groups.new }
 {
     for group in groups.iter_mut() {
+        if is_quiet_group(group, counts, next) {
+            continue;
+        }
         let payload = take_inside(group, counts, next);
         if payload.is_some() {
             return payload;

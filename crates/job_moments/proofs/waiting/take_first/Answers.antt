@@ -1,4 +1,4 @@
-use Rattle.std.proofs.Common.{◌≡◌, ◌<◌, length, get_or, sym, subst, ◌∙◌, arith}
+use Rattle.std.proofs.Common.{◌≡◌, ◌<◌, length, get_or, refl, sym, subst, ◌∙◌, arith}
 use Rattle.std.proofs.lemmas.List.{get_or_default}
 use Rattle.job_moments.specs.Awaiting.{IsStill, KnowsChunk, Picks}
 use Rattle.job_moments.specs.Chunks.{lines_in}
@@ -6,6 +6,32 @@ use Rattle.job_moments.proofs.Joined.{all_joined, same_joined}
 use Rattle.job_moments.proofs.Lists.{set_done, set_rest, set_all}
 use Rattle.job_moments.proofs.Taking.{IsPassed, passed, picks_set}
 use Rattle.job_moments.proofs.waiting.take_first.Goals as goal
+
+pub is_quiet_chunk-requires : goal.is_quiet_chunk-requires
+is_quiet_chunk-requires g c =
+    let i = c.loop-chunk.chunk-index in
+    subst (KnowsChunk c.args.counts.now) (sym (c.loop-chunk.invariant.rest i c.chunk-item.result (omega arith)))
+    (c.requires.known i c.chunk-item.result (omega (arith, c.loop-chunk-test.true, c.loop-chunk.auto.chunks)))
+
+pub loop-chunk-preserved-then-is_quiet_chunk : goal.loop-chunk-preserved-then-is_quiet_chunk
+loop-chunk-preserved-then-is_quiet_chunk g c =
+    let i = c.loop-chunk.chunk-index in
+    let old = c.args.chunks.now in
+    let now = c.loop-chunk.chunks in
+    let made = c.args.counts.now.made in
+    let next = c.args.next.now in
+    let new = get_or now i c.chunk-item.result in
+    let long : length now ≡ length old = omega (arith, c.loop-chunk.auto.chunks) in
+    let there : i < length old = omega (arith, c.loop-chunk-test.true, long) in
+    let same : (d : _) → new ≡ get_or old i d =
+    λ d. get_or_default now i c.chunk-item.result d (omega (arith, long, there)) ∙ c.loop-chunk.invariant.rest i d (omega arith) in
+    record {
+      done = set_done (IsPassed lines_in made next) old now i new long there c.loop-chunk.invariant.done
+          (λ d. subst (λ o. IsPassed lines_in made next o new) (same d) (record { lines = refl; still = c.is_quiet_chunk.ensures c.if-is_quiet_chunk.true }));
+      known = set_done (λ o n. KnowsChunk c.args.counts.now n) old now i new long there c.loop-chunk.invariant.known
+          (λ d. subst (KnowsChunk c.args.counts.now) (sym (same c.chunk-item.result)) (c.requires.known i c.chunk-item.result there));
+      rest = set_rest old now i new c.loop-chunk.invariant.rest;
+    }
 
 pub take_one-payload-requires-clause-known : goal.take_one-payload-requires-clause-known
 take_one-payload-requires-clause-known g c =

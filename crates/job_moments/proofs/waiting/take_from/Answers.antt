@@ -1,4 +1,4 @@
-use Rattle.std.proofs.Common.{◌≡◌, ◌<◌, length, get_or, sym, subst, ◌∙◌, arith}
+use Rattle.std.proofs.Common.{◌≡◌, ◌<◌, length, get_or, refl, sym, subst, ◌∙◌, arith}
 use Rattle.std.proofs.lemmas.List.{get_or_default}
 use Rattle.job_moments.specs.Awaiting.{IsStill, KnowsGroup, Picks}
 use Rattle.job_moments.specs.Groups.{lines_inside}
@@ -6,6 +6,32 @@ use Rattle.job_moments.proofs.Joined.{all_joined, same_joined}
 use Rattle.job_moments.proofs.Lists.{set_done, set_rest, set_all}
 use Rattle.job_moments.proofs.Taking.{IsPassed, passed, picks_set}
 use Rattle.job_moments.proofs.waiting.take_from.Goals as goal
+
+pub is_quiet_group-requires : goal.is_quiet_group-requires
+is_quiet_group-requires g c =
+    let i = c.loop-group.group-index in
+    subst (KnowsGroup c.args.counts.now) (sym (c.loop-group.invariant.rest i c.group-item.result (omega arith)))
+    (c.requires.known i c.group-item.result (omega (arith, c.loop-group-test.true, c.loop-group.auto.groups)))
+
+pub loop-group-preserved-then-is_quiet_group : goal.loop-group-preserved-then-is_quiet_group
+loop-group-preserved-then-is_quiet_group g c =
+    let i = c.loop-group.group-index in
+    let old = c.args.groups.now in
+    let now = c.loop-group.groups in
+    let made = c.args.counts.now.made in
+    let next = c.args.next.now in
+    let new = get_or now i c.group-item.result in
+    let long : length now ≡ length old = omega (arith, c.loop-group.auto.groups) in
+    let there : i < length old = omega (arith, c.loop-group-test.true, long) in
+    let same : (d : _) → new ≡ get_or old i d =
+    λ d. get_or_default now i c.group-item.result d (omega (arith, long, there)) ∙ c.loop-group.invariant.rest i d (omega arith) in
+    record {
+      done = set_done (IsPassed lines_inside made next) old now i new long there c.loop-group.invariant.done
+          (λ d. subst (λ o. IsPassed lines_inside made next o new) (same d) (record { lines = refl; still = c.is_quiet_group.ensures c.if-is_quiet_group.true }));
+      known = set_done (λ o n. KnowsGroup c.args.counts.now n) old now i new long there c.loop-group.invariant.known
+          (λ d. subst (KnowsGroup c.args.counts.now) (sym (same c.group-item.result)) (c.requires.known i c.group-item.result there));
+      rest = set_rest old now i new c.loop-group.invariant.rest;
+    }
 
 pub take_inside-payload-requires-clause-known : goal.take_inside-payload-requires-clause-known
 take_inside-payload-requires-clause-known g c =

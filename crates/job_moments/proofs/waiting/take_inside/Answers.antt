@@ -1,4 +1,4 @@
-use Rattle.std.proofs.Common.{◌≡◌, All, length, refl, sym, subst, arith}
+use Rattle.std.proofs.Common.{◌≡◌, All, length, sym, subst, arith}
 use Rattle.std.specs.Vec.{with_items}
 use Rattle.std.proofs.lemmas.List.{with_items_is}
 use Rattle.std.proofs.lemmas.List.Elements.{All-same}
@@ -6,18 +6,10 @@ use Rattle.job_moments.specs.declared.chunks.Chunk.{Chunk}
 use Rattle.job_moments.specs.declared.waiting.Pending.{Pending}
 use Rattle.job_moments.specs.Awaiting.{due_of, HasItsCounter, KnowsChunk, Picks}
 use Rattle.job_moments.specs.Chunks.{lines_of}
-use Rattle.job_moments.specs.Groups.{lines_inside}
 use Rattle.job_moments.specs.Quiet.{IsPart, Sleeps}
-use Rattle.job_moments.proofs.Chunking.{quiet_lines}
 use Rattle.job_moments.proofs.Grouping.{quiet_inside}
 use Rattle.job_moments.proofs.Taking.{picks_all}
 use Rattle.job_moments.proofs.waiting.take_inside.Goals as goal
-
-pub returns-then-has-clause-taken : goal.returns-then-has-clause-taken
-returns-then-has-clause-taken g c =
-    let group = c.args.group.now in
-    let made = c.args.counts.now.made in
-    (quiet_lines due_of group.quiet made c.args.next.now (lines_inside group) c.requires.known.sleeps (c.has.ensures made c.number.ensures c.if-has.true), refl)
 
 pub returns-then-is_none-clause-known : goal.returns-then-is_none-clause-known
 returns-then-is_none-clause-known g c =

@@ -1,15 +1,9 @@
 use Rattle.std.proofs.Common.{refl, subst}
 use Rattle.job_moments.specs.Awaiting.{due_of, HasItsCounter, IsFirstAt}
 use Rattle.job_moments.specs.Chunks.{lines_in}
-use Rattle.job_moments.proofs.Chunking.{quiet_lines, knows_fewer}
+use Rattle.job_moments.proofs.Chunking.{knows_fewer}
 use Rattle.job_moments.proofs.Taking.{picked_one}
 use Rattle.job_moments.proofs.waiting.take_one.Goals as goal
-
-pub returns-then-has-clause-taken : goal.returns-then-has-clause-taken
-returns-then-has-clause-taken g c =
-    let chunk = c.args.chunk.now in
-    let made = c.args.counts.now.made in
-    (quiet_lines due_of chunk.quiet made c.args.next.now (lines_in chunk) c.requires.known.sleeps (c.has.ensures made c.number.ensures c.if-has.true), refl)
 
 pub returns-in-Some-clause-taken : goal.returns-in-Some-clause-taken
 returns-in-Some-clause-taken g c = picked_one c.args.counts.now.made c.args.next.now (lines_in c.args.chunk.now) c.remove.new.self.items
