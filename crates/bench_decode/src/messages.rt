@@ -217,13 +217,15 @@ fn put_words<W: Write>(
 ) -> io::Result<()> {
     let (from, to) = reading.first_words(view);
     put_data(line, out, view, from, to)?;
-    let (from, to) = reading.other_words(view);
-    if from >= to {
+    let (then_from, then_to) = reading.other_words(view);
+    if then_from >= then_to {
         return Ok(());
     }
-    line.fill_to(WORDS - 1);
+    if from >= to {
+        line.fill_to(WORDS - 1);
+    }
     line.put(b" then");
-    line.put_words(out, between(view.bytes(), from, to))
+    line.put_words(out, between(view.bytes(), then_from, then_to))
 }
 
 /// Puts the words from a place up to another, and comes to the column of data words where these or names follow.
