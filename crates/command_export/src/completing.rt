@@ -8,18 +8,17 @@ use bench_settings::DEFAULT_VERSION;
 use ch11_reader::Skip;
 use ch11_stream::Advance;
 use clap::{ArgMatches, Command};
-use command_parts::options::{
-    Row, argument, channel, command_of, file, flag, force, value, version,
+use command_finishing::completing::{
+    answer_of_writing, fault_of, second_time, setup_text, start_of, time, time_channel,
+    time_channel_in, write_out,
 };
+use command_parts::options::{argument, command_of, file, flag, force, version};
 use command_parts::recordings::{Recording, Source};
 use command_parts::replacing::{begin_to_write, may_write, put_or_give_up};
-use command_parts::requests::{CommandFault, read_whole};
+use command_parts::requests::CommandFault;
 use std::alloc::{AllocError, Global};
-use std::io::{self, BufWriter, IsTerminal, Write};
+use std::io::IsTerminal;
 use std::rt::{Clock, Files};
-
-/// The channel of the time packets where none is given.
-const DEFAULT_TIME_CHANNEL: u16 = 65535;
 
 /// What the help of `bench complete` ends with.
 const NOTES: &str = "\
@@ -52,30 +51,6 @@ pub fn command<'a>(alloc: Global) -> Result<Command<'a>, AllocError> {
     Ok(command.disable_version_flag(true))
 }
 
-/// The option that asks for time packets.
-pub fn time<'a>() -> Row<'a> {
-    value(
-        "time",
-        "YYYY-MM-DDTHH:MM:SS",
-        "The UTC time at tick 0, 1970 to 2099, for a time packet each second",
-    )
-}
-
-/// The option that names their channel.
-pub fn time_channel<'a>() -> Row<'a> {
-    let help = "The channel of the time packets, 1 to 65535, which has no packet in the recording";
-    channel("time-channel", help).or("65535")
-}
-
-/// The option that adds time packets to those that are there.
-pub fn second_time<'a>() -> Row<'a> {
-    flag(
-        "second-time",
-        "Adds time packets to a recording that has some already",
-    )
-    .only_with("time")
-}
-
 /// What is to be completed, and how.
 #[derive(Debug, Drop)]
 pub struct Request<'a> {
@@ -101,13 +76,6 @@ pub struct Request<'a> {
     pub force: bool,
 }
 
-/// The channel of the time packets that was given, or else the default.
-pub fn time_channel_in(given: &ArgMatches<'_>) -> u16 {
-    given
-        .get_one::<u16>("time-channel")
-        .unwrap_or(DEFAULT_TIME_CHANNEL)
-}
-
 /// What a command line asks of `bench complete`.
 pub fn request_in<'a>(given: &ArgMatches<'a>) -> Request<'a> {
     Request {
@@ -121,31 +89,6 @@ pub fn request_in<'a>(given: &ArgMatches<'a>) -> Request<'a> {
         version: given.get_one::<u8>("version").unwrap_or(DEFAULT_VERSION),
         skip: given.get_flag("skip"),
         force: given.get_flag("force"),
-    }
-}
-
-/// What a fault of the library is to the program, by the names of the recording and of the out file.
-pub fn fault_of<'a>(fault: CompleteFault, recording: &'a str, out: &'a str) -> CommandFault<'a> {
-    match fault {
-        CompleteFault::Refused(refusal) => CommandFault::Recording(refusal),
-        CompleteFault::Memory => CommandFault::Memory,
-        CompleteFault::Reader => CommandFault::Device(recording),
-        CompleteFault::Device => CommandFault::Device(out),
-        CompleteFault::SetupSize => CommandFault::Usage(
-            "the text of --setup has 1 to 524000 bytes",
-        ),
-        CompleteFault::SetupTwice => CommandFault::Usage(
-            "--setup for a recording that has computer generated data of type 01",
-        ),
-        CompleteFault::TimeTwice => CommandFault::Usage(
-            "--time for a recording that has time packets, without --second-time",
-        ),
-        CompleteFault::ChannelTaken => CommandFault::Usage(
-            "--time-channel has packets in the recording",
-        ),
-        CompleteFault::TooLong => CommandFault::Usage(
-            "--time would make more than 1000000 time packets",
-        ),
     }
 }
 
@@ -195,17 +138,6 @@ fn complete_recording<'a, R: Files<File: Hold> + AllocGlobal + Clock, E: Eprint 
     complete_with(rt, errors, request, recording, &additions)
 }
 
-/// The text of the setup record in this file; no byte where there is none.
-pub fn setup_text<'a, R: Files + AllocGlobal>(
-    rt: &R,
-    name: Option<&'a str>,
-) -> Result<Vec<u8>, CommandFault<'a>> {
-    match name {
-        Some(name) => read_whole(rt, name),
-        None => Ok(Vec::new(rt.alloc())),
-    }
-}
-
 /// Makes a recording that was opened into a complete file with these additions.
 fn complete_with<'a, R: Files<File: Hold> + AllocGlobal + Clock, E: Eprint + IsTerminal>(
     rt: &R,
@@ -230,19 +162,6 @@ fn complete_with<'a, R: Files<File: Hold> + AllocGlobal + Clock, E: Eprint + IsT
             put_or_give_up(rt, request.out, file, written)
         }
         Err(fault) => Err(misuse_of(fault, request)),
-    }
-}
-
-/// The time at tick 0.
-pub fn start_of<'a>(time: Option<&'a str>) -> Result<Option<UtcSecond>, CommandFault<'a>> {
-    let Some(text) = time else {
-        return Ok(None);
-    };
-    match UtcSecond::read(text) {
-        Some(start) => Ok(Some(start)),
-        None => Err(CommandFault::Usage(
-            "--time takes a time of 1970 to 2099 as YYYY-MM-DDTHH:MM:SS",
-        )),
     }
 }
 
@@ -284,52 +203,5 @@ fn print_skips<E: Eprint>(errors: &E, skips: &[Skip]) {
             "skipped {} length {} {}",
             skip.offset, skip.length, skip.fault
         );
-    }
-}
-
-/// Why a complete file was not written to its end.
-#[derive(Drop)]
-pub enum Unwritten {
-    /// A fault of the recording, of want of memory, or of the writer.
-    Completing(CompleteFault),
-    /// What the out file answered.
-    Out(io::Error),
-}
-
-impl From<CompleteFault> for Unwritten {
-    fn from(fault: CompleteFault) -> Unwritten {
-        Unwritten::Completing(fault)
-    }
-}
-
-impl From<io::Error> for Unwritten {
-    fn from(error: io::Error) -> Unwritten {
-        Unwritten::Out(error)
-    }
-}
-
-/// Writes a complete file.
-pub fn write_out<W: Write + Drop, S: Places + Drop>(
-    alloc: Global,
-    writer: W,
-    completion: Completion<'_, S>,
-) -> Result<(), Unwritten> {
-    let mut completion = completion;
-    let mut out = BufWriter::new(alloc, writer)?;
-    completion.write(alloc, &mut out)?;
-    out.flush()?;
-    Ok(())
-}
-
-/// That a complete file was written, or the fault, by the names of the recording and of the out file.
-pub fn answer_of_writing<'a>(
-    written: Result<(), Unwritten>,
-    recording: &'a str,
-    out: &'a str,
-) -> Result<(), CommandFault<'a>> {
-    match written {
-        Ok(()) => Ok(()),
-        Err(Unwritten::Completing(fault)) => Err(fault_of(fault, recording, out)),
-        Err(Unwritten::Out(error)) => Err(CommandFault::of_stream(out, &error)),
     }
 }

@@ -3,6 +3,7 @@
 use bench_check::{Bits, Way, check_job};
 use bench_settings::{DEFAULT_LIMIT, DEFAULT_QUEUE, DEFAULT_VERSION, Settings, judge};
 use clap::{ArgMatches, Command};
+use command_finishing::mistakes::{print_name, strict_verdict};
 use command_parts::dictionaries::signals_in;
 use command_parts::options::{command_of, file, flag, jobs, words_in};
 use command_parts::requests::{CommandFault, jobs_of, read_texts};
@@ -81,15 +82,6 @@ pub fn request_in<'a>(alloc: Global, given: &ArgMatches<'a>) -> Result<Request<'
         },
         signals: given.get_str("signals"),
     })
-}
-
-/// The fault of jobs in which something is probably a mistake, where that is to be one.
-pub fn strict_verdict<'a>(is_suspicious: bool) -> Result<(), CommandFault<'a>> {
-    if is_suspicious {
-        Err(CommandFault::Suspicious)
-    } else {
-        Ok(())
-    }
 }
 
 /// Tries jobs, one after the other, each under a line with the name of its file where there are several. All files
@@ -171,12 +163,6 @@ fn check_each<W: Write>(
         print_room(out, room)?;
     }
     Ok(is_suspicious)
-}
-
-/// Prints the name of a job's file above what is said of it.
-pub fn print_name<W: Write>(out: &mut W, name: &str) -> Result<(), WriteFault> {
-    writeln!(out, "{name}")?;
-    Ok(())
 }
 
 fn print_room<W: Write>(out: &mut W, room: u64) -> Result<(), WriteFault> {

@@ -4,25 +4,23 @@ use crate::signal_judging::run_with;
 use bench_files::{Hold, Kind};
 use bench_json::{JsonLines, JsonSource};
 use bench_judge::{
-    Judged, Lost, PassFault, PrintFault, RuleVerdict, count_lost, judge, junit_text, read_skips,
-    write_colored, write_verdicts,
+    Lost, PassFault, RuleVerdict, count_lost, junit_text, read_skips, write_verdicts,
 };
-use bench_names::ChannelNames;
 use bench_watch::Reopen;
 use ch11_reader::Skip;
 use clap::{ArgMatches, Command};
+use command_finishing::verdicts::{Spelled, fault_of_pass, print_verdicts};
 use command_parts::dictionaries::dictionary_in;
 use command_parts::hosts::System;
 use command_parts::looking::tell_of_unknown;
 use command_parts::options::{argument, command_of, file, flag, force, json, optional};
-use command_parts::recordings::{Recording, Source, fault_of_reading};
+use command_parts::recordings::{Recording, Source};
 use command_parts::replacing::may_write;
 use command_parts::requests::{
     CommandFault, junit_of, read_whole, recording_first, rules_asked, rules_text, verdict_on,
     write_new,
 };
 use command_parts::streams::{listing, on_stream};
-use command_parts::terminals::is_for_people;
 use judge_rules::{Check, Rule};
 use std::alloc::{AllocError, Global};
 use std::io::{BufWriter, IsTerminal};
@@ -108,52 +106,6 @@ pub fn request_in<'a>(given: &ArgMatches<'a>) -> Request<'a> {
 
 /// What the rules are named by where there is no file of them.
 pub(crate) const STANDARD: &str = "standard rule";
-
-/// Rules, and the text that spells them.
-#[derive(Clone, Copy)]
-pub struct Spelled<'r> {
-    /// The name of the file.
-    pub file: &'r str,
-    /// The text.
-    pub text: &'r [u8],
-    /// The rules that it spells.
-    pub rules: &'r [Rule],
-    /// The first time of day of each channel of the recording that has one, from which the times of rules count.
-    pub origins: &'r [Option<u64>],
-    /// The bytes of the recording's file that are skipped, where it is damaged and packets are told.
-    pub skips: &'r [Skip],
-}
-
-impl<'r> Spelled<'r> {
-    /// The rules with these verdicts.
-    fn judged(&self, verdicts: &'r [RuleVerdict]) -> Judged<'r> {
-        Judged {
-            file: self.file.as_bytes(),
-            text: self.text,
-            rules: self.rules,
-            origins: self.origins,
-            skips: self.skips,
-            verdicts,
-        }
-    }
-}
-
-/// The fault of a recording with this name that was not judged to its end.
-pub fn fault_of_pass<'a>(name: &'a str, fault: PassFault) -> CommandFault<'a> {
-    match fault {
-        PassFault::Opening(error) => CommandFault::of_stream(name, &error),
-        PassFault::Recording(fault) => fault_of_reading(name, fault),
-        PassFault::Printing(fault) => fault_of_printing(fault),
-    }
-}
-
-/// The fault of verdicts that were not printed to their end.
-fn fault_of_printing<'a>(fault: PrintFault) -> CommandFault<'a> {
-    match fault {
-        PrintFault::Memory => CommandFault::Memory,
-        PrintFault::Device(error) => CommandFault::of_stream("-", &error),
-    }
-}
 
 /// Says that messages are missing from a recording, and how many packets say so, where any do.
 pub(crate) fn tell_lost<E: Eprint>(errors: &E, lost: &Lost) {
@@ -304,19 +256,6 @@ pub(crate) fn lost_of<'a, R: Files + AllocGlobal + Clock, E: Eprint + IsTerminal
     }
 }
 
-/// Judges the recording with this name by these rules and prints the verdicts.
-pub fn print_verdicts<'a, R: System, E: Eprint + IsTerminal>(
-    rt: &R,
-    name: &'a str,
-    recording: &Recording<'_, 'a, R, E>,
-    spelled: Spelled<'_>,
-) -> Result<Vec<RuleVerdict>, CommandFault<'a>> {
-    match print_judged(rt, recording, spelled) {
-        Ok(verdicts) => Ok(verdicts),
-        Err(fault) => Err(fault_of_pass(name, fault)),
-    }
-}
-
 /// Judges the recording with this name by these rules and prints the verdicts as JSON lines.
 fn print_json<'a, R: System, E: Eprint + IsTerminal>(
     rt: &R,
@@ -332,29 +271,6 @@ fn print_json<'a, R: System, E: Eprint + IsTerminal>(
         Ok(verdicts) => Ok(verdicts),
         Err(fault) => Err(fault_of_pass(name, fault)),
     }
-}
-
-/// Prints the verdicts of these rules, for people where they go to a terminal.
-fn print_judged<R: System, E: Eprint + IsTerminal>(
-    rt: &R,
-    recording: &Recording<'_, '_, R, E>,
-    spelled: Spelled<'_>,
-) -> Result<Vec<RuleVerdict>, PassFault> {
-    let alloc = rt.alloc();
-    let (rules, origins, skips) = (spelled.rules, spelled.origins, spelled.skips);
-    let mut out = BufWriter::new(alloc, listing(rt))?;
-    if !is_for_people(rt) {
-        return write_verdicts(alloc, recording, rules, origins, skips, &mut out);
-    }
-    let verdicts = match recording.reopen() {
-        Ok(input) => judge(alloc, input, rules, origins)?,
-        Err(error) => return Err(PassFault::Opening(error)),
-    };
-    let front = recording.front()?;
-    let names = ChannelNames::of(front.as_slice());
-    let judged = spelled.judged(verdicts.as_slice());
-    write_colored(alloc, recording, names, judged, &mut out)?;
-    Ok(verdicts)
 }
 
 /// Writes the JUnit file if it could be made.

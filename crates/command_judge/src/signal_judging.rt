@@ -1,55 +1,20 @@
 //! `bench judge --signals`: whether a recording is what rules expect that may name signals.
 
 use crate::judging::{
-    Request, STANDARD, fault_of_pass, given_rules, lent, lost_of, skips_of, tell_lost,
-    tells_packets, write_report,
+    Request, STANDARD, given_rules, lent, lost_of, skips_of, tell_lost, tells_packets, write_report,
 };
 use bench_json::{JsonLines, JsonSource};
 use bench_judge::{Lost, RuleVerdict};
-use ch11_reader::Skip;
+use command_finishing::signal_verdicts::{AllSpelled, print_all_verdicts, rules_among};
+use command_finishing::verdicts::fault_of_pass;
 use command_parts::hosts::System;
 use command_parts::looking::tell_of_unknown;
 use command_parts::recordings::{Recording, Source};
 use command_parts::requests::{CommandFault, junit_of, rules_text, verdict_on};
 use command_parts::streams::{listing, on_stream};
-use judge_rules::{RuleError, RuleFault};
 use signal_dictionary::Signal;
-use signal_judge::{AllJudged, AllRules, junit_of_all, read_all_rules, write_all_verdicts};
-use std::alloc::Global;
+use signal_judge::{AllJudged, junit_of_all, write_all_verdicts};
 use std::io::{BufWriter, IsTerminal};
-
-/// Rules that may name signals, and the text that spells them.
-#[derive(Clone, Copy)]
-pub struct AllSpelled<'r, 'd> {
-    /// The text.
-    pub text: &'r [u8],
-    /// The rules that it spells.
-    pub rules: &'r AllRules<'d>,
-    /// The first time of day of each channel of the recording that has one, from which the times of rules count.
-    pub origins: &'r [Option<u64>],
-    /// The bytes of the recording's file that are skipped, where it is damaged and packets are told.
-    pub skips: &'r [Skip],
-}
-
-/// The fault of rules that were refused.
-fn fault_of_rules<'a>(error: RuleError) -> CommandFault<'a> {
-    match error.fault {
-        RuleFault::Memory => CommandFault::Memory,
-        RuleFault::Word | RuleFault::Number | RuleFault::Range => CommandFault::Rules(error),
-    }
-}
-
-/// The rules that a text spells, which may name these signals, or their first fault.
-pub fn rules_among<'a, 'd>(
-    alloc: Global,
-    text: &[u8],
-    signals: &'d [Signal],
-) -> Result<AllRules<'d>, CommandFault<'a>> {
-    match read_all_rules(alloc, text, signals) {
-        Ok(rules) => Ok(rules),
-        Err(error) => Err(fault_of_rules(error)),
-    }
-}
 
 /// Judges a recording by rules that may name these signals, as `bench judge` does without signals.
 pub(crate) fn run_with<'a, R: System, E: Eprint + IsTerminal>(
@@ -138,23 +103,7 @@ fn judge_by<'a, R: System, E: Eprint + IsTerminal>(
     verdict_on(verdicts.as_slice())
 }
 
-/// Judges the recording with this name by these rules and prints the verdicts.
-pub fn print_all_verdicts<'a, R: System, E: Eprint + IsTerminal>(
-    rt: &R,
-    name: &'a str,
-    recording: &Recording<'_, 'a, R, E>,
-    spelled: AllSpelled<'_, '_>,
-) -> Result<Vec<RuleVerdict>, CommandFault<'a>> {
-    let alloc = rt.alloc();
-    let mut out = on_stream("-", BufWriter::new(alloc, listing(rt)))?;
-    let (rules, origins, skips) = (spelled.rules, spelled.origins, spelled.skips);
-    match write_all_verdicts(alloc, recording, rules, origins, skips, &mut out) {
-        Ok(verdicts) => Ok(verdicts.in_order(alloc)?),
-        Err(fault) => Err(fault_of_pass(name, fault)),
-    }
-}
-
-/// The same as JSON lines.
+/// Judges the recording with this name by these rules and prints the verdicts as JSON lines.
 fn print_json<'a, R: System, E: Eprint + IsTerminal>(
     rt: &R,
     name: &'a str,

@@ -8,7 +8,7 @@ use bench_report::Report;
 use bench_run::RunError;
 use ch11_writer::MemorySink;
 use clap::ArgMatches;
-use command_export::completing::{
+use command_finishing::completing::{
     answer_of_writing, fault_of, second_time, start_of, time, time_channel, time_channel_in,
     write_out,
 };

@@ -2,8 +2,8 @@
 
 use bench_files::leads_to_output;
 use bench_judge::{PassFault, RuleVerdict, write_verdicts};
-use command_judge::judging::{Spelled, fault_of_pass, print_verdicts};
-use command_judge::signal_judging::{AllSpelled, print_all_verdicts, rules_among};
+use command_finishing::signal_verdicts::{AllSpelled, print_all_verdicts, rules_among};
+use command_finishing::verdicts::{Spelled, fault_of_pass, print_verdicts};
 use command_parts::hosts::System;
 use command_parts::options::{Row, file, value};
 use command_parts::recordings::{Recording, Source};

@@ -3,9 +3,8 @@
 //!
 //! It may know: what commands share, files, jobs, the writer, reports, rules, dictionaries of signals, decoded
 //! messages, words of a text, what runs share, mailboxes, runs, `bench_run_command` and `bench_live`; of what a
-//! recording comes to `bench_complete`, `bench_judge`, `signal_judge`, `bench_check`, `command_export` and
-//! `command_judge`. It has no tests: the command is tried by `.ci/commands`, and its faults by `.ci/faults`. It has no
-//! wrong bodies.
+//! recording comes to `command_finishing`, `bench_complete`, `bench_judge`, `signal_judge` and `bench_check`. It has no
+//! tests: the command is tried by `.ci/commands`, and its faults by `.ci/faults`. It has no wrong bodies.
 #![tactic(auto)]
 
 mod completed_run;

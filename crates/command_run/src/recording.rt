@@ -12,8 +12,8 @@ use bench_report::Report;
 use bench_run_command::{Counts, print_counts, refusals};
 use bench_settings::judge;
 use ch11_writer::StdSink;
-use command_export::completing::setup_text;
-use command_judge::checking::strict_verdict;
+use command_finishing::completing::setup_text;
+use command_finishing::mistakes::strict_verdict;
 use command_parts::dictionaries::signals_in;
 use command_parts::hosts::{Errors, Host};
 use command_parts::requests::{

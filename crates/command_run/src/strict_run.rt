@@ -2,7 +2,7 @@
 
 use crate::judged_run::ErrorStream;
 use bench_check::{mistakes_in, print_mistakes};
-use command_judge::checking::print_name;
+use command_finishing::mistakes::print_name;
 use command_parts::options::{Row, flag};
 use command_parts::requests::{CommandFault, RunRequest};
 use command_parts::streams::flushed;
