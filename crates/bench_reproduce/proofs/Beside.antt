@@ -7,14 +7,13 @@ use Rattle.ch11_layout.specs.Stamps.{Recorded}
 use Rattle.frame_tree.specs.Bounds.{IsSound}
 use Rattle.bc_machine.specs.Running.{MachineState}
 use Rattle.bc_machine.specs.declared.placed.Placed.{Placed}
-use Rattle.job_file.specs.Jobs.{JobState, job_in}
 use Rattle.job_file.specs.Machines.{IsOf}
 use Rattle.job_file.specs.Meaning.{records}
 use Rattle.job_file.specs.Spelled.{ChannelJob}
 use Rattle.bench_compare.specs.Channels.{origins_by}
 use Rattle.bench_compare.specs.Differences.{first_stamp, origins_of}
 use Rattle.bench_compare.specs.declared.differences.Origins.{Origins}
-use Rattle.bench_reproduce.specs.Readings.{read_again, run_of}
+use Rattle.bench_reproduce.specs.Readings.{read_again}
 use Rattle.bench_reproduce.specs.Running.{ComparesNext, IsCompared, stamp_or, told_from}
 use Rattle.bench_reproduce.specs.Sameness.{is_same, places, same_in, same_up_to}
 use Rattle.bench_reproduce.specs.declared.judging.Standing.{Standing}
@@ -37,18 +36,18 @@ next_is job placed m now None here more all same sound of =
     let end : m.point.number ≡ length (records job placed) = all job placed sound of in
     (sym (slice_get_past (records job placed) m.point.number (omega (arith, end))), omega (arith, end, same))
 
--- a message was compared with it, under whatever placed actions the controller is of the job
-pub compares_under : {E : Type 0} (result : Result (Unit {0}) E) (job : ChannelJob) (m after : MachineState) (r : Option Record) (before now : Standing) (a : Recorded)
+-- a message was compared with it, whatever job and placed actions the controller is of
+pub compares_under : {E : Type 0} (result : Result (Unit {0}) E) (m after : MachineState) (r : Option Record) (before now : Standing) (a : Recorded)
     → OnOk result (IsCompared before a r now)
-    → ((placed : List Placed) → IsOf job placed m → (r ≡ slice_get (records job placed) m.point.number) × (after.point.number ≡ min (m.point.number + 1) (length (records job placed))))
-    → OnOk result ((placed : List Placed) → IsOf job placed m → ComparesNext (records job placed) m.point.number after.point.number before a now)
-compares_under (Ok x) job m after r before now a compared next = λ placed of.
-    let is = next placed of in
+    → ((job : ChannelJob) (placed : List Placed) → IsSound job.tree → IsOf job placed m → (r ≡ slice_get (records job placed) m.point.number) × (after.point.number ≡ min (m.point.number + 1) (length (records job placed))))
+    → OnOk result ((job : ChannelJob) (placed : List Placed) → IsSound job.tree → IsOf job placed m → ComparesNext (records job placed) m.point.number after.point.number before a now)
+compares_under (Ok x) m after r before now a compared next = λ job placed sound of.
+    let is = next job placed sound of in
     record {
       next = is.1;
       compared = subst (λ (o : Option Record). IsCompared before a o now) is.0 compared;
     }
-compares_under (Err e) job m after r before now a compared next = tt
+compares_under (Err e) m after r before now a compared next = tt
 
 one_or_none : (b : Bool) → cond b 1 0 ≤ 1
 one_or_none true = omega arith
@@ -151,18 +150,3 @@ all_compared xs rs n made st k all =
         by : (k < n) ⊎ (n ≤ k) → (more : ℕ) × (max k n ≡ more + k)
         by (inl less) = (n - k, omega (arith, less))
         by (inr past) = (0, omega (arith, past))
-
--- ---- a job whose actions were handed over
-
-pub of_rest : (job rest : JobState) (m : MachineState) → rest ≡ record job { actions = [] } → IsOf (job_in job) job.actions m → IsOf (job_in rest) job.actions m
-of_rest job rest m is of =
-    subst (λ (j : JobState). IsOf (job_in j) job.actions m) (sym is) (record {
-      code = of.code;
-      plan = of.plan;
-      actions = of.actions;
-      begun = of.begun;
-      under_way = of.under_way;
-    })
-
-pub run_of_rest : (job rest : JobState) → rest ≡ record job { actions = [] } → map read_again (records (job_in rest) job.actions) ≡ run_of (job_in job)
-run_of_rest job rest is = ap (λ (j : JobState). map read_again (records (job_in j) job.actions)) is

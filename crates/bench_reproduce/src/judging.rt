@@ -8,9 +8,11 @@ ghost use Rattle.byteorder.specs.Endian.{little_bytes};
 ghost use Rattle.ch11_f1.specs.Again.{as_message};
 ghost use Rattle.ch11_f1.specs.BodyBytes.{words_of};
 ghost use Rattle.ch11_f1.specs.Views.{message_of};
+ghost use Rattle.frame_tree.specs.Bounds.{IsSound};
 ghost use Rattle.job_file.specs.Jobs.{job_in};
 ghost use Rattle.job_file.specs.Machines.{IsOf};
 ghost use Rattle.job_file.specs.Meaning.{records};
+ghost use Rattle.job_file.specs.Spelled.{ChannelJob};
 ghost use Rattle.std.specs.List.{flat_map};
 ghost use Rattle.std.specs.Prelude.{◌≡◌, ◌+◌, ◌≤◌, ◌<◌, if◌then◌else◌, List, Some, None, map, take, option_map};
 ghost use Rattle.std.specs.Prelude.{length};
@@ -199,51 +201,44 @@ fn compare_at(
     }
 }
 
-/// Compares a message with the next record of a job.
+/// Compares a message with the next record of a job, whose controller this is.
 fn compare_next(
     alloc: Global,
-    job: &Job,
     machine: &mut Machine,
     standing: &mut Standing,
     number: u64,
     kept: &Kept,
 ) -> Result<(), AllocError>
     requires { standing.old.same < number }
-    ensures of_job { (placed : List Placed) → IsOf (job_in job.now) placed machine.old
-        → IsOf (job_in job.now) placed machine.new }
-    ensures next { OnOk result ((placed : List Placed) → IsOf (job_in job.now) placed machine.old
-        → ComparesNext (records (job_in job.now) placed) machine.old.point.number machine.new.point.number
+    ensures of_job { (job : ChannelJob) (placed : List Placed) → IsOf job placed machine.old
+        → IsOf job placed machine.new }
+    ensures next { OnOk result ((job : ChannelJob) (placed : List Placed) → IsSound job.tree
+        → IsOf job placed machine.old
+        → ComparesNext (records job placed) machine.old.point.number machine.new.point.number
         standing.old kept.now standing.new) }
     ensures more { OnOk result (standing.new.same ≤ standing.old.same + 1) }
 {
-    // A job's script is sound by its type.
-    let _sound = job.program();
     let record = next_record(machine);
     compare_at(alloc, standing, number, kept, &record)
 }
 
-/// Lets a job run to its end.
-fn run_on(job: &Job, machine: &mut Machine)
-    ensures { (placed : List Placed) → IsOf (job_in job.now) placed machine.old
-        → machine.new.point.number ≡ length (records (job_in job.now) placed) }
+/// Lets a job run to its end, whose controller this is.
+fn run_on(machine: &mut Machine)
+    ensures { (job : ChannelJob) (placed : List Placed) → IsSound job.tree → IsOf job placed machine.old
+        → machine.new.point.number ≡ length (records job placed) }
 {
-    // A job's script is sound by its type.
-    let _sound = job.program();
     'records: while let Some(_record) = next_record(machine) {}
 }
 
-/// Compares the records of a job, whose controller has made none, with the messages that were recorded.
-fn compare_all(
-    alloc: Global,
-    job: &Job,
-    machine: &mut Machine,
-    heard: &[Kept],
-) -> Result<Verdict, AllocError>
+/// Compares the records of a job, whose controller this is, and has made none, with the messages that were recorded.
+fn compare_all(alloc: Global, machine: &mut Machine, heard: &[Kept]) -> Result<Verdict, AllocError>
     requires { machine.old.point.number ≡ 0 }
-    ensures messages { IfOk result (λ v. (placed : List Placed) → IsOf (job_in job.now) placed machine.old
-        → v.messages ≡ places heard.now (map read_again (records (job_in job.now) placed))) }
-    ensures same { IfOk result (λ v. (placed : List Placed) → IsOf (job_in job.now) placed machine.old
-        → v.same ≡ same_in heard.now (map read_again (records (job_in job.now) placed))) }
+    ensures messages { IfOk result (λ v. (job : ChannelJob) (placed : List Placed) → IsSound job.tree
+        → IsOf job placed machine.old
+        → v.messages ≡ places heard.now (map read_again (records job placed))) }
+    ensures same { IfOk result (λ v. (job : ChannelJob) (placed : List Placed) → IsSound job.tree
+        → IsOf job placed machine.old
+        → v.same ≡ same_in heard.now (map read_again (records job placed))) }
 {
     let mut standing = Standing {
         origins: None,
@@ -252,9 +247,9 @@ fn compare_all(
     };
     'messages: for place in 0..heard.len() {
         let number = place as u64 + 1;
-        compare_next(alloc, job, machine, &mut standing, number, &heard[place])?;
+        compare_next(alloc, machine, &mut standing, number, &heard[place])?;
     }
-    run_on(job, machine);
+    run_on(machine);
     Ok(Verdict {
         messages: u64::from(machine.number()).max(heard.len() as u64),
         same: standing.same,
@@ -262,12 +257,14 @@ fn compare_all(
     })
 }
 
-/// Runs a job and compares its records with the messages that were recorded. Its actions stand in memory once.
+/// Runs a job and compares its records with the messages that were recorded. What the job has stands in memory once.
 pub(crate) fn judge(alloc: Global, job: Job, heard: &[Kept]) -> Result<Verdict, AllocError>
     ensures messages { IfOk result (λ v. v.messages ≡ places heard.now (run_of (job_in job))) }
     ensures same { IfOk result (λ v. v.same ≡ same_in heard.now (run_of (job_in job))) }
 {
-    let (rest, mut machine) = job.into_machine(alloc)?;
-    let verdict = compare_all(alloc, &rest, &mut machine, heard)?;
+    // A job's script is sound by its type.
+    let _sound = job.program();
+    let mut machine = job.into_machine(alloc)?;
+    let verdict = compare_all(alloc, &mut machine, heard)?;
     Ok(verdict)
 }

@@ -201,8 +201,19 @@ impl Job {
     {
         let program = self.program.copy()?;
         let placed = placed.copy()?;
-        match Bus::make(alloc, self.start, self.addresses.as_slice()) {
+        match self.bus(alloc) {
             Ok(bus) => Ok(Machine::start(program, bus, plan, placed)),
+            Err(error) => Err(error),
+        }
+    }
+
+    /// The bus with new terminals, before any message. It fails for want of memory alone.
+    fn bus(&self, alloc: Global) -> Result<Bus, AllocError>
+        ensures value { IfOk result (λ b. b ≡ bus_of (job_in self.now)) }
+        ensures now { IfOk result (λ b. now_of b ≤ 2 ^ 47) }
+    {
+        match Bus::make(alloc, self.start, self.addresses.as_slice()) {
+            Ok(bus) => Ok(bus),
             Err(_) => Err(AllocError),
         }
     }
@@ -221,50 +232,20 @@ impl Job {
         Ok(self.machine_under(alloc, plan, placed)?)
     }
 
-    /// A controller at the beginning of the job's program, on a bus with new terminals, under the job's planned faults
-    /// and its own placed actions, which it takes over, so that memory holds them once; and the job without them. It
-    /// fails for want of memory alone.
+    /// The job's controller before any message, on a bus with new terminals, under the job's planned faults and its own
+    /// placed actions: it takes over what the job has, so that memory holds that once. It fails for want of memory
+    /// alone.
     #[tactic(auto, using(crate::proofs::JobRuns::starts_as))]
-    pub fn into_machine(self, alloc: Global) -> Result<(Job, Machine), AllocError>
-        ensures rest { IfOk result (λ r. r.0 ≡ record self { actions = [] }) }
+    pub fn into_machine(self, alloc: Global) -> Result<Machine, AllocError>
         ensures value { IfOk result
-            (λ r. r.1 ≡ started (code_of_tree (tree_in self)) (bus_of (job_in self)) self.plan self.actions) }
-        ensures of_job { IfOk result (λ r. IsOf (job_in self) self.actions r.1) }
-        ensures told { IfOk result (λ r. IsLatestOutcome r.1) }
+            (λ m. m ≡ started (code_of_tree (tree_in self)) (bus_of (job_in self)) self.plan self.actions) }
+        ensures of_job { IfOk result (λ m. IsOf (job_in self) self.actions m) }
+        ensures told { IfOk result (λ m. IsLatestOutcome m) }
     {
-        match self.beginning(alloc) {
-            Ok((program, plan, bus)) => {
-                let machine = Machine::start(program, bus, plan, self.actions);
-                let rest = Job {
-                    channel: self.channel,
-                    start: self.start,
-                    addresses: self.addresses,
-                    actions: Actions::new(alloc),
-                    plan: self.plan,
-                    program: self.program,
-                    script: self.script,
-                    own: self.own,
-                    timed: self.timed,
-                };
-                Ok((rest, machine))
-            }
+        match self.bus(alloc) {
+            Ok(bus) => Ok(Machine::start(self.program, bus, self.plan, self.actions)),
             Err(error) => Err(error),
         }
-    }
-
-    /// What a controller of the job begins with, besides actions: its program and its plan once more, and a bus with new
-    /// terminals. It fails for want of memory alone.
-    fn beginning(&self, alloc: Global) -> Result<(Program, Plan, Bus), AllocError>
-        ensures program { IfOk result (λ r. r.0 ≡ code_of_tree (tree_in self.now)) }
-        ensures plan { IfOk result (λ r. r.1 ≡ self.now.plan) }
-        ensures bus { IfOk result (λ r. r.2 ≡ bus_of (job_in self.now)) }
-        ensures now { IfOk result (λ r. now_of r.2 ≤ 2 ^ 47) }
-    {
-        let Ok(bus) = Bus::make(alloc, self.start, self.addresses.as_slice()) else {
-            return Err(AllocError);
-        };
-        let plan = self.plan.copy()?;
-        Ok((self.program.copy()?, plan, bus))
     }
 
     /// The same job with other actions and another plan, where its own actions were those that its lines place by
