@@ -1,10 +1,8 @@
 //! The commands of `bench`: which of them is asked for is done, and how the process ends then.
 
 use crate::command_line::{self, Asked, Request};
-use crate::damaged::tell_of_cut;
 use crate::given_words::{word_at_fault, words_of};
-use crate::left::tell_of_part;
-use crate::pointing::point;
+use crate::naming::named_in;
 use clap::Error;
 use clap::error::ErrorKind;
 use command_export::{completing, drawing, exporting, signalling};
@@ -13,6 +11,7 @@ use command_listing::{dumping, statistics};
 use command_material::{comparing, cutting};
 use command_parts::hosts::{Errors, Host};
 use command_parts::requests::CommandFault;
+use command_remedies::explain_fault;
 use command_reproduce::reproducing;
 use command_step::{assembling, explaining, one_message, stepping};
 use command_view::viewing;
@@ -88,9 +87,9 @@ fn give_up<R: Host, E: Errors>(
         _ if fault.status() == USAGE => misused(rt, errors, fault),
         _ => {
             let status = stop(errors, fault);
-            point(rt, errors, asked, fault);
-            tell_of_part(rt, errors, asked, fault);
-            tell_of_cut(errors, asked, fault);
+            if asked.context.is_shown() {
+                explain_fault(rt, errors, &named_in(&asked.request), fault);
+            }
             status
         }
     }

@@ -1,8 +1,7 @@
 //! What is said of a file that is of another kind than the one that is read in its place.
 
-use crate::command_line::Request;
+use crate::named::Named;
 use bench_files::{Kind, is_of_kind};
-use command_listing::dumping;
 use command_parts::looking::is_lossy;
 use std::alloc::AllocError;
 use std::fmt::Write;
@@ -136,7 +135,7 @@ fn is_one_of(word: &[u8], words: &[&str]) -> bool {
 /// or does not tell.
 pub(crate) fn other_in_place<R: AllocGlobal>(
     rt: &R,
-    request: &Request<'_>,
+    named: &Named<'_, '_>,
     wanted: Content,
     name: &str,
     text: &[u8],
@@ -150,7 +149,7 @@ pub(crate) fn other_in_place<R: AllocGlobal>(
     let told = found.told();
     let mut out = String::new(rt.alloc());
     write!(out, "  {name} is {told}\n")?;
-    out.push_str(order_of(request))?;
+    out.push_str(named.order)?;
     if found == Content::Recording && is_lossy(rt.alloc(), text) {
         out.push_str(
             "  messages are missing from this recording: packets with the overflow flag\n",
@@ -159,25 +158,13 @@ pub(crate) fn other_in_place<R: AllocGlobal>(
     Ok(Some(out))
 }
 
-/// In which order a command takes files of more than one kind.
-fn order_of(request: &Request<'_>) -> &'static str {
-    match request {
-        Request::Step(_) => {
-            "  bench step takes the recording, then the report of its run, then the jobs of it\n"
-        }
-        Request::Judge(_) => "  bench judge takes the recording, then the rules\n",
-        Request::Signals(_) => "  bench signals takes the recording, then the dictionary\n",
-        _ => "",
-    }
-}
-
 /// The same of a file that is read as a recording: its beginning is read once more, where it is a plain file.
 pub(crate) fn no_recording<R: Files + AllocGlobal>(
     rt: &R,
-    request: &Request<'_>,
+    named: &Named<'_, '_>,
 ) -> Result<Option<String>, AllocError> {
-    match recording_in(request) {
-        Some(name) => named_no_recording(rt, request, name),
+    match named.recording {
+        Some(name) => named_no_recording(rt, named, name),
         None => Ok(None),
     }
 }
@@ -185,14 +172,14 @@ pub(crate) fn no_recording<R: Files + AllocGlobal>(
 /// The same of the file with this name.
 pub(crate) fn named_no_recording<R: Files + AllocGlobal>(
     rt: &R,
-    request: &Request<'_>,
+    named: &Named<'_, '_>,
     name: &str,
 ) -> Result<Option<String>, AllocError> {
     let mut beginning = vec![in rt.alloc(); 0u8; BEGINNING]?;
     match read_beginning(rt, name, &mut beginning) {
         Some(count) => {
             let (text, _) = beginning.split_at(count.min(beginning.len()));
-            other_in_place(rt, request, Content::Recording, name, text)
+            other_in_place(rt, named, Content::Recording, name, text)
         }
         None => Ok(None),
     }
@@ -206,23 +193,4 @@ fn read_beginning<R: Files>(rt: &R, name: &str, beginning: &mut [u8]) -> Option<
     }
     let mut file = fs::open(rt, name).ok()?;
     file.read(beginning).ok()
-}
-
-/// The file that a request names as a recording, if any.
-fn recording_in<'a>(request: &Request<'a>) -> Option<&'a str> {
-    match request {
-        Request::Dump(dumping::Request::Packets(packets)) => Some(packets.recording),
-        Request::Dump(dumping::Request::Messages(messages)) => Some(messages.recording),
-        Request::Stat(request) => Some(request.recording),
-        Request::Export(request) => Some(request.extract.recording),
-        Request::Signals(request) => Some(request.extract.recording),
-        Request::Draw(request) => Some(request.showing.extract.recording),
-        Request::View(request) => Some(request.showing.extract.recording),
-        Request::Complete(request) => Some(request.recording),
-        Request::Judge(request) => Some(request.recording),
-        Request::Cut(request) => Some(request.extract.recording),
-        Request::Reproduce(request) => Some(request.recording),
-        Request::Step(request) => Some(request.recording),
-        _ => None,
-    }
 }

@@ -2,9 +2,9 @@
 //! reason, the system's own words, or what the fault's code means. The line itself and the exit status stay as they
 //! are.
 
-use crate::command_line::{Asked, Request};
 use crate::differing::difference_of;
 use crate::misplaced::{Content, named_no_recording, no_recording, other_in_place};
+use crate::named::Named;
 use crate::reasoning::{reason_of_dictionary, reason_of_job, reason_of_rules, reason_of_script};
 use crate::refusing::refusal_of;
 use bench_assemble::AssembleFault;
@@ -12,7 +12,6 @@ use bench_explain::explain;
 use bench_one::OneFault;
 use bench_reasons::{Place, Reason, Text, explained, put_place};
 use ch11_reader::Refusal;
-use command_listing::dumping;
 use command_parts::requests::{CommandFault, read_again};
 use frame_text::Cause;
 use job_file::{JobError, read_job};
@@ -24,17 +23,14 @@ use std::io;
 use std::io::IsTerminal;
 use std::rt::Files;
 
-/// Explains a fault behind its line, unless that is to stand alone. A text is read once more for it, and where that
-/// fails, or memory is refused, nothing is shown.
-pub fn point<R: Files + AllocGlobal, E: Eprint + IsTerminal>(
+/// Explains a fault behind its line. A text is read once more for it, and where that fails, or memory is refused,
+/// nothing is shown.
+pub(crate) fn point<R: Files + AllocGlobal, E: Eprint + IsTerminal>(
     rt: &R,
     errors: &E,
-    asked: &Asked<'_>,
+    named: &Named<'_, '_>,
     fault: &CommandFault<'_>,
 ) {
-    if !asked.context.is_shown() {
-        return;
-    }
     if let CommandFault::System { code, .. } = fault {
         let error = io::Error::from_raw_os_error(*code);
         // Nothing else is lost where standard error takes no more.
@@ -48,7 +44,7 @@ pub fn point<R: Files + AllocGlobal, E: Eprint + IsTerminal>(
         );
         return;
     }
-    if let Ok(text) = lines_of(rt, &asked.request, fault) {
+    if let Ok(text) = lines_of(rt, named, fault) {
         // Nothing else is lost where standard error takes no more.
         let _ = eprint!(errors; "{text}");
     }
@@ -57,10 +53,10 @@ pub fn point<R: Files + AllocGlobal, E: Eprint + IsTerminal>(
 /// The lines that explain a fault; those of its code where there is nothing else to say.
 fn lines_of<R: Files + AllocGlobal>(
     rt: &R,
-    request: &Request<'_>,
+    named: &Named<'_, '_>,
     fault: &CommandFault<'_>,
 ) -> Result<String, AllocError> {
-    match particular(rt, request, fault)? {
+    match particular(rt, named, fault)? {
         Some(text) => Ok(text),
         None => meaning(rt, fault),
     }
@@ -69,28 +65,26 @@ fn lines_of<R: Files + AllocGlobal>(
 /// What there is to say of this fault in these files.
 fn particular<R: Files + AllocGlobal>(
     rt: &R,
-    request: &Request<'_>,
+    named: &Named<'_, '_>,
     fault: &CommandFault<'_>,
 ) -> Result<Option<String>, AllocError> {
-    match (fault, request) {
-        (CommandFault::Text(OneFault::Text { cause, place }), Request::One(one)) => {
-            text_lines(rt, "TEXT", one.text.as_bytes(), Text::Send, *cause, *place)
+    match fault {
+        CommandFault::Text(OneFault::Text { cause, place }) => {
+            let text = named.text.unwrap_or("").as_bytes();
+            text_lines(rt, "TEXT", text, Text::Send, *cause, *place)
         }
-        (CommandFault::Script(AssembleFault::Text { cause, place }), Request::Assemble(assemble)) =>
-            { script_at_fault(rt, request, assemble.script, *cause, *place) }
-        (CommandFault::Job(error), _) => job_at_fault(rt, request, error),
-        (CommandFault::Run(error), _) => refusal_of(rt, request, *error),
-        (CommandFault::Recording(refusal), _) if refusal.offset == 0 => no_recording(rt, request),
-        (CommandFault::OneOfTwo { name, refusal }, _) => one_of_two(rt, request, name, *refusal),
-        (CommandFault::Report(error), Request::Step(step)) => {
-            report_at_fault(rt, request, step.report, error.line, fault)
+        CommandFault::Script(AssembleFault::Text { cause, place }) => {
+            script_at_fault(rt, named, *cause, *place)
         }
-        (CommandFault::Rules(error), _) => rules_at_fault(rt, request, error),
-        (CommandFault::Dictionary(error), _) => dictionary_at_fault(rt, request, error),
-        (CommandFault::NoneSelected, _) => crossed_bounds(rt, request),
-        (CommandFault::Mismatch { channel, number }, Request::Step(step)) => {
-            difference_of(rt, step, *channel, *number)
-        }
+        CommandFault::Job(error) => job_at_fault(rt, named, error),
+        CommandFault::Run(error) => refusal_of(rt, named, *error),
+        CommandFault::Recording(refusal) if refusal.offset == 0 => no_recording(rt, named),
+        CommandFault::OneOfTwo { name, refusal } => one_of_two(rt, named, name, *refusal),
+        CommandFault::Report(error) => report_at_fault(rt, named, error.line, fault),
+        CommandFault::Rules(error) => rules_at_fault(rt, named, error),
+        CommandFault::Dictionary(error) => dictionary_at_fault(rt, named, error),
+        CommandFault::NoneSelected => crossed_bounds(rt, named),
+        CommandFault::Mismatch { channel, number } => difference_of(rt, named, *channel, *number),
         _ => Ok(None),
     }
 }
@@ -99,12 +93,12 @@ fn particular<R: Files + AllocGlobal>(
 /// fault's code means.
 fn one_of_two<R: Files + AllocGlobal>(
     rt: &R,
-    request: &Request<'_>,
+    named: &Named<'_, '_>,
     name: &str,
     refusal: Refusal,
 ) -> Result<Option<String>, AllocError> {
     if refusal.offset == 0 {
-        let lines = named_no_recording(rt, request, name)?;
+        let lines = named_no_recording(rt, named, name)?;
         if lines.is_some() {
             return Ok(lines);
         }
@@ -115,29 +109,21 @@ fn one_of_two<R: Files + AllocGlobal>(
     Ok(Some(out))
 }
 
-/// The jobs that a request names.
-fn jobs_in<'r, 'a>(request: &'r Request<'a>) -> &'r [&'a str] {
-    match request {
-        Request::Run(request) => request.run.jobs.as_slice(),
-        Request::Check(request) => request.jobs.as_slice(),
-        Request::Step(step) => step.jobs.as_slice(),
-        _ => &[],
-    }
-}
-
-/// Why the script in this file is refused, as lines: that it is of another kind, or the reason of its text.
+/// Why the script that is named is refused, as lines: that it is of another kind, or the reason of its text.
 fn script_at_fault<R: Files + AllocGlobal>(
     rt: &R,
-    request: &Request<'_>,
-    name: &str,
+    named: &Named<'_, '_>,
     cause: Cause,
     place: frame_text::Place,
 ) -> Result<Option<String>, AllocError> {
+    let Some(name) = named.script else {
+        return Ok(None);
+    };
     let Ok(text) = read_again(rt, name) else {
         return Ok(None);
     };
     let text = text.as_slice();
-    match other_in_place(rt, request, Content::Script, name, text)? {
+    match other_in_place(rt, named, Content::Script, name, text)? {
         Some(lines) => Ok(Some(lines)),
         None => text_lines(rt, name, text, Text::Script, cause, place),
     }
@@ -169,20 +155,20 @@ fn told<R: AllocGlobal>(
     }
 }
 
-/// Why the first of the jobs of a request is refused that is refused so.
+/// Why the first of the jobs that are named is refused that is refused so.
 fn job_at_fault<R: Files + AllocGlobal>(
     rt: &R,
-    request: &Request<'_>,
+    named: &Named<'_, '_>,
     error: &JobError,
 ) -> Result<Option<String>, AllocError> {
-    for name in jobs_in(request) {
+    for name in named.jobs {
         let Ok(text) = read_again(rt, name) else {
             return Ok(None);
         };
         match refusal_of_job(rt.alloc(), text.as_slice()) {
             None => {}
             Some(found) if found == *error => {
-                return job_lines(rt, request, name, text.as_slice(), error);
+                return job_lines(rt, named, name, text.as_slice(), error);
             }
             Some(_) => return Ok(None),
         }
@@ -201,12 +187,12 @@ fn refusal_of_job(alloc: Global, text: &[u8]) -> Option<JobError> {
 /// Why a job is refused, as lines: that it is of another kind, or what there is to say of its text.
 fn job_lines<R: AllocGlobal>(
     rt: &R,
-    request: &Request<'_>,
+    named: &Named<'_, '_>,
     name: &str,
     text: &[u8],
     error: &JobError,
 ) -> Result<Option<String>, AllocError> {
-    if let Some(lines) = other_in_place(rt, request, Content::Job, name, text)? {
+    if let Some(lines) = other_in_place(rt, named, Content::Job, name, text)? {
         return Ok(Some(lines));
     }
     match error {
@@ -237,48 +223,41 @@ fn line_lines<R: AllocGlobal>(
 /// Why a report is refused, as lines: that it is of another kind, or its line with what that means.
 fn report_at_fault<R: Files + AllocGlobal>(
     rt: &R,
-    request: &Request<'_>,
-    name: &str,
+    named: &Named<'_, '_>,
     line: u64,
     fault: &CommandFault<'_>,
 ) -> Result<Option<String>, AllocError> {
+    let Some(name) = named.report else {
+        return Ok(None);
+    };
     let Ok(text) = read_again(rt, name) else {
         return Ok(None);
     };
     let text = text.as_slice();
-    if let Some(lines) = other_in_place(rt, request, Content::Report, name, text)? {
+    if let Some(lines) = other_in_place(rt, named, Content::Report, name, text)? {
         return Ok(Some(lines));
     }
     let fault = format!(in rt.alloc(); "{fault}")?;
     line_lines(rt, name, text, line, fault.as_str())
 }
 
-/// The file of rules that a request names; none where it names none.
-fn rules_in<'a>(request: &Request<'a>) -> Option<&'a str> {
-    match request {
-        Request::Judge(judge) => judge.rules,
-        Request::Run(request) => request.run.judge,
-        _ => None,
-    }
-}
-
 /// Why rules are refused, as lines: that their file is of another kind, or the reason of their text.
 fn rules_at_fault<R: Files + AllocGlobal>(
     rt: &R,
-    request: &Request<'_>,
+    named: &Named<'_, '_>,
     error: &RuleError,
 ) -> Result<Option<String>, AllocError> {
-    let Some(name) = rules_in(request) else {
+    let Some(name) = named.rules else {
         return Ok(None);
     };
     let Ok(text) = read_again(rt, name) else {
         return Ok(None);
     };
     let text = text.as_slice();
-    match other_in_place(rt, request, Content::Rules, name, text)? {
+    match other_in_place(rt, named, Content::Rules, name, text)? {
         Some(lines) => Ok(Some(lines)),
         None => {
-            let dictionary = dictionary_again(rt, request);
+            let dictionary = dictionary_again(rt, named);
             let signals = match &dictionary {
                 Some(text) => Some(text.as_slice()),
                 None => None,
@@ -293,42 +272,26 @@ fn rules_at_fault<R: Files + AllocGlobal>(
     }
 }
 
-/// The text of the dictionary that a request names, read once more; none where it names none, or that fails.
-fn dictionary_again<R: Files + AllocGlobal>(rt: &R, request: &Request<'_>) -> Option<Vec<u8>> {
-    let name = dictionary_of(request)?;
+/// The text of the dictionary that is named, read once more; none where it names none, or that fails.
+fn dictionary_again<R: Files + AllocGlobal>(rt: &R, named: &Named<'_, '_>) -> Option<Vec<u8>> {
+    let name = named.dictionary?;
     read_again(rt, name).ok()
-}
-
-/// The dictionary that a request names; none where it names none.
-fn dictionary_of<'a>(request: &Request<'a>) -> Option<&'a str> {
-    match request {
-        Request::Signals(request) => Some(request.dictionary),
-        Request::Export(request) => request.signals,
-        Request::Draw(request) => request.showing.signals,
-        Request::View(request) => request.showing.signals,
-        Request::Stat(request) => request.signals,
-        Request::Judge(request) => request.signals,
-        Request::Check(request) => request.signals,
-        Request::Run(request) => request.run.signals,
-        Request::Dump(dumping::Request::Messages(messages)) => messages.signals,
-        _ => None,
-    }
 }
 
 /// Why a dictionary is refused, as lines: that its file is of another kind, or the reason of its text.
 fn dictionary_at_fault<R: Files + AllocGlobal>(
     rt: &R,
-    request: &Request<'_>,
+    named: &Named<'_, '_>,
     error: &DictionaryError,
 ) -> Result<Option<String>, AllocError> {
-    let Some(name) = dictionary_of(request) else {
+    let Some(name) = named.dictionary else {
         return Ok(None);
     };
     let Ok(text) = read_again(rt, name) else {
         return Ok(None);
     };
     let text = text.as_slice();
-    match other_in_place(rt, request, Content::Dictionary, name, text)? {
+    match other_in_place(rt, named, Content::Dictionary, name, text)? {
         Some(lines) => Ok(Some(lines)),
         None => told(
             rt,
@@ -342,18 +305,10 @@ fn dictionary_at_fault<R: Files + AllocGlobal>(
 /// That the first message which is asked for stands behind the last one, as a line; none where it does not.
 fn crossed_bounds<R: AllocGlobal>(
     rt: &R,
-    request: &Request<'_>,
+    named: &Named<'_, '_>,
 ) -> Result<Option<String>, AllocError> {
-    let selection = match request {
-        Request::Dump(dumping::Request::Messages(messages)) => &messages.selection,
-        Request::Stat(request) => &request.selection,
-        Request::Export(request) => &request.extract.selection,
-        Request::Signals(request) => &request.extract.selection,
-        Request::Draw(request) => &request.showing.extract.selection,
-        Request::View(request) => &request.showing.extract.selection,
-        Request::Cut(request) => &request.extract.selection,
-        Request::Compare(request) => &request.selection,
-        _ => return Ok(None),
+    let Some(selection) = named.selection else {
+        return Ok(None);
     };
     let Some((from, to)) = selection.crossed() else {
         return Ok(None);

@@ -1,6 +1,6 @@
 //! Why jobs and settings may not be run: which setting, how many jobs, which two of them.
 
-use crate::command_line::Request;
+use crate::named::Named;
 use bench_settings::WorldError;
 use command_parts::requests::{RunRequest, jobs_of, texts_again};
 use job_file::Job;
@@ -11,24 +11,13 @@ use std::rt::Files;
 /// The lines that say why jobs and settings may not be run; none where the fault's code says all that there is.
 pub(crate) fn refusal_of<R: Files + AllocGlobal>(
     rt: &R,
-    request: &Request<'_>,
+    named: &Named<'_, '_>,
     error: WorldError,
 ) -> Result<Option<String>, AllocError> {
-    match (error, request) {
-        (WorldError::Settings, Request::Run(request)) => {
-            Ok(Some(setting_at_fault(rt, &request.run)?))
-        }
-        (WorldError::Settings, Request::Check(request)) => {
-            Ok(Some(count_of_jobs(rt, request.jobs.len())?))
-        }
-        (WorldError::ChannelTwice, Request::Run(request)) => jobs_of_one_channel(
-            rt,
-            &request.run.jobs,
-        ),
-        (WorldError::ChannelTwice, Request::Check(request)) => jobs_of_one_channel(
-            rt,
-            &request.jobs,
-        ),
+    match (error, named.run) {
+        (WorldError::Settings, Some(run)) => Ok(Some(setting_at_fault(rt, run)?)),
+        (WorldError::Settings, None) => Ok(Some(count_of_jobs(rt, named.jobs.len())?)),
+        (WorldError::ChannelTwice, _) => jobs_of_one_channel(rt, named.jobs),
         _ => Ok(None),
     }
 }

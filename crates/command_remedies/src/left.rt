@@ -1,6 +1,6 @@
 //! What a run whose out file failed left beside its place.
 
-use crate::command_line::{Asked, Request};
+use crate::named::Named;
 use bench_files::{followed, part_of};
 use command_parts::requests::{CommandFault, RunRequest};
 use std::fs;
@@ -10,16 +10,13 @@ use std::rt::Files;
 pub(crate) fn tell_of_part<R: Files + AllocGlobal, E: Eprint>(
     rt: &R,
     errors: &E,
-    asked: &Asked<'_>,
+    named: &Named<'_, '_>,
     fault: &CommandFault<'_>,
 ) {
-    if !asked.context.is_shown() {
-        return;
-    }
-    let Request::Run(request) = &asked.request else {
+    let Some(run) = named.run else {
         return;
     };
-    if let Some(part) = part_left(rt, &request.run, request.completing.is_some(), fault) {
+    if let Some(part) = part_left(rt, run, named.completes, fault) {
         // Nothing else is lost where standard error takes no more.
         let _ = eprintln!(errors; "  what was taken stands in {part}; bench dump --skip shows it");
     }

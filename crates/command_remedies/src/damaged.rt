@@ -1,14 +1,11 @@
 //! The way out where a recording is damaged.
 
-use crate::command_line::{Asked, Request};
+use crate::named::Named;
 use command_parts::requests::CommandFault;
 
 /// Says behind the fault of a damaged recording, of which a job was to be made, how what is sound of it is taken.
-pub(crate) fn tell_of_cut<E: Eprint>(errors: &E, asked: &Asked<'_>, fault: &CommandFault<'_>) {
-    if !asked.context.is_shown() {
-        return;
-    }
-    let Request::Reproduce(request) = &asked.request else {
+pub(crate) fn tell_of_cut<E: Eprint>(errors: &E, named: &Named<'_, '_>, fault: &CommandFault<'_>) {
+    let Some(recording) = named.reproduced else {
         return;
     };
     let CommandFault::Recording(refusal) = fault else {
@@ -16,7 +13,6 @@ pub(crate) fn tell_of_cut<E: Eprint>(errors: &E, asked: &Asked<'_>, fault: &Comm
     };
     // A file that begins with no packet may be no recording at all.
     if refusal.offset > 0 {
-        let recording = request.recording;
         // Nothing else is lost where standard error takes no more.
         let _ = eprintln!(errors;
             "  bench cut --skip {recording} --out sound.ch11 takes what is sound of it"
