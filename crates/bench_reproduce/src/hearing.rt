@@ -19,7 +19,7 @@ use std::marker::Model;
 /// How many messages a job may insert.
 const MOST_MESSAGES: usize = 1_000_000;
 
-/// What a heard message has beside its words, in 24 bytes.
+/// What a heard message has beside its words, in at most 32 bytes.
 #[derive(Clone, Copy, Debug)]
 struct MessageHead {
     /// Its time stamp, the eight bytes as a number.
