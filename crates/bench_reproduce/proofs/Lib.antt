@@ -1,3 +1,4 @@
 pub mod Alike
 pub mod Beside
+pub mod Inside
 pub mod Keeping

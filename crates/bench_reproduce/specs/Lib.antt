@@ -1,4 +1,5 @@
 pub mod Deeds
+pub mod Hearing
 pub mod Readings
 pub mod Reproduced
 pub mod Running

@@ -1,7 +1,7 @@
 //! Which terminals answered.
 
 use crate::guesses::ALL;
-use bench_compare::Kept;
+use crate::hearing::Heard;
 use ch11_layout::View;
 use mil_line::MOST_SENT;
 use mil_word::{Command, Status};
@@ -58,10 +58,10 @@ fn note_replies(answered: &mut [bool; 32], view: &View<'_>) {
 }
 
 /// The terminals that answered, in the order of their addresses.
-pub(crate) fn answering(alloc: Global, heard: &[Kept]) -> Result<Vec<u8>, AllocError> {
+pub(crate) fn answering(alloc: Global, heard: &Heard) -> Result<Vec<u8>, AllocError> {
     let mut answered = [false; 32];
-    for kept in heard {
-        note_replies(&mut answered, &kept.view());
+    for place in 0..heard.len() {
+        note_replies(&mut answered, &heard.at(place).view());
     }
     let mut addresses = Vec::new(alloc);
     for address in 0..ALL {

@@ -5,6 +5,7 @@ use crate::cases::{Case, due_count};
 use crate::deeds::Deed;
 use crate::explanations::Explanation;
 use crate::guesses::{GUESSES, Guess, guess_at};
+use crate::hearing::Heard;
 use crate::hosts::{Ahead, has, is_uncommon, legality, renew, set_bits, set_reply};
 use crate::mending::{mark_controller, mend, mend_bits, mend_controller};
 use crate::outlook::{Outlook, Shown, WRAPAROUND, bit};
@@ -12,7 +13,6 @@ use crate::scene::Scene;
 use crate::styles::{Mark, STYLES, style_of};
 use crate::timeline::{Call, Played};
 use crate::wanted::Wanted;
-use bench_compare::Kept;
 use mil_bus::BusError;
 use mil_host::Action;
 use mil_message::Message;
@@ -32,7 +32,7 @@ const OTHER: u32 = 1000;
 /// Explains the messages of a recording in their order.
 #[derive(Drop)]
 pub(crate) struct Explainer<'a> {
-    messages: &'a [Kept],
+    messages: &'a Heard,
     first: u64,
     present: u32,
     scene: Scene,
@@ -53,7 +53,7 @@ impl<'a> Explainer<'a> {
     /// Begins in front of the first message, with terminals of these addresses.
     pub(crate) fn begin(
         alloc: Global,
-        messages: &'a [Kept],
+        messages: &'a Heard,
         first: u64,
         addresses: &[u8],
     ) -> Result<Explainer<'a>, AllocError> {
@@ -78,10 +78,10 @@ impl<'a> Explainer<'a> {
 
     /// Explains the message at a place; what explains it, and what it has to give.
     pub(crate) fn explain(&mut self, place: usize) -> Result<Option<Wanted>, AllocError> {
-        let Some(kept) = self.messages.get(place) else {
+        let Some(met) = self.messages.get(place) else {
             return Ok(None);
         };
-        let wanted = Wanted::of(&kept.view(), self.first);
+        let wanted = Wanted::of(&met.view(), self.first);
         let next = place.saturating_add(1);
         let best = self.search(&wanted, next)?;
         if best.missed >= OTHER {
@@ -363,7 +363,7 @@ fn guess_matters(wanted: &Wanted) -> bool {
 /// When the messages of a channel were on the bus, and which they were.
 pub(crate) fn play(
     alloc: Global,
-    heard: &[Kept],
+    heard: &Heard,
     first: u64,
     addresses: &[u8],
 ) -> Result<Vec<Played>, AllocError> {

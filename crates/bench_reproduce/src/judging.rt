@@ -8,6 +8,7 @@ ghost use Rattle.byteorder.specs.Endian.{little_bytes};
 ghost use Rattle.ch11_f1.specs.Again.{as_message};
 ghost use Rattle.ch11_f1.specs.BodyBytes.{words_of};
 ghost use Rattle.ch11_f1.specs.Views.{message_of};
+ghost use Rattle.ch11_layout.specs.Stamps.{recorded};
 ghost use Rattle.frame_tree.specs.Bounds.{IsSound};
 ghost use Rattle.job_file.specs.Jobs.{job_in};
 ghost use Rattle.job_file.specs.Machines.{IsOf};
@@ -18,6 +19,7 @@ ghost use Rattle.std.specs.Prelude.{◌≡◌, ◌+◌, ◌≤◌, ◌<◌, if�
 ghost use Rattle.std.specs.Prelude.{length};
 ghost use Rattle.std.specs.Prelude.{OnOk, IfOk};
 
+use crate::hearing::Heard;
 use bc_machine::Machine;
 use bench_compare::{Difference, Kept, Met, Origins, Part, part_of};
 use byteorder::{ByteOrder, LittleEndian};
@@ -83,19 +85,6 @@ impl WordBytes {
     }
 }
 
-/// A message once more.
-fn copy_of(alloc: Global, kept: &Kept) -> Result<Kept, AllocError> {
-    let view = kept.view();
-    let seen = Seen {
-        stamp: view.number(),
-        block: view.block(),
-        gaps: view.gaps(),
-        words: view.bytes(),
-    };
-    let (number, kind) = (kept.number(), view.kind());
-    Kept::of(alloc, &Met { number, kind, seen })
-}
-
 /// The stamps from which those of the channel are told, where these are the next ones.
 fn origins_of(standing: &Standing, first: u64, second: u64) -> Origins
     ensures { result ≡ origins_by standing.now.origins first second }
@@ -113,13 +102,13 @@ fn tell(
     number: u64,
     part: Part,
     origins: Origins,
-    kept: &Kept,
+    message: &Met<'_>,
     met: Option<&Met<'_>>,
 ) -> Result<(), AllocError> {
     if differences.len() >= TOLD {
         return Ok(());
     }
-    let first = copy_of(alloc, kept)?;
+    let first = Kept::of(alloc, message)?;
     let second = match met {
         Some(met) => Some(Kept::of(alloc, met)?),
         None => None,
@@ -139,16 +128,17 @@ fn compare_with(
     alloc: Global,
     standing: &mut Standing,
     number: u64,
-    kept: &Kept,
+    message: &Met<'_>,
     record: &Record,
 ) -> Result<(), AllocError>
     requires { standing.old.same < number }
-    ensures { OnOk result (IsCompared standing.old kept.now (Some «record».now) standing.new) }
+    ensures { OnOk result (IsCompared standing.old (recorded message.now.kind (message_of message.now.seen))
+        (Some «record».now) standing.new) }
 {
     let bytes = bytes_of(record);
     let kind = StampKind::Counter;
     let seen = bytes.seen(record);
-    let view = kept.view();
+    let view = message.view();
     let origins = origins_of(standing, view.stamp(), record.stamp);
     standing.origins = Some(origins);
     match part_of(0, origins, &view, &View::of(kind, &seen)) {
@@ -164,7 +154,7 @@ fn compare_with(
                 number,
                 part,
                 origins,
-                kept,
+                message,
                 Some(&met),
             )
         }
@@ -176,16 +166,17 @@ fn compare_at(
     alloc: Global,
     standing: &mut Standing,
     number: u64,
-    kept: &Kept,
+    message: &Met<'_>,
     record: &Option<Record>,
 ) -> Result<(), AllocError>
     requires { standing.old.same < number }
-    ensures { OnOk result (IsCompared standing.old kept.now «record».now standing.new) }
+    ensures { OnOk result (IsCompared standing.old (recorded message.now.kind (message_of message.now.seen))
+        «record».now standing.new) }
 {
     match record {
-        Some(record) => compare_with(alloc, standing, number, kept, record),
+        Some(record) => compare_with(alloc, standing, number, message, record),
         None => {
-            let origins = origins_of(standing, kept.view().stamp(), 0);
+            let origins = origins_of(standing, message.view().stamp(), 0);
             standing.origins = Some(origins);
             let part = Part::MissingInSecond;
             tell(
@@ -194,7 +185,7 @@ fn compare_at(
                 number,
                 part,
                 origins,
-                kept,
+                message,
                 None,
             )
         }
@@ -207,7 +198,7 @@ fn compare_next(
     machine: &mut Machine,
     standing: &mut Standing,
     number: u64,
-    kept: &Kept,
+    message: &Met<'_>,
 ) -> Result<(), AllocError>
     requires { standing.old.same < number }
     ensures of_job { (job : ChannelJob) (placed : List Placed) → IsOf job placed machine.old
@@ -215,11 +206,11 @@ fn compare_next(
     ensures next { OnOk result ((job : ChannelJob) (placed : List Placed) → IsSound job.tree
         → IsOf job placed machine.old
         → ComparesNext (records job placed) machine.old.point.number machine.new.point.number
-        standing.old kept.now standing.new) }
+        standing.old (recorded message.now.kind (message_of message.now.seen)) standing.new) }
     ensures more { OnOk result (standing.new.same ≤ standing.old.same + 1) }
 {
     let record = next_record(machine);
-    compare_at(alloc, standing, number, kept, &record)
+    compare_at(alloc, standing, number, message, &record)
 }
 
 /// Lets a job run to its end, whose controller this is.
@@ -231,7 +222,7 @@ fn run_on(machine: &mut Machine)
 }
 
 /// Compares the records of a job, whose controller this is, and has made none, with the messages that were recorded.
-fn compare_all(alloc: Global, machine: &mut Machine, heard: &[Kept]) -> Result<Verdict, AllocError>
+fn compare_all(alloc: Global, machine: &mut Machine, heard: &Heard) -> Result<Verdict, AllocError>
     requires { machine.old.point.number ≡ 0 }
     ensures messages { IfOk result (λ v. (job : ChannelJob) (placed : List Placed) → IsSound job.tree
         → IsOf job placed machine.old
@@ -247,7 +238,7 @@ fn compare_all(alloc: Global, machine: &mut Machine, heard: &[Kept]) -> Result<V
     };
     'messages: for place in 0..heard.len() {
         let number = place as u64 + 1;
-        compare_next(alloc, machine, &mut standing, number, &heard[place])?;
+        compare_next(alloc, machine, &mut standing, number, &heard.at(place))?;
     }
     run_on(machine);
     Ok(Verdict {
@@ -258,7 +249,7 @@ fn compare_all(alloc: Global, machine: &mut Machine, heard: &[Kept]) -> Result<V
 }
 
 /// Runs a job and compares its records with the messages that were recorded. What the job has stands in memory once.
-pub(crate) fn judge(alloc: Global, job: Job, heard: &[Kept]) -> Result<Verdict, AllocError>
+pub(crate) fn judge(alloc: Global, job: Job, heard: &Heard) -> Result<Verdict, AllocError>
     ensures messages { IfOk result (λ v. v.messages ≡ places heard.now (run_of (job_in job))) }
     ensures same { IfOk result (λ v. v.same ≡ same_in heard.now (run_of (job_in job))) }
 {

@@ -1,10 +1,10 @@
 //! What the messages behind one tell of the terminals then: replies that show a status word, a last command or words
 //! that were received before.
 
+use crate::hearing::Heard;
 use crate::ramps::Coming;
 use crate::scene::Scene;
 use arrayvec::ArrayVec;
-use bench_compare::Kept;
 use ch11_layout::View;
 use mil_terminal::Terminal;
 use mil_word::Command;
@@ -36,7 +36,7 @@ pub(crate) struct Shown {
 /// What is known of terminals behind a message.
 #[derive(Drop)]
 pub(crate) struct Outlook<'a> {
-    messages: &'a [Kept],
+    messages: &'a Heard,
     pub(crate) shown: ArrayVec<Shown, 32>,
 }
 
@@ -96,7 +96,7 @@ fn sent_words(view: &View<'_>, command: Command) -> Option<[u16; 32]> {
 
 impl<'a> Outlook<'a> {
     /// Nothing is known.
-    pub(crate) fn none(messages: &'a [Kept]) -> Outlook<'a> {
+    pub(crate) fn none(messages: &'a Heard) -> Outlook<'a> {
         Outlook {
             messages,
             shown: ArrayVec::new(),
@@ -111,10 +111,10 @@ impl<'a> Outlook<'a> {
             if open == 0 {
                 break;
             }
-            let Some(kept) = self.messages.get(from.saturating_add(ahead)) else {
+            let Some(met) = self.messages.get(from.saturating_add(ahead)) else {
                 break;
             };
-            let view = kept.view();
+            let view = met.view();
             open = self.meet(&view, open);
         }
     }
@@ -144,10 +144,10 @@ impl<'a> Outlook<'a> {
     pub(crate) fn look_for_wrapped(&mut self, from: usize, address: u8) {
         for ahead in 0..REACH {
             let place = from.saturating_add(ahead);
-            let Some(kept) = self.messages.get(place) else {
+            let Some(met) = self.messages.get(place) else {
                 return;
             };
-            let view = kept.view();
+            let view = met.view();
             let first = Command::of(view.word(0));
             let own = first.address() == address && first.subaddress() == WRAPAROUND;
             if own && !view.is_transfer() {
@@ -189,10 +189,10 @@ impl<'a> Outlook<'a> {
     /// Whether the next reply of a terminal, by messages from a place on, has this gap too.
     pub(crate) fn keeps_gap(&self, from: usize, address: u8, gap: u16) -> bool {
         for ahead in 0..REACH {
-            let Some(kept) = self.messages.get(from.saturating_add(ahead)) else {
+            let Some(met) = self.messages.get(from.saturating_add(ahead)) else {
                 return false;
             };
-            let view = kept.view();
+            let view = met.view();
             let first = Command::of(view.word(0));
             if first.address() == address && !view.is_transfer() && view.first_gap() != 0 {
                 return u16::from(view.first_gap()) == gap;
@@ -204,10 +204,10 @@ impl<'a> Outlook<'a> {
     /// Whether the next message to a terminal, from a place on, is not answered either.
     pub(crate) fn stays_silent(&self, from: usize, address: u8, on_line_b: bool) -> bool {
         for ahead in 0..REACH {
-            let Some(kept) = self.messages.get(from.saturating_add(ahead)) else {
+            let Some(met) = self.messages.get(from.saturating_add(ahead)) else {
                 return false;
             };
-            let view = kept.view();
+            let view = met.view();
             let first = Command::of(view.word(0));
             let own = first.address() == address && view.is_on_line_b() == on_line_b;
             if own && !view.is_transfer() {
@@ -242,10 +242,10 @@ impl<'a> Outlook<'a> {
         let Some(place) = shown.wrapped else {
             return true;
         };
-        let Some(kept) = self.messages.get(place) else {
+        let Some(met) = self.messages.get(place) else {
             return true;
         };
-        let view = kept.view();
+        let view = met.view();
         let words = terminal.received(WRAPAROUND);
         for k in 2..view.word_count() {
             let held = match words.get(k - 2) {

@@ -8,12 +8,11 @@ use crate::fault::ReproduceFault;
 use crate::form::JobForm;
 use crate::frames::{Schedule, schedule_of};
 use crate::framing::Framing;
-use crate::hearing::hear;
+use crate::hearing::{Heard, hear};
 use crate::judging::{Verdict, judge};
 use crate::laws::all_are_same;
 use crate::wanted::LATEST_TICK;
 use crate::writing::JobText;
-use bench_compare::Kept;
 use ch11_stream::Advance;
 use job_file::read_job;
 use std::alloc::{AllocError, Global};
@@ -30,13 +29,13 @@ pub struct Reproduction {
 }
 
 /// The stamp of the first message, where all others begin at most 2^47 ticks after it.
-fn first_stamp(heard: &[Kept]) -> Result<u64, ReproduceFault> {
-    let Some(kept) = heard.first() else {
+fn first_stamp(heard: &Heard) -> Result<u64, ReproduceFault> {
+    let Some(met) = heard.get(0) else {
         return Err(ReproduceFault::Nothing);
     };
-    let first = kept.view().stamp();
-    for kept in heard {
-        if kept.view().stamp().saturating_sub(first) > LATEST_TICK {
+    let first = met.view().stamp();
+    for place in 0..heard.len() {
+        if heard.at(place).view().stamp().saturating_sub(first) > LATEST_TICK {
             return Err(ReproduceFault::Span);
         }
     }
@@ -46,7 +45,7 @@ fn first_stamp(heard: &[Kept]) -> Result<u64, ReproduceFault> {
 /// What was recorded of a channel, and from which stamp on.
 #[derive(Clone, Copy)]
 struct Material<'h> {
-    heard: &'h [Kept],
+    heard: &'h Heard,
     channel: u16,
     first: u64,
 }
@@ -121,7 +120,7 @@ fn framed_if_any(alloc: Global, material: &Material<'_>) -> Result<Option<String
 }
 
 /// Runs a job as its text spells it, and compares its records with the messages that were recorded.
-fn run_written(alloc: Global, text: &[u8], heard: &[Kept]) -> Result<Verdict, ReproduceFault>
+fn run_written(alloc: Global, text: &[u8], heard: &Heard) -> Result<Verdict, ReproduceFault>
     ensures { IfOk result (λ v. IsRun text.now heard.now v.messages v.same) }
 {
     let job = read_job(alloc, text)?;
@@ -214,7 +213,7 @@ pub fn reproduce<R: Advance + Drop>(
     // The law by which all are the same, for the proofs.
     all_are_same();
     let messages = hear(alloc, input, channel)?;
-    let heard = messages.as_slice();
+    let heard = &messages;
     let first = first_stamp(heard)?;
     let material = Material {
         heard,

@@ -6,5 +6,5 @@ use Rattle.bench_reproduce.proofs.hearing.hear.Given as goal
 abbrev pub invariant-packets : goal.invariant-packets
 invariant-packets g l = record {
   known : (file : List ℕ) → g.R.Read.remaining l.fn.input ≡ Some file → IsAmid file l.packets;
-  heard : l.heard.items ≡ messages_in l.channel (reverse l.packets.earlier);
+  heard : l.heard ≡ messages_in l.channel (reverse l.packets.earlier);
 }

@@ -8,8 +8,8 @@ compare_all-requires c = ap (λ (m : MachineState). m.point.number) c.in_ok-mach
 
 pub returns-clause-messages : goal.returns-clause-messages
 returns-clause-messages c =
-    c.in_ok-verdict.ensures.messages (job_in c.args.job) c.args.job.actions c.program-_sound.ensures.sound c.in_ok-machine.ensures.of_job
+    c.in_ok-verdict.ensures.messages (job_in c.args.job) c.args.job.actions c.program-sound.ensures.sound c.in_ok-machine.ensures.of_job
 
 pub returns-clause-same : goal.returns-clause-same
 returns-clause-same c =
-    c.in_ok-verdict.ensures.same (job_in c.args.job) c.args.job.actions c.program-_sound.ensures.sound c.in_ok-machine.ensures.of_job
+    c.in_ok-verdict.ensures.same (job_in c.args.job) c.args.job.actions c.program-sound.ensures.sound c.in_ok-machine.ensures.of_job
