@@ -5,7 +5,7 @@ use Rattle.std.specs.List.Sorted.{IsNonDecreasingBy}
 use Rattle.std.proofs.lemmas.List.{take_all, length-drop, length-take, get_or-take, get_or-drop, get_or_default}
 use Rattle.std.specs.Prelude.{All}
 use Rattle.std.proofs.lemmas.Bool.Decides.{nat_tests}
-use Rattle.bc_machine.specs.declared.placed.HostAction.{HostAction}
+use Rattle.bc_machine.specs.Beside.{BesideLists}
 use Rattle.bc_machine.specs.declared.placed.Placed.{Placed}
 use Rattle.bc_machine.specs.declared.action_rows.Row.{Row}
 use Rattle.bc_machine.specs.Controller.{placed_at}
@@ -85,7 +85,7 @@ module _ {X : Type 0} (number_of : X → ℕ) where
 -- ---- what rows stand for
 
 -- the actions of a number are those of its rows
-pub placed_at_rows : (n : ℕ) (beside : List HostAction) (rows : List Row) → placed_at n (all_placed beside rows) ≡ all_placed beside (rows_at n rows)
+pub placed_at_rows : (n : ℕ) (beside : BesideLists) (rows : List Row) → placed_at n (all_placed beside rows) ≡ all_placed beside (rows_at n rows)
 placed_at_rows n beside [] = refl
 placed_at_rows n beside (r ∷ rs) = by_case (eqb r.number n) (placed_at_rows n beside rs)
   where
@@ -94,5 +94,5 @@ placed_at_rows n beside (r ∷ rs) = by_case (eqb r.number n) (placed_at_rows n 
     by_case true h = ap (λ (ps : List Placed). placed_of beside r ∷ ps) h
     by_case false h = h
 
-pub same_placed : (n : ℕ) (beside : List HostAction) (rows others : List Row) → rows_at n rows ≡ rows_at n others → placed_at n (all_placed beside rows) ≡ placed_at n (all_placed beside others)
+pub same_placed : (n : ℕ) (beside : BesideLists) (rows others : List Row) → rows_at n rows ≡ rows_at n others → placed_at n (all_placed beside rows) ≡ placed_at n (all_placed beside others)
 same_placed n beside rows others same = placed_at_rows n beside rows ∙ ap (all_placed beside) same ∙ sym (placed_at_rows n beside others)

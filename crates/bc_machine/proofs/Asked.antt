@@ -19,6 +19,7 @@ use Rattle.bc_machine.specs.Controller.{control_in, control_of}
 use Rattle.bc_machine.specs.Schedules.{AreOf, MayControl, is_control}
 use Rattle.bc_machine.specs.declared.action_rows.Row.{Row}
 use Rattle.bc_machine.specs.Agendas.{inserts_among}
+use Rattle.bc_machine.specs.Beside.{BesideLists}
 use Rattle.bc_machine.specs.Asking.{IsInsertAt, controls_at, with_controls}
 use Rattle.bc_machine.specs.Hosting.{placed_at, placed_up_to, insertion_of, inserts_up_to}
 use Rattle.bc_machine.specs.Rows.{placed_of, all_placed}
@@ -29,7 +30,7 @@ nothing_left : (n : ℕ) → inserts_among (drop n []) ≡ []
 nothing_left zero = refl
 nothing_left (suc n) = refl
 
-module _ (beside : List HostAction) (rows : List Row) where
+module _ (beside : BesideLists) (rows : List Row) where
   abbrev acts : List Placed
   acts = all_placed beside rows
 
@@ -215,13 +216,13 @@ controls_then (c ∷ cs) ds was d place = controls_then cs ds (with_sources c wa
 
 -- ---- rows of one number
 
-all_alone : (n : ℕ) (beside : List HostAction) (rows : List Row) → AllByRecursion (λ (r : Row). r.number ≡ n) rows → placed_at n (all_placed beside rows) ≡ all_placed beside rows
+all_alone : (n : ℕ) (beside : BesideLists) (rows : List Row) → AllByRecursion (λ (r : Row). r.number ≡ n) rows → placed_at n (all_placed beside rows) ≡ all_placed beside rows
 all_alone n beside [] all = refl
 all_alone n beside (r ∷ rs) all =
     ap (λ b. cond b (placed_of beside r ∷ placed_at n (all_placed beside rs)) (placed_at n (all_placed beside rs))) (eq-eqb r.number n all.0)
     ∙ ap (λ (ps : List Placed). placed_of beside r ∷ ps) (all_alone n beside rs all.1)
 
-pub placed_alone : (n : ℕ) (beside : List HostAction) (rows : List Row) → AreOf n rows → placed_at n (all_placed beside rows) ≡ all_placed beside rows
+pub placed_alone : (n : ℕ) (beside : BesideLists) (rows : List Row) → AreOf n rows → placed_at n (all_placed beside rows) ≡ all_placed beside rows
 placed_alone n beside rows all = all_alone n beside rows (recursion_from_All (λ (r : Row). r.number ≡ n) rows all)
 
 -- ---- the insert that a row stands for

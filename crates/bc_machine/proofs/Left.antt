@@ -1,11 +1,15 @@
 -- What the host of the controller asks for among rows, one row on.
 use Rattle.std.proofs.Common.{◌≡◌, ◌≢◌, ℕ, zero, suc, ◌+◌, ◌<◌, ◌≤◌, Bool, true, false, cond, eqb, ne_eqb, Option, Some, None, List, [], ◌∷◌, ◌++◌, length, take, drop, get_or, refl, sym, ap, ◌∙◌, subst, ⊎_elim, arith}
-use Rattle.std.specs.List.{filter_map}
+use Rattle.std.specs.List.{filter_map, cons_option}
 use Rattle.std.specs.Option.{is_some}
 use Rattle.std.proofs.lemmas.Bool.{eq-eqb, cases_lt}
 use Rattle.std.proofs.lemmas.List.{drop_all, drop_more, length-append, map-append, take_more}
 use Rattle.std.proofs.lemmas.List.Elements.{All-head, All-tail, filter-append}
+use Rattle.mil_message.specs.declared.forms.Form.{Form}
+use Rattle.controller_host.specs.declared.destinations.Destination.{Destination}
 use Rattle.controller_host.specs.declared.controls.Control.{Control}
+use Rattle.controller_host.specs.declared.controls.Control.TheVariants as control
+use Rattle.controller_host.specs.declared.sources.Source.{Source}
 use Rattle.controller_host.specs.Sources.{is_source_control}
 use Rattle.controller_host.specs.Values.{InsertionValue}
 use Rattle.bc_machine.specs.declared.placed.Placed.{Placed}
@@ -13,11 +17,13 @@ use Rattle.bc_machine.specs.declared.placed.HostAction.{HostAction}
 use Rattle.bc_machine.specs.declared.placed.HostAction.TheVariants.{Terminal, Controller}
 use Rattle.bc_machine.specs.declared.action_rows.Row.{Row}
 use Rattle.bc_machine.specs.Agendas.{inserts_among}
-use Rattle.bc_machine.specs.Asking.{controls_at}
+use Rattle.bc_machine.specs.Beside.{BesideLists}
+use Rattle.bc_machine.specs.Asking.{controls_at, filled_by, with_controls}
 use Rattle.bc_machine.specs.Controller.{control_in, control_of}
 use Rattle.bc_machine.specs.Hosting.{placed_at, placed_up_to, insertion_of, inserts_up_to}
-use Rattle.bc_machine.specs.Rows.{placed_of, all_placed, rows_at}
+use Rattle.bc_machine.specs.Rows.{placed_of, all_placed, rows_at, source_control}
 use Rattle.bc_machine.specs.Schedules.{HaveRoom, sets_sources}
+use Rattle.bc_machine.proofs.Filled.{insert_stays}
 use Rattle.bc_machine.proofs.Asked.{of_number, of_other, inserts_yes, inserts_no, inserts_outside}
 use Rattle.bc_machine.proofs.Queued.{among_both, inserts_both}
 
@@ -55,7 +61,27 @@ sets_in : (a : HostAction) (c : Control) → control_in a ≡ Some c → is_sour
 sets_in (Terminal address action) c e h = absurd cc
 sets_in (Controller asked) c e h = let same : asked ≡ c = cc in ap is_source_control same ∙ h
 
-module _ (beside : List HostAction) (rows : List Row) where
+-- what the host of the controller asks for, where it sets sources
+pub asks_for : (o : Option Control) (c : Control) → source_control o ≡ Some c → o ≡ Some c
+asks_for None c e = absurd cc
+asks_for (Some (control.Data new)) c e = e
+asks_for (Some (control.Ramp ramp)) c e = e
+asks_for (Some (control.Insert x)) c e = absurd cc
+
+-- an insert sets no source, and puts no word into a message
+pub unset : (o : Option Control) (cs : List Control) (was : Option Source) (d : Destination) (place : ℕ) → source_control o ≡ None → with_controls (cons_option o cs) was d place ≡ with_controls cs was d place
+unset None cs was d place e = refl
+unset (Some (control.Data new)) cs was d place e = absurd cc
+unset (Some (control.Ramp ramp)) cs was d place e = absurd cc
+unset (Some (control.Insert x)) cs was d place e = refl
+
+pub unfilled : (o : Option Control) (cs : List Control) (form : Form) → source_control o ≡ None → filled_by (cons_option o cs) form ≡ filled_by cs form
+unfilled None cs form e = refl
+unfilled (Some (control.Data new)) cs form e = absurd cc
+unfilled (Some (control.Ramp ramp)) cs form e = absurd cc
+unfilled (Some (control.Insert x)) cs form e = ap (filled_by cs) (sym (insert_stays x form))
+
+module _ (beside : BesideLists) (rows : List Row) where
   -- those so far, one row on
   pub placed_more : (i : ℕ) (row : Row) → i < length rows → row ≡ get_or rows i row → all_placed beside (take (i + 1) rows) ≡ all_placed beside (take i rows) ++ placed_of beside row ∷ []
   placed_more i row less is =
@@ -125,11 +151,9 @@ module _ (beside : List HostAction) (rows : List Row) where
         let first : filter_map control_of (placed_of beside row ∷ left (i + 1)) ≡ c ∷ filter_map control_of (left (i + 1)) = rw asks refl in
         ap (filter_map control_of) (left_number i row less is number) ∙ first
 
-    pub controls_none : (i : ℕ) (row : Row) → i < length rows → row ≡ get_or rows i row → row.number ≡ n → control_of (placed_of beside row) ≡ None
-        → controls_at n (all_placed beside (drop i rows)) ≡ controls_at n (all_placed beside (drop (i + 1) rows))
-    controls_none i row less is number asks =
-        let first : filter_map control_of (placed_of beside row ∷ left (i + 1)) ≡ filter_map control_of (left (i + 1)) = rw asks refl in
-        ap (filter_map control_of) (left_number i row less is number) ∙ first
+    pub controls_next : (i : ℕ) (row : Row) → i < length rows → row ≡ get_or rows i row → row.number ≡ n
+        → controls_at n (all_placed beside (drop i rows)) ≡ cons_option (control_of (placed_of beside row)) (controls_at n (all_placed beside (drop (i + 1) rows)))
+    controls_next i row less is number = ap (filter_map control_of) (left_number i row less is number)
 
     pub controls_other : (i : ℕ) (row : Row) → i < length rows → row ≡ get_or rows i row → row.number ≢ n
         → controls_at n (all_placed beside (drop i rows)) ≡ controls_at n (all_placed beside (drop (i + 1) rows))

@@ -2,6 +2,7 @@ pub mod Acts
 pub mod Numbers
 pub mod Posted
 pub mod Around
+pub mod Lists
 pub mod Listed
 pub mod Marks
 pub mod Runs
@@ -21,6 +22,5 @@ pub mod Reached
 pub mod Asked
 pub mod Kept
 pub mod Sent
-pub mod Alone
 pub mod Left
 pub mod States

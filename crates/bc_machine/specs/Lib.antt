@@ -3,6 +3,7 @@ pub mod Hosting
 pub mod Controller
 pub mod Outcomes
 pub mod Rising
+pub mod Beside
 pub mod Rows
 pub mod Schedules
 pub mod Running

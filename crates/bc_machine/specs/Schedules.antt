@@ -11,6 +11,7 @@ use Rattle.bc_machine.specs.declared.action_rows.Row.{Row}
 use Rattle.bc_machine.specs.declared.schedule.Schedule.TheInside.{Inside}
 use Rattle.bc_machine.specs.declared.lookup.Lookup.{Lookup}
 use Rattle.bc_machine.specs.declared.lookup.Lookup.TheVariants as lookup
+use Rattle.bc_machine.specs.Beside.{BesideLists}
 use Rattle.bc_machine.specs.Rows.{all_placed, rows_at, IsRow}
 
 pub record ScheduleState : Type 0 where
@@ -21,7 +22,7 @@ pub record ScheduleState : Type 0 where
   pub sources : SourcesState
 
 abbrev pub schedule_in : Inside → ScheduleState
-schedule_in s = record { actions = all_placed s.beside.items s.rows.items; capacity = s.most; sources = s.sources }
+schedule_in s = record { actions = all_placed s.beside.lists s.rows.items; capacity = s.most; sources = s.sources }
 
 -- whether the host of a controller sets sources
 abbrev pub sets_sources : HostAction → Bool
@@ -56,16 +57,16 @@ pub record BeginsAt (least : ℕ) (rows : List Row) (place : ℕ) : Type 0 where
   pub others : AllWithin (λ (r : Row). least ≤ r.number) rows place (length rows)
 
 -- the same rows by rising number, those of each number in their order
-pub record AreSorted (count : ℕ) (rows sorted : List Row) : Type 0 where
-  pub all : All (IsRow count) sorted
+pub record AreSorted (beside : BesideLists) (rows sorted : List Row) : Type 0 where
+  pub all : All (IsRow beside) sorted
   pub rising : AreRising sorted
   pub same : (n : ℕ) → rows_at n sorted ≡ rows_at n rows
 
 -- what is known of rows by how those of a number are found among them
-abbrev pub FindsRows : Lookup → ℕ → List Row → Type 0
-FindsRows lookup.Rising count rows = AreRising rows
-FindsRows (lookup.Sorted sorted) count rows = AreSorted count rows sorted.items
-FindsRows lookup.Each count rows = Unit {0}
+abbrev pub FindsRows : Lookup → BesideLists → List Row → Type 0
+FindsRows lookup.Rising beside rows = AreRising rows
+FindsRows (lookup.Sorted sorted) beside rows = AreSorted beside rows sorted.items
+FindsRows lookup.Each beside rows = Unit {0}
 
 -- whether the rows that are found are of one number alone
 abbrev pub finds_alone : Lookup → Bool
@@ -77,14 +78,14 @@ abbrev pub AreOf : ℕ → List Row → Type 0
 AreOf number rows = All (λ (r : Row). r.number ≡ number) rows
 
 pub record IsSchedule (s : Inside) : Type 0 where
-  pub rows : All (IsRow (length s.beside.items)) s.rows.items
-  pub found : FindsRows s.lookup (length s.beside.items) s.rows.items
+  pub rows : All (IsRow s.beside.lists) s.rows.items
+  pub found : FindsRows s.lookup s.beside.lists s.rows.items
   pub within : vec_len s.rows ≤ s.most
   pub room : s.most ≤ vec_capacity s.rows
   -- there is room beside the rows for those to come, each of which may stand there whole
-  pub beside : vec_len s.beside + s.most ≤ vec_capacity s.beside + vec_len s.rows
-  pub few : vec_len s.beside + s.most ≤ 4294967295 + vec_len s.rows
-  pub controls : MayControl s.controls (all_placed s.beside.items s.rows.items)
+  pub beside : length s.beside.lists.wholes + s.most ≤ s.beside.capacity + vec_len s.rows
+  pub few : length s.beside.lists.wholes + s.most ≤ 4294967295 + vec_len s.rows
+  pub controls : MayControl s.controls (all_placed s.beside.lists s.rows.items)
   -- there is room for sources where an action sets some, or where there is room for one more
-  pub sets : HaveRoom s.sources.ready (all_placed s.beside.items s.rows.items)
+  pub sets : HaveRoom s.sources.ready (all_placed s.beside.lists s.rows.items)
   pub ready : vec_len s.rows < s.most → s.sources.ready ≡ true

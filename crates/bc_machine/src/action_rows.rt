@@ -1,29 +1,36 @@
 //! Placed actions as rows of 16 bytes.
-ghost use Rattle.bc_machine.specs.Controller.{ready, host_acted, control_of};
+ghost use Rattle.bc_machine.specs.Beside.{IsMore};
+ghost use Rattle.bc_machine.specs.Controller.{ready, host_acted, control_in, control_of};
 ghost use Rattle.bc_machine.specs.Hosting.{insertion_of};
-ghost use Rattle.bc_machine.specs.Rows.{action_of, placed_of, all_placed, alone, IsKeptAction, IsRow, IsMore};
+ghost use Rattle.bc_machine.specs.Rows.{action_of, placed_of, all_placed, alone, source_control};
+ghost use Rattle.bc_machine.specs.Rows.{IsAlone, IsKeptAction, IsRow};
 ghost use Rattle.bc_machine.specs.declared.placed.HostAction.TheVariants as host;
+ghost use Rattle.controller_host.specs.declared.controls.Control.TheVariants as control;
 ghost use Rattle.mil_bus.specs.Exchange.{now_of};
 ghost use Rattle.mil_host.specs.declared.actions.Action.TheVariants.{Transmit};
 ghost use Rattle.std.specs.List.{insert};
 ghost use Rattle.std.specs.Option.{option_copied};
-ghost use Rattle.std.specs.Prelude.{◌≡◌, ◌+◌, ◌<◌, ◌≤◌, ℕ, length, vec_len, vec_capacity, All, IfOk, IfSome};
+ghost use Rattle.std.specs.Prelude.{◌≡◌, ◌+◌, ◌<◌, ◌≤◌, ℕ, length, vec_len, vec_capacity, All, IfSome};
 
+use crate::beside::{Beside, Inserted, insert_of};
 use crate::placed::{HostAction, Placed};
 use arrayvec::ArrayVec;
 use controller_host::{Control, Insertion};
 use mil_bus::Bus;
 use mil_host::{Action, Mark, ModeMark, ReplyGap, ResponseGap, TransmitWords, WordRamp};
 use mil_word::Line;
-use std::alloc::{AllocError, Global};
 
 /// An action in a few bytes. One of a terminal that puts up more than one data word, and one of the controller, stands
-/// whole in a list beside the rows.
+/// in lists beside the rows.
 #[derive(Clone, Copy, Debug)]
 pub enum KeptAction {
     /// One data word, for a subaddress of 1 to 29.
     Word { sub: u8, word: u16 },
-    /// The action at this place of that list.
+    /// The data words at this place of their list.
+    Put(u32),
+    /// The inserted message at this place of theirs.
+    Insert(u32),
+    /// The action at this place of those that stand whole.
     Whole(u32),
     Busy(bool),
     Service(bool),
@@ -55,29 +62,26 @@ pub struct Row {
     pub kept: KeptAction,
 }
 
-/// An action behind the others in the list, which has room for it.
-fn kept_whole(action: HostAction, beside: &mut Vec<HostAction>) -> KeptAction
-    requires room { vec_len beside.old < vec_capacity beside.old }
-    requires few { vec_len beside.old < 4294967295 }
-    ensures action { (address : ℕ) → action_of beside.new.items address result ≡ action }
-    ensures kept { IsKeptAction (length beside.new.items) result }
-    ensures more { IsMore beside.old.items beside.new.items }
-    ensures capacity { vec_capacity beside.new ≡ vec_capacity beside.old }
+/// An action behind those that stand whole, which have room for it.
+fn kept_whole(action: HostAction, beside: &mut Beside) -> KeptAction
+    requires room { length beside.old.lists.wholes < beside.old.capacity }
+    requires few { length beside.old.lists.wholes < 4294967295 }
+    ensures action { (address : ℕ) → action_of beside.new.lists address result ≡ action }
+    ensures kept { IsKeptAction beside.new.lists result }
+    ensures more { IsMore beside.old.lists beside.new.lists }
+    ensures capacity { beside.new.capacity ≡ beside.old.capacity }
 {
-    let place = beside.len() as u32;
-    beside.push_reserved(action);
-    KeptAction::Whole(place)
+    KeptAction::Whole(beside.add_whole(action))
 }
 
-/// Data words of a terminal as they are kept: one in the row, more behind the others in the list, which has room for
-/// them.
-fn kept_words(address: u8, put: TransmitWords, beside: &mut Vec<HostAction>) -> KeptAction
-    requires room { vec_len beside.old < vec_capacity beside.old }
-    requires few { vec_len beside.old < 4294967295 }
-    ensures action { action_of beside.new.items address result ≡ host.Terminal address (Transmit put) }
-    ensures kept { IsKeptAction (length beside.new.items) result }
-    ensures more { IsMore beside.old.items beside.new.items }
-    ensures capacity { vec_capacity beside.new ≡ vec_capacity beside.old }
+/// Data words of a terminal as they are kept: one in the row, more beside it. There is room for a whole action.
+fn kept_words(address: u8, put: TransmitWords, beside: &mut Beside) -> KeptAction
+    requires room { length beside.old.lists.wholes < beside.old.capacity }
+    requires few { length beside.old.lists.wholes < 4294967295 }
+    ensures action { action_of beside.new.lists address result ≡ host.Terminal address (Transmit put) }
+    ensures kept { IsKeptAction beside.new.lists result }
+    ensures more { IsMore beside.old.lists beside.new.lists }
+    ensures capacity { beside.new.capacity ≡ beside.old.capacity }
 {
     if put.words().len() == 1 {
         return KeptAction::Word {
@@ -85,18 +89,57 @@ fn kept_words(address: u8, put: TransmitWords, beside: &mut Vec<HostAction>) -> 
             word: put.words()[0],
         };
     }
-    let action = Action::Transmit(put);
-    kept_whole(HostAction::Terminal { address, action }, beside)
+    match beside.add_words(put) {
+        Ok(place) => KeptAction::Put(place),
+        Err(put) => {
+            let action = Action::Transmit(put);
+            kept_whole(HostAction::Terminal { address, action }, beside)
+        }
+    }
+}
+
+/// An inserted message as it is kept. There is room for a whole action.
+fn kept_insert(insertion: Insertion, beside: &mut Beside) -> KeptAction
+    requires room { length beside.old.lists.wholes < beside.old.capacity }
+    requires few { length beside.old.lists.wholes < 4294967295 }
+    ensures action { (address : ℕ) → action_of beside.new.lists address result
+        ≡ host.Controller (control.Insert insertion) }
+    ensures kept { IsKeptAction beside.new.lists result }
+    ensures more { IsMore beside.old.lists beside.new.lists }
+    ensures capacity { beside.new.capacity ≡ beside.old.capacity }
+{
+    match beside.add_insert(insertion) {
+        Ok(place) => KeptAction::Insert(place),
+        Err(insertion) => {
+            let control = Control::Insert(insertion);
+            kept_whole(HostAction::Controller(control), beside)
+        }
+    }
+}
+
+/// What the host of the controller asks for as it is kept. There is room for a whole action.
+fn kept_control(asked: Control, beside: &mut Beside) -> KeptAction
+    requires room { length beside.old.lists.wholes < beside.old.capacity }
+    requires few { length beside.old.lists.wholes < 4294967295 }
+    ensures action { (address : ℕ) → action_of beside.new.lists address result ≡ host.Controller asked }
+    ensures kept { IsKeptAction beside.new.lists result }
+    ensures more { IsMore beside.old.lists beside.new.lists }
+    ensures capacity { beside.new.capacity ≡ beside.old.capacity }
+{
+    match asked {
+        Control::Insert(insertion) => kept_insert(insertion, beside),
+        asked => kept_whole(HostAction::Controller(asked), beside),
+    }
 }
 
 /// An action of a terminal as it is kept.
-fn kept_action(address: u8, action: Action, beside: &mut Vec<HostAction>) -> KeptAction
-    requires room { vec_len beside.old < vec_capacity beside.old }
-    requires few { vec_len beside.old < 4294967295 }
-    ensures action { action_of beside.new.items address result ≡ host.Terminal address action }
-    ensures kept { IsKeptAction (length beside.new.items) result }
-    ensures more { IsMore beside.old.items beside.new.items }
-    ensures capacity { vec_capacity beside.new ≡ vec_capacity beside.old }
+fn kept_action(address: u8, action: Action, beside: &mut Beside) -> KeptAction
+    requires room { length beside.old.lists.wholes < beside.old.capacity }
+    requires few { length beside.old.lists.wholes < 4294967295 }
+    ensures action { action_of beside.new.lists address result ≡ host.Terminal address action }
+    ensures kept { IsKeptAction beside.new.lists result }
+    ensures more { IsMore beside.old.lists beside.new.lists }
+    ensures capacity { beside.new.capacity ≡ beside.old.capacity }
 {
     match action {
         Action::Transmit(put) => kept_words(address, put, beside),
@@ -124,25 +167,23 @@ fn kept_action(address: u8, action: Action, beside: &mut Vec<HostAction>) -> Kep
 }
 
 /// What a host asks for as it is kept, with the address of the row.
-fn kept_of(action: HostAction, beside: &mut Vec<HostAction>) -> (u8, KeptAction)
-    requires room { vec_len beside.old < vec_capacity beside.old }
-    requires few { vec_len beside.old < 4294967295 }
-    ensures action { action_of beside.new.items result.0 result.1 ≡ action }
-    ensures kept { IsKeptAction (length beside.new.items) result.1 }
-    ensures more { IsMore beside.old.items beside.new.items }
-    ensures capacity { vec_capacity beside.new ≡ vec_capacity beside.old }
+fn kept_of(action: HostAction, beside: &mut Beside) -> (u8, KeptAction)
+    requires room { length beside.old.lists.wholes < beside.old.capacity }
+    requires few { length beside.old.lists.wholes < 4294967295 }
+    ensures action { action_of beside.new.lists result.0 result.1 ≡ action }
+    ensures kept { IsKeptAction beside.new.lists result.1 }
+    ensures more { IsMore beside.old.lists beside.new.lists }
+    ensures capacity { beside.new.capacity ≡ beside.old.capacity }
 {
     match action {
         HostAction::Terminal { address, action } => (address, kept_action(address, action, beside)),
-        HostAction::Controller(control) => {
-            (0, kept_whole(HostAction::Controller(control), beside))
-        }
+        HostAction::Controller(control) => (0, kept_control(control, beside)),
     }
 }
 
 /// An action of a terminal that stands in a row alone.
 fn action_alone(kept: &KeptAction) -> Action
-    requires { IsKeptAction 0 kept.now }
+    requires { IsAlone kept.now }
     ensures { result ≡ alone kept.now }
 {
     match kept {
@@ -151,7 +192,7 @@ fn action_alone(kept: &KeptAction) -> Action
             one.push(*word);
             Action::Transmit(TransmitWords::make(*sub, one))
         }
-        KeptAction::Whole(_) => unreachable!(),
+        KeptAction::Put(_) | KeptAction::Insert(_) | KeptAction::Whole(_) => unreachable!(),
         KeptAction::Busy(on) => Action::Busy(*on),
         KeptAction::Service(on) => Action::Service(*on),
         KeptAction::Subsystem(on) => Action::Subsystem(*on),
@@ -181,15 +222,35 @@ fn action_alone(kept: &KeptAction) -> Action
     }
 }
 
+/// The control of a whole action that sets sources, if it is one.
+fn source_control_of(action: &HostAction) -> Option<&Control>
+    ensures { option_copied result ≡ source_control (control_in action.now) }
+{
+    match action {
+        HostAction::Terminal { .. } | HostAction::Controller(Control::Insert(_)) => None,
+        HostAction::Controller(control) => Some(control),
+    }
+}
+
+/// The whole action acts on a bus, where it is a terminal's.
+fn act_whole(action: &HostAction, bus: &mut Bus)
+    ensures bus { bus.new ≡ host_acted bus.old action.now }
+    ensures clock { now_of bus.new ≡ now_of bus.old }
+{
+    if let HostAction::Terminal { address, action } = action {
+        bus.act(*address, action);
+    }
+}
+
 impl Row {
-    /// The row of a placed action. The list has room for an action.
-    pub fn of(one: Placed, beside: &mut Vec<HostAction>) -> Row
-        requires room { vec_len beside.old < vec_capacity beside.old }
-        requires few { vec_len beside.old < 4294967295 }
-        ensures placed { placed_of beside.new.items result ≡ one }
-        ensures row { IsRow (length beside.new.items) result }
-        ensures more { IsMore beside.old.items beside.new.items }
-        ensures capacity { vec_capacity beside.new ≡ vec_capacity beside.old }
+    /// The row of a placed action. There is room for a whole action.
+    pub fn of(one: Placed, beside: &mut Beside) -> Row
+        requires room { length beside.old.lists.wholes < beside.old.capacity }
+        requires few { length beside.old.lists.wholes < 4294967295 }
+        ensures placed { placed_of beside.new.lists result ≡ one }
+        ensures row { IsRow beside.new.lists result }
+        ensures more { IsMore beside.old.lists beside.new.lists }
+        ensures capacity { beside.new.capacity ≡ beside.old.capacity }
     {
         let Placed { number, action } = one;
         let (address, kept) = kept_of(action, beside);
@@ -200,13 +261,20 @@ impl Row {
         }
     }
 
-    /// What the host asks for, from the list where it stands whole.
-    fn action(&self, beside: &[HostAction]) -> HostAction
-        requires { IsRow (length beside.now) self.now }
-        ensures { result ≡ action_of beside.now self.now.address self.now.kept }
+    /// What the host asks for, with what stands beside the row.
+    fn action(&self, beside: &Beside) -> HostAction
+        requires { IsRow beside.now.lists self.now }
+        ensures { result ≡ action_of beside.now.lists self.now.address self.now.kept }
     {
         match &self.kept {
-            KeptAction::Whole(place) => beside[*place as usize].copy(),
+            KeptAction::Put(place) => HostAction::Terminal {
+                address: self.address,
+                action: Action::Transmit(beside.words(*place).copy()),
+            },
+            KeptAction::Insert(place) => {
+                HostAction::Controller(Control::Insert(beside.insert(*place).insertion()))
+            }
+            KeptAction::Whole(place) => beside.whole(*place).copy(),
             kept => HostAction::Terminal {
                 address: self.address,
                 action: action_alone(kept),
@@ -214,10 +282,10 @@ impl Row {
         }
     }
 
-    /// The placed action, from the list where it stands whole.
-    pub fn placed(&self, beside: &[HostAction]) -> Placed
-        requires { IsRow (length beside.now) self.now }
-        ensures { result ≡ placed_of beside.now self.now }
+    /// The placed action, with what stands beside the row.
+    pub fn placed(&self, beside: &Beside) -> Placed
+        requires { IsRow beside.now.lists self.now }
+        ensures { result ≡ placed_of beside.now.lists self.now }
     {
         Placed {
             number: self.number,
@@ -225,76 +293,58 @@ impl Row {
         }
     }
 
-    /// What the host asks for, where it stands whole in the list.
-    pub fn whole<'a>(&self, beside: &'a [HostAction]) -> Option<&'a HostAction>
-        requires { IsRow (length beside.now) self.now }
-        ensures { IfSome result (λ a. a.now ≡ (placed_of beside.now self.now).action) }
+    /// What the host asks for, where it stands whole beside the row.
+    pub fn whole<'a>(&self, beside: &'a Beside) -> Option<&'a HostAction>
+        requires { IsRow beside.now.lists self.now }
+        ensures { IfSome result (λ a. a.now ≡ (placed_of beside.now.lists self.now).action) }
     {
         match &self.kept {
-            KeptAction::Whole(place) => Some(&beside[*place as usize]),
+            KeptAction::Whole(place) => Some(beside.whole(*place)),
             _ => None,
         }
     }
 
-    /// The action of the controller's host that it stands for, if it does.
-    pub fn control<'a>(&self, beside: &'a [HostAction]) -> Option<&'a Control>
-        requires { IsRow (length beside.now) self.now }
-        ensures { option_copied result ≡ control_of (placed_of beside.now self.now) }
+    /// The action of the controller's host that it stands for, if that sets sources.
+    pub fn source_control<'a>(&self, beside: &'a Beside) -> Option<&'a Control>
+        requires { IsRow beside.now.lists self.now }
+        ensures { option_copied result ≡ source_control (control_of (placed_of beside.now.lists self.now)) }
     {
-        let KeptAction::Whole(place) = &self.kept else {
-            return None;
-        };
-        match &beside[*place as usize] {
-            HostAction::Controller(control) => Some(control),
-            HostAction::Terminal { .. } => None,
+        match &self.kept {
+            KeptAction::Whole(place) => source_control_of(beside.whole(*place)),
+            _ => None,
         }
     }
 
     /// The message that it puts into the queue, if it does.
-    pub fn insertion<'a>(&self, beside: &'a [HostAction]) -> Option<&'a Insertion>
-        requires { IsRow (length beside.now) self.now }
-        ensures { option_copied result ≡ insertion_of (placed_of beside.now self.now).action }
+    pub fn insertion<'a>(&self, beside: &'a Beside) -> Option<Inserted<'a>>
+        requires { IsRow beside.now.lists self.now }
+        ensures { result ≡ insertion_of (placed_of beside.now.lists self.now).action }
     {
-        match self.control(beside) {
-            Some(Control::Insert(insertion)) => Some(insertion),
+        match &self.kept {
+            KeptAction::Insert(place) => Some(beside.insert(*place)),
+            KeptAction::Whole(place) => insert_of(beside.whole(*place)),
             _ => None,
         }
     }
 
     /// The action acts on a bus, where it is a terminal's.
-    fn act(&self, bus: &mut Bus, beside: &[HostAction])
-        requires { IsRow (length beside.now) self.now }
-        ensures bus { bus.new ≡ host_acted bus.old (placed_of beside.now self.now).action }
+    fn act(&self, bus: &mut Bus, beside: &Beside)
+        requires { IsRow beside.now.lists self.now }
+        ensures bus { bus.new ≡ host_acted bus.old (placed_of beside.now.lists self.now).action }
         ensures clock { now_of bus.new ≡ now_of bus.old }
     {
         match &self.kept {
-            KeptAction::Whole(place) => {
-                if let HostAction::Terminal { address, action } = &beside[*place as usize] {
-                    bus.act(*address, action);
-                }
+            KeptAction::Put(place) => {
+                let put = beside.words(*place).copy();
+                bus.act(self.address, &Action::Transmit(put));
             }
+            KeptAction::Insert(_) => {}
+            KeptAction::Whole(place) => act_whole(beside.whole(*place), bus),
             kept => {
                 bus.act(self.address, &action_alone(kept));
             }
         }
     }
-}
-
-/// Copies of actions, in their order, with room for so many more. It fails for want of memory alone.
-pub fn copies_of(
-    alloc: Global,
-    beside: &[HostAction],
-    more: usize,
-) -> Result<Vec<HostAction>, AllocError>
-    ensures same { IfOk result (λ v. v.items ≡ beside.now) }
-    ensures room { IfOk result (λ v. length beside.now + more ≤ vec_capacity v) }
-{
-    let mut copies = Vec::with_capacity(alloc, beside.len())?;
-    for one in beside {
-        copies.push_reserved(one.copy());
-    }
-    copies.reserve(more)?;
-    Ok(copies)
 }
 
 /// Puts a row at a place among others, which have room for it.
@@ -320,9 +370,9 @@ pub fn insert_row(rows: &mut Vec<Row>, place: usize, row: Row)
 }
 
 /// The terminals' actions of the rows of a number act, in their order.
-pub fn act_at(bus: &mut Bus, rows: &[Row], beside: &[HostAction], number: u32)
-    requires { All (IsRow (length beside.now)) rows.now }
-    ensures bus { bus.new ≡ ready (all_placed beside.now rows.now) number bus.old }
+pub fn act_at(bus: &mut Bus, rows: &[Row], beside: &Beside, number: u32)
+    requires { All (IsRow beside.now.lists) rows.now }
+    ensures bus { bus.new ≡ ready (all_placed beside.now.lists rows.now) number bus.old }
     ensures clock { now_of bus.new ≡ now_of bus.old }
 {
     for row in rows {

@@ -11,8 +11,9 @@ use crate::{HostAction, Placed};
 use std::alloc::{AllocError, Global};
 use std::marker::Model;
 
-/// Placed actions, in their order: a list that takes 16 bytes for each, and the data words beside these where an action
-/// has more than one.
+/// Placed actions, in their order: a list that takes 16 bytes for each, and beside these what an action has more: the
+/// data words where there is more than one, and 16 bytes for an inserted message, which is kept once where it recurs
+/// among the few before.
 #[derive(Drop)]
 pub struct Actions {
     schedule: Schedule,
@@ -73,8 +74,8 @@ impl Actions {
         self.schedule.get(place)
     }
 
-    /// What is asked for at a place, counted from 0, where it is at hand whole, as what takes more memory than a row
-    /// has is: looking costs less than `get`, which makes a copy. None says nothing.
+    /// What is asked for at a place, counted from 0, where it is at hand whole, as some of what takes more memory than
+    /// a row has is: looking costs less than `get`, which makes a copy. None says nothing.
     pub fn whole(&self, place: usize) -> Option<&HostAction>
         requires { place < length self.now }
         ensures { (one : Placed) → IfSome result (λ a. a.now ≡ (slice_index_or self.now place one).action) }

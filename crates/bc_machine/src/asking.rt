@@ -14,21 +14,17 @@ ghost use Rattle.std.specs.Prelude.{◌≡◌, ◌-◌, ◌<◌, ◌≤◌, ◌+
 ghost use Rattle.std.specs.Prelude.{IfNone, IfSome, OnOk, OnErr, slice_set};
 
 use crate::action_rows::Row;
-use crate::placed::HostAction;
+use crate::beside::{Beside, Inserted};
 use crate::schedule::Schedule;
-use controller_host::{Control, Destination, Insertion, Row as SourceRow, Sources};
+use controller_host::{Control, Destination, Row as SourceRow, Sources};
 use mil_message::Message;
 use std::alloc::AllocError;
 
 /// The first insert of rows from one of them on, where all are of one number.
-fn insert_from<'a>(
-    rows: &[Row],
-    beside: &'a [HostAction],
-    passed: usize,
-) -> Option<(usize, &'a Insertion)>
-    requires { All (IsRow (length beside.now)) rows.now }
-    ensures there { IfSome result (λ x. IsInsertAt (all_placed beside.now rows.now) passed x.0 x.1.now) }
-    ensures none { IfNone result (inserts_among (drop passed (all_placed beside.now rows.now)) ≡ []) }
+fn insert_from<'a>(rows: &[Row], beside: &'a Beside, passed: usize) -> Option<(usize, Inserted<'a>)>
+    requires { All (IsRow beside.now.lists) rows.now }
+    ensures there { IfSome result (λ x. IsInsertAt (all_placed beside.now.lists rows.now) passed x.0 x.1) }
+    ensures none { IfNone result (inserts_among (drop passed (all_placed beside.now.lists rows.now)) ≡ []) }
 {
     for place in passed..rows.len() {
         if let Some(insertion) = rows[place].insertion(beside) {
@@ -41,15 +37,15 @@ fn insert_from<'a>(
 /// The first insert at a number among rows, behind so many of that number.
 fn insert_among<'a>(
     rows: &[Row],
-    beside: &'a [HostAction],
+    beside: &'a Beside,
     number: u32,
     passed: usize,
-) -> Option<(usize, &'a Insertion)>
-    requires { All (IsRow (length beside.now)) rows.now }
+) -> Option<(usize, Inserted<'a>)>
+    requires { All (IsRow beside.now.lists) rows.now }
     ensures there { IfSome result
-        (λ x. IsInsertAt (placed_at number (all_placed beside.now rows.now)) passed x.0 x.1.now) }
+        (λ x. IsInsertAt (placed_at number (all_placed beside.now.lists rows.now)) passed x.0 x.1) }
     ensures none { IfNone result
-        (inserts_among (drop passed (placed_at number (all_placed beside.now rows.now))) ≡ []) }
+        (inserts_among (drop passed (placed_at number (all_placed beside.now.lists rows.now))) ≡ []) }
 {
     let mut place = 0;
     for row in rows {
@@ -66,9 +62,9 @@ fn insert_among<'a>(
 }
 
 /// Whether a row puts a message into the queue.
-fn is_insert(row: &Row, beside: &[HostAction]) -> bool
-    requires { IsRow (length beside.now) row.now }
-    ensures { result ≡ is_some (insertion_of (placed_of beside.now row.now).action) }
+fn is_insert(row: &Row, beside: &Beside) -> bool
+    requires { IsRow beside.now.lists row.now }
+    ensures { result ≡ is_some (insertion_of (placed_of beside.now.lists row.now).action) }
 {
     row.insertion(beside).is_some()
 }
@@ -87,9 +83,9 @@ fn count_among(rows: &[Row], number: u32) -> usize
 }
 
 /// How many rows put a message into the queue.
-fn inserts_in(rows: &[Row], beside: &[HostAction]) -> u64
-    requires { All (IsRow (length beside.now)) rows.now }
-    ensures { result ≡ length (inserts_among (all_placed beside.now rows.now)) }
+fn inserts_in(rows: &[Row], beside: &Beside) -> u64
+    requires { All (IsRow beside.now.lists) rows.now }
+    ensures { result ≡ length (inserts_among (all_placed beside.now.lists rows.now)) }
 {
     let mut count = 0;
     for row in rows {
@@ -101,9 +97,9 @@ fn inserts_in(rows: &[Row], beside: &[HostAction]) -> u64
 }
 
 /// How many rows of numbers from 1 up to one put a message into the queue.
-fn inserts_below(rows: &[Row], beside: &[HostAction], number: u32) -> u64
-    requires { All (IsRow (length beside.now)) rows.now }
-    ensures { result ≡ length (inserts_up_to number (all_placed beside.now rows.now)) }
+fn inserts_below(rows: &[Row], beside: &Beside, number: u32) -> u64
+    requires { All (IsRow beside.now.lists) rows.now }
+    ensures { result ≡ length (inserts_up_to number (all_placed beside.now.lists rows.now)) }
 {
     let mut count = 0;
     for row in rows {
@@ -115,18 +111,18 @@ fn inserts_below(rows: &[Row], beside: &[HostAction], number: u32) -> u64
 }
 
 /// Sets sources by the actions of the rows of a number, in their order.
-fn set_at(sources: &mut Sources, rows: &[Row], beside: &[HostAction], number: u32)
-    requires rows { All (IsRow (length beside.now)) rows.now }
-    requires ready { HaveRoom sources.old.ready (placed_at number (all_placed beside.now rows.now)) }
+fn set_at(sources: &mut Sources, rows: &[Row], beside: &Beside, number: u32)
+    requires rows { All (IsRow beside.now.lists) rows.now }
+    requires ready { HaveRoom sources.old.ready (placed_at number (all_placed beside.now.lists rows.now)) }
     ensures ready { sources.new.ready ≡ sources.old.ready }
     ensures sources { (d : DestinationValue) (place : ℕ) → IsPlace d place
         → source_in sources.new.rows d place
-        ≡ with_controls (controls_at number (all_placed beside.now rows.now)) (source_in sources.old.rows d place) d
-        place }
+        ≡ with_controls (controls_at number (all_placed beside.now.lists rows.now))
+        (source_in sources.old.rows d place) d place }
 {
     for row in rows {
         if row.number == number {
-            if let Some(control) = row.control(beside) {
+            if let Some(control) = row.source_control(beside) {
                 sources.set(control);
             }
         }
@@ -176,13 +172,13 @@ fn fill(sent: &mut Message, control: &Control)
 }
 
 /// Puts the words into a message that the actions of the rows of a number ask for, one after the other.
-fn fill_among(sent: &mut Message, rows: &[Row], beside: &[HostAction], number: u32)
-    requires { All (IsRow (length beside.now)) rows.now }
-    ensures { sent.new ≡ filled_by (controls_at number (all_placed beside.now rows.now)) sent.old }
+fn fill_among(sent: &mut Message, rows: &[Row], beside: &Beside, number: u32)
+    requires { All (IsRow beside.now.lists) rows.now }
+    ensures { sent.new ≡ filled_by (controls_at number (all_placed beside.now.lists rows.now)) sent.old }
 {
     for row in rows {
         if row.number == number {
-            if let Some(control) = row.control(beside) {
+            if let Some(control) = row.source_control(beside) {
                 fill(sent, control);
             }
         }
@@ -197,17 +193,17 @@ impl Schedule {
         self.controls
     }
 
-    /// Rows that have all of a number, in their order, the list beside them, and whether they are of no other.
-    fn rows_at(&self, number: u32) -> (&[Row], &[HostAction], bool)
-        ensures same { placed_at number (all_placed result.1.now result.0.now) ≡ placed_at number self.now.actions }
-        ensures rows { All (IsRow (length result.1.now)) result.0.now }
+    /// Rows that have all of a number, in their order, the lists beside them, and whether they are of no other.
+    fn rows_at(&self, number: u32) -> (&[Row], &Beside, bool)
+        ensures same { placed_at number (all_placed result.1.now.lists result.0.now)
+            ≡ placed_at number self.now.actions }
+        ensures rows { All (IsRow result.1.now.lists) result.0.now }
         ensures alone { result.2 ≡ true → AreOf number result.0.now }
     {
         let rows = self.rows.as_slice();
-        let beside = self.beside.as_slice();
         (
-            self.lookup.rows_of(rows, beside, number, self.near),
-            beside,
+            self.lookup.rows_of(rows, &self.beside, number, self.near),
+            &self.beside,
             self.lookup.finds_alone(),
         )
     }
@@ -221,8 +217,8 @@ impl Schedule {
     }
 
     /// The first insert at a number behind so many of its actions: how many of these stand in front of it, and it.
-    pub fn insert_at(&self, number: u32, passed: usize) -> Option<(usize, &Insertion)>
-        ensures there { IfSome result (λ x. IsInsertAt (placed_at number self.now.actions) passed x.0 x.1.now) }
+    pub fn insert_at(&self, number: u32, passed: usize) -> Option<(usize, Inserted<'_>)>
+        ensures there { IfSome result (λ x. IsInsertAt (placed_at number self.now.actions) passed x.0 x.1) }
         ensures none { IfNone result (inserts_among (drop passed (placed_at number self.now.actions)) ≡ []) }
     {
         let (rows, beside, alone) = self.rows_at(number);
@@ -239,7 +235,7 @@ impl Schedule {
         if !self.has_controls() {
             return 0;
         }
-        inserts_in(self.rows.as_slice(), self.beside.as_slice())
+        inserts_in(self.rows.as_slice(), &self.beside)
     }
 
     /// How many inserts there are at numbers from 1 up to one.
@@ -249,7 +245,7 @@ impl Schedule {
         if !self.has_controls() {
             return 0;
         }
-        inserts_below(self.rows.as_slice(), self.beside.as_slice(), number)
+        inserts_below(self.rows.as_slice(), &self.beside, number)
     }
 
     /// The sources that were set.
@@ -278,6 +274,7 @@ impl Schedule {
         ensures same { IfOk result (λ v. v.items ≡ self.now.sources.rows) }
         ensures rows { IfOk result (λ v. AreRows v.items) }
     {
+        // (by this call it is known that what is kept are rows)
         let _rows = self.sources.rows();
         self.sources.saved(self.allocator())
     }
@@ -301,10 +298,9 @@ impl Schedule {
         if !self.has_controls() {
             return;
         }
-        let beside = self.beside.as_slice();
         let rows = self.rows.as_slice();
-        let found = self.lookup.rows_of(rows, beside, number, self.near);
-        set_at(&mut self.sources, found, beside, number);
+        let found = self.lookup.rows_of(rows, &self.beside, number, self.near);
+        set_at(&mut self.sources, found, &self.beside, number);
     }
 
     /// Sets the sources of this list by the actions of another list at a number.

@@ -11,6 +11,7 @@ mod actions;
 mod agenda;
 mod asking;
 mod begun;
+mod beside;
 mod ended;
 mod frames;
 mod laws;

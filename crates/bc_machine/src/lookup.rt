@@ -1,11 +1,12 @@
 //! How the placed actions of a number are found among the others.
+ghost use Rattle.bc_machine.specs.Beside.{BesideLists};
 ghost use Rattle.bc_machine.specs.Rows.{rows_at, IsRow};
 ghost use Rattle.bc_machine.specs.Schedules.{AreOf, AreRising, AreSorted, BeginsAt, FindsRows, finds_alone};
 ghost use Rattle.std.specs.List.{AllWithin};
-ghost use Rattle.std.specs.Prelude.{◌≡◌, ◌<◌, ◌≤◌, ℕ, List, IsTrue, All, IfOk, length, true};
+ghost use Rattle.std.specs.Prelude.{◌≡◌, ◌<◌, ◌≤◌, List, IsTrue, All, IfOk, length, true};
 
 use crate::action_rows::Row;
-use crate::placed::HostAction;
+use crate::beside::Beside;
 use crate::schedule::Schedule;
 use std::alloc::{AllocError, Global};
 
@@ -86,7 +87,7 @@ fn begin_of(rows: &[Row], least: u64, near: usize) -> usize
 fn part(rows: &[Row], number: u32, near: usize) -> &[Row]
     requires { AreRising rows.now }
     ensures same { rows_at number result.now ≡ rows_at number rows.now }
-    ensures rows { (n : ℕ) → All (IsRow n) rows.now → All (IsRow n) result.now }
+    ensures rows { (beside : BesideLists) → All (IsRow beside) rows.now → All (IsRow beside) result.now }
     ensures alone { AreOf number result.now }
 {
     let least = u64::from(number);
@@ -98,7 +99,8 @@ fn part(rows: &[Row], number: u32, near: usize) -> &[Row]
 
 /// Rows by rising number, those of one number in their order.
 fn sorted(alloc: Global, rows: &[Row]) -> Result<Vec<Row>, AllocError>
-    ensures { (count : ℕ) → All (IsRow count) rows.now → IfOk result (λ v. AreSorted count rows.now v.items) }
+    ensures { (beside : BesideLists) → All (IsRow beside) rows.now
+        → IfOk result (λ v. AreSorted beside rows.now v.items) }
 {
     let mut sorted = rows.to_vec(alloc)?;
     sorted.sort_by_key(|row| row.number)?;
@@ -108,14 +110,16 @@ fn sorted(alloc: Global, rows: &[Row]) -> Result<Vec<Row>, AllocError>
 impl Lookup {
     /// From now on nothing is known of the rows but, at most, that their numbers never fall.
     pub fn reset(&mut self, rising: bool)
-        ensures { (count : ℕ) (rows : List Row) → (IsTrue rising → AreRising rows) → FindsRows self.new count rows }
+        ensures { (beside : BesideLists) (rows : List Row) → (IsTrue rising → AreRising rows)
+            → FindsRows self.new beside rows }
     {
         *self = if rising { Lookup::Rising } else { Lookup::Each };
     }
 
     /// Whether the numbers are known never to fall.
     pub fn is_rising(&self) -> bool
-        ensures { (count : ℕ) (rows : List Row) → FindsRows self.now count rows → IsTrue result → AreRising rows }
+        ensures { (beside : BesideLists) (rows : List Row) → FindsRows self.now beside rows → IsTrue result
+            → AreRising rows }
     {
         matches!(self, Lookup::Rising)
     }
@@ -142,14 +146,14 @@ impl Lookup {
     pub fn rows_of<'a>(
         &'a self,
         rows: &'a [Row],
-        beside: &[HostAction],
+        beside: &Beside,
         number: u32,
         near: usize,
     ) -> &'a [Row]
-        requires found { FindsRows self.now (length beside.now) rows.now }
-        requires rows { All (IsRow (length beside.now)) rows.now }
+        requires found { FindsRows self.now beside.now.lists rows.now }
+        requires rows { All (IsRow beside.now.lists) rows.now }
         ensures same { rows_at number result.now ≡ rows_at number rows.now }
-        ensures rows { All (IsRow (length beside.now)) result.now }
+        ensures rows { All (IsRow beside.now.lists) result.now }
         ensures alone { finds_alone self.now ≡ true → AreOf number result.now }
     {
         match self {
@@ -161,8 +165,8 @@ impl Lookup {
 
     /// How the rows of a copy are found: without a look at each. It fails for want of memory alone.
     pub fn of_copy(&self, alloc: Global, rows: &[Row]) -> Result<Lookup, AllocError>
-        ensures { (count : ℕ) → All (IsRow count) rows.now → FindsRows self.now count rows.now
-            → IfOk result (λ lookup. FindsRows lookup count rows.now) }
+        ensures { (beside : BesideLists) → All (IsRow beside) rows.now → FindsRows self.now beside rows.now
+            → IfOk result (λ lookup. FindsRows lookup beside rows.now) }
     {
         match self {
             Lookup::Rising => Ok(Lookup::Rising),

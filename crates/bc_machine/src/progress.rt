@@ -1,5 +1,5 @@
 //! How far a controller has come.
-ghost use Rattle.std.specs.Prelude.{◌≡◌};
+ghost use Rattle.std.specs.Prelude.{◌≡◌, ◌<◌, ◌+◌, ◌^◌, Some};
 
 use crate::stack::Stack;
 use mil_bus::Outcome;
@@ -26,6 +26,25 @@ pub struct Progress {
 }
 
 impl Progress {
+    /// A step has sent a message of the script on this line, and this is what it came to.
+    pub(crate) fn note_sent(&mut self, line: Line, outcome: Outcome)
+        requires taken { self.old.taken < 2 ^ 31 }
+        requires place { self.old.place < 4096 }
+        ensures { self.new ≡ record self.old {
+          taken = self.old.taken + 1;
+          place = self.old.place + 1;
+          line = line;
+          last = Some outcome;
+          latest = Some outcome;
+        } }
+    {
+        self.last = Some(outcome);
+        self.latest = Some(outcome);
+        self.line = line;
+        self.place += 1;
+        self.taken += 1;
+    }
+
     /// The same once more.
     pub fn copy(&self) -> Progress
         ensures { result ≡ self.now }

@@ -6,6 +6,7 @@ ghost use Rattle.bc_machine.specs.Schedules.{MayControl};
 ghost use Rattle.std.specs.Prelude.{◌≡◌, ◌<◌, ◌≤◌, ◌+◌, ◌^◌, [], length, drop, IfSome, IfNone};
 
 use crate::agenda::{Agenda, Cursor};
+use crate::beside::Inserted;
 use crate::schedule::one_of;
 use controller_host::Insertion;
 
@@ -18,8 +19,8 @@ impl Agenda {
     }
 
     /// The first insert at a number behind so many of its actions, and how many of these stand in front of it.
-    fn insert_at(&self, number: u32, passed: usize) -> Option<(usize, &Insertion)>
-        ensures there { IfSome result (λ x. IsInsertAt (placed_at number self.now.placed) passed x.0 x.1.now) }
+    fn insert_at(&self, number: u32, passed: usize) -> Option<(usize, Inserted<'_>)>
+        ensures there { IfSome result (λ x. IsInsertAt (placed_at number self.now.placed) passed x.0 x.1) }
         ensures none { IfNone result (inserts_among (drop passed (placed_at number self.now.placed)) ≡ []) }
     {
         // It stands behind fewer actions than there are.
@@ -115,7 +116,7 @@ impl Agenda {
         ensures { result ≡ first_of (queue_at (length self.now.made + 1) self.now.placed self.now.made) }
     {
         match self.insert_at(head.number, head.passed) {
-            Some((_, insertion)) => Some(insertion.copy()),
+            Some((_, inserted)) => Some(inserted.insertion()),
             None => None,
         }
     }

@@ -8,8 +8,9 @@ ghost use Rattle.std.specs.Prelude.{IsTrue, IfOk, IfErr, IfSome, OnOk, OnErr};
 ghost use Rattle.std.specs.Prelude.{◌≡◌, ℕ, ◌+◌, ◌^◌, ◌<◌, ◌≤◌, ◌++◌, ◌∷◌, ◌||◌, [], true, min, max, length};
 ghost use Rattle.std.specs.Prelude.{take, slice_index_or};
 
-use crate::action_rows::{Row, act_at, copies_of, insert_row};
+use crate::action_rows::{Row, act_at, insert_row};
 use crate::actions::Actions;
+use crate::beside::{Beside, MOST_BESIDE};
 use crate::lookup::Lookup;
 use crate::placed::{HostAction, Placed};
 use controller_host::{Control, Sources};
@@ -17,16 +18,13 @@ use mil_bus::Bus;
 use std::alloc::{AllocError, Global};
 use std::marker::Model;
 
-/// At most so many actions stand whole beside the rows.
-const MOST_BESIDE: usize = 4_294_967_295;
-
 /// Placed actions, in their order, and room for more; contracts see the list and for how many there is room. Where
 /// their numbers never fall, and in a copy, those of one number are found without a look at all others.
 #[derive(Drop)]
 pub struct Schedule {
     pub(crate) rows: Vec<Row>,
-    /// The actions that do not stand in a row.
-    pub(crate) beside: Vec<HostAction>,
+    /// What does not fit into the rows.
+    pub(crate) beside: Beside,
     /// How those of a number are found.
     pub(crate) lookup: Lookup,
     /// Where the rows of the number that was met last begin, as far as it is known; those of others are searched.
@@ -100,6 +98,7 @@ impl Schedule {
         let len = schedule.len();
         schedule.shrink(len);
         schedule.restore_sources(&[]);
+        // (by this call it is known that there is room where an action sets a source)
         let _ready = schedule.is_ready();
         schedule
     }
@@ -111,7 +110,7 @@ impl Schedule {
     {
         Schedule {
             rows: Vec::new(alloc),
-            beside: Vec::new(alloc),
+            beside: Beside::none(alloc),
             lookup: Lookup::Rising,
             near: 0,
             most: 0,
@@ -156,15 +155,15 @@ impl Schedule {
         requires { place < length self.now.actions }
         ensures { result ≡ slice_index_or self.now.actions place result }
     {
-        self.rows[place].placed(self.beside.as_slice())
+        self.rows[place].placed(&self.beside)
     }
 
-    /// What is asked for at a place, counted from 0, where it takes more memory than a row has. None says nothing.
+    /// What is asked for at a place, counted from 0, where it stands whole beside the rows. None says nothing.
     pub fn whole(&self, place: usize) -> Option<&HostAction>
         requires { place < length self.now.actions }
         ensures { (one : Placed) → IfSome result (λ a. a.now ≡ (slice_index_or self.now.actions place one).action) }
     {
-        self.rows[place].whole(self.beside.as_slice())
+        self.rows[place].whole(&self.beside)
     }
 
     /// The number of the action at a place, counted from 0.
@@ -183,7 +182,7 @@ impl Schedule {
     {
         if most > self.most {
             let more = most - self.rows.len();
-            if more > MOST_BESIDE - self.beside.len() {
+            if more > MOST_BESIDE - self.beside.count_wholes() {
                 return Err(AllocError);
             }
             self.rows.reserve(more)?;
@@ -267,11 +266,11 @@ impl Schedule {
         ensures pushed { OnOk result (self.new.actions ≡ self.old.actions ++ one ∷ []) }
         ensures same { OnErr result (self.new ≡ self.old) }
     {
-        if self.beside.len() >= MOST_BESIDE {
+        if self.beside.count_wholes() >= MOST_BESIDE {
             return Err(AllocError);
         }
         self.rows.reserve(1)?;
-        self.beside.reserve(1)?;
+        self.beside.reserve_for(&one.action)?;
         let rising = follows(self.rows.as_slice(), self.lookup.is_rising(), one.number);
         self.lookup.reset(rising);
         self.controls = one_of(self.controls, is_control(&one.action));
@@ -348,11 +347,10 @@ impl Schedule {
         ensures clock { now_of bus.new ≡ now_of bus.old }
     {
         let rows = self.rows.as_slice();
-        let beside = self.beside.as_slice();
         act_at(
             bus,
-            self.lookup.rows_of(rows, beside, number, self.near),
-            beside,
+            self.lookup.rows_of(rows, &self.beside, number, self.near),
+            &self.beside,
             number,
         );
     }
@@ -381,7 +379,7 @@ impl Schedule {
         rows.reserve(more)?;
         Ok(Schedule {
             rows,
-            beside: copies_of(alloc, self.beside.as_slice(), more)?,
+            beside: self.beside.copy(alloc, more)?,
             lookup,
             near: self.near,
             most: self.most,

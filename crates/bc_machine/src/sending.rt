@@ -100,11 +100,7 @@ impl Parts {
             self.progress.gap,
             faults.as_slice(),
         );
-        self.progress.last = Some(came.1);
-        self.progress.latest = Some(came.1);
-        self.progress.line = line;
-        self.progress.place += 1;
-        self.progress.taken += 1;
+        self.progress.note_sent(line, came.1);
         Stepped::Sent(came.0)
     }
 
@@ -135,11 +131,7 @@ impl Parts {
             self.progress.gap,
             faults.as_slice(),
         );
-        self.progress.last = Some(came.1);
-        self.progress.latest = Some(came.1);
-        self.progress.line = line;
-        self.progress.place += 1;
-        self.progress.taken += 1;
+        self.progress.note_sent(line, came.1);
         Stepped::Sent(came.0)
     }
 
@@ -184,6 +176,7 @@ impl Parts {
             self.progress.gap,
             faults.as_slice(),
         );
+        // The tick that this gives back is the insertion's.
         let _ = self.bus.hold(least_start);
         self.progress.latest = Some(came.1);
         Stepped::Inserted(came.0)

@@ -72,6 +72,7 @@ fn wait_for(bus: &mut Bus, tick: Option<u64>)
     ensures { bus.new ≡ held_by tick bus.old }
 {
     if let Some(tick) = tick {
+        // The bus is a copy for this message, so the least start that it had is not wanted again.
         let _ = bus.hold(tick);
     }
 }

@@ -216,16 +216,41 @@ fn turn(run: &mut JobRun, trace: &mut Trace) -> Result<bool, AllocError>
     Ok(true)
 }
 
+/// Goes on until the controller has ended. It fails for want of memory alone.
+fn turn_to_end(run: &mut JobRun, trace: &mut Trace) -> Result<(), AllocError>
+    requires kept { IsKept run.old }
+    requires planned { MayPlan run.old }
+    requires counted { IsCounted trace.old }
+{
+    'turns: loop {
+        let goes_on = turn(run, trace)?;
+        if !goes_on {
+            return Ok(());
+        }
+    }
+}
+
+/// What a run of a job's controller comes to that is before any message. It fails for want of memory alone.
+fn trace_of_run(
+    alloc: Global,
+    job: &Job,
+    said: &SaidLines,
+    run: &mut JobRun,
+) -> Result<Trace, AllocError>
+    requires kept { IsKept run.old }
+    requires planned { MayPlan run.old }
+{
+    let mut trace = Trace::begin(alloc, job, said)?;
+    match turn_to_end(run, &mut trace) {
+        Ok(()) => Ok(trace),
+        Err(error) => Err(error),
+    }
+}
+
 /// What a run of a job's controller comes to. It fails for want of memory alone.
 fn trace_of(alloc: Global, job: &Job, said: &SaidLines) -> Result<Trace, AllocError> {
     let mut run = job.begin(alloc, 0)?;
-    let mut trace = Trace::begin(alloc, job, said)?;
-    'turns: loop {
-        let goes_on = turn(&mut run, &mut trace)?;
-        if !goes_on {
-            return Ok(trace);
-        }
-    }
+    trace_of_run(alloc, job, said, &mut run)
 }
 
 /// By which line of its text each action and each planned fault of a job came, and what is probably a mistake in these

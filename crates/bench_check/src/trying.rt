@@ -27,7 +27,7 @@ use crate::oddities::Oddities;
 use crate::origins::{Origin, Origins, line_at, put_line};
 use crate::planned::put_fault;
 use crate::signals::put_signals;
-use bc_machine::{Machine, Stepped, Upcoming};
+use bc_machine::{Machine, Placed, Stepped, Upcoming};
 use job_file::{Job, job_runs};
 use mil_line::{Fault, Plan};
 use std::alloc::{AllocError, Global};
@@ -278,6 +278,72 @@ impl<'s> Trial<'s> {
         self.told.oddities.finish();
         Ok(())
     }
+
+    /// What was found, with what no message carries and the room that the job may take.
+    fn end(self, uncarried: Vec<Placed>, room: u64) -> Findings
+        ensures made { result.made ≡ self.entry.machine.point.number }
+        ensures unmet { result.unmet.items ≡ self.entry.unmet.items }
+        ensures overruns { result.overruns.items ≡ self.entry.overruns.items }
+        ensures room { result.room ≡ room }
+    {
+        Findings {
+            made: self.machine.number(),
+            unmet: self.unmet,
+            overruns: self.overruns,
+            calls: self.told.calls,
+            oddities: self.told.oddities,
+            uncarried,
+            room,
+        }
+    }
+}
+
+/// A job that was tried to its end, whose actions by rising numbers are these. It fails for want of memory, and where
+/// the writer does.
+fn tried_to_end<'s, W: Write>(
+    alloc: Global,
+    job: &Job,
+    filled: &Filled,
+    way: Way<'s>,
+    origins: &'s Origins,
+    out: &mut W,
+) -> Result<Trial<'s>, WriteFault>
+    requires rising { IsRising filled.now }
+    ensures made { IfOk result (λ t. t.machine.point.number ≡ spec.made job.now) }
+    ensures unmet { IfOk result (λ t. t.unmet.items ≡ spec.unmet job.now) }
+    ensures overruns { IfOk result (λ t. t.overruns.items ≡ overruns job.now) }
+    ensures told { OnOk result (IsTold job.now (W.contents out.old) (W.contents out.new)) }
+{
+    let mut trial = Trial::begin(alloc, job, filled, way, origins)?;
+    match trial.run(alloc, job, filled, out) {
+        Ok(()) => Ok(trial),
+        Err(fault) => Err(fault),
+    }
+}
+
+/// Tries a job whose actions by rising numbers are these, and answers what was found. It fails for want of memory, and
+/// where the writer does.
+fn try_with<'s, W: Write>(
+    alloc: Global,
+    job: &Job,
+    filled: &Filled,
+    way: Way<'s>,
+    origins: &'s Origins,
+    out: &mut W,
+) -> Result<Findings, WriteFault>
+    requires rising { IsRising filled.now }
+    ensures made { IfOk result (λ f. f.made ≡ spec.made job.now) }
+    ensures unmet { IfOk result (λ f. f.unmet.items ≡ spec.unmet job.now) }
+    ensures room { IfOk result (λ f. f.room ≡ most_items 0 job.now) }
+    ensures overruns { IfOk result (λ f. f.overruns.items ≡ overruns job.now) }
+    ensures told { OnOk result (IsTold job.now (W.contents out.old) (W.contents out.new)) }
+{
+    let trial = tried_to_end(alloc, job, filled, way, origins, out)?;
+    let made = trial.machine.number();
+    match trial.carried.uncarried(alloc, filled.actions(), made) {
+        Ok(uncarried) => Ok(trial.end(uncarried, job.most_items(0))),
+        Err(error) => Err(WriteFault::from(error)),
+    }
 }
 
 /// Tries a job: prints each of its messages, with the actions that are placed at it, the faults that are planned for
@@ -297,19 +363,6 @@ pub fn try_job<'s, W: Write>(
     ensures overruns { IfOk result (λ f. f.overruns.items ≡ overruns job.now) }
     ensures told { OnOk result (IsTold job.now (W.contents out.old) (W.contents out.new)) }
 {
-    let room = job.most_items(0);
     let filled = filled_by(job)?;
-    let mut trial = Trial::begin(alloc, job, &filled, way, origins)?;
-    trial.run(alloc, job, &filled, out)?;
-    let made = trial.machine.number();
-    let uncarried = trial.carried.uncarried(alloc, filled.actions(), made)?;
-    Ok(Findings {
-        made,
-        unmet: trial.unmet,
-        overruns: trial.overruns,
-        calls: trial.told.calls,
-        oddities: trial.told.oddities,
-        uncarried,
-        room,
-    })
+    try_with(alloc, job, &filled, way, origins, out)
 }

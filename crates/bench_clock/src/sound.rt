@@ -7,8 +7,7 @@ ghost use Rattle.ch11_reader.specs.Skipping.{packets_read};
 ghost use Rattle.ch11_stream.specs.Feeding.{IsOther};
 ghost use Rattle.std.specs.Prelude.{◌≡◌, ◌++◌, ℕ, List, Some, IfOk, IfErr, OnOk};
 
-use crate::marks::{keep, told_in};
-use crate::streaming::{TimePackets, or_time};
+use crate::streaming::TimePackets;
 use ch11_stream::{StreamFault, Stretch, Stretches};
 use std::alloc::{AllocError, Global};
 use std::io::Read;
@@ -27,11 +26,7 @@ fn note_stretch<R: Read>(
     ensures any { OnOk result (found.new.any ≡ spec.or_time found.old.any named stretch.now) }
 {
     match stretch {
-        Stretch::Sound(packet) => {
-            let told = told_in(named, &packet.header, stretches.bytes());
-            found.any = or_time(found.any, named, &packet.header);
-            keep(&mut found.marks, last, packet.header.counter, told)
-        }
+        Stretch::Sound(packet) => found.note(named, last, &packet.header, stretches.bytes()),
         Stretch::Skipped(_) => Ok(last),
     }
 }

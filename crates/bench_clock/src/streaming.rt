@@ -1,15 +1,15 @@
 //! The marks of a recording whose packets come from a reader.
-ghost use Rattle.bench_clock.specs.Clock.{has_time_packets, is_time, marks_of};
+ghost use Rattle.bench_clock.specs.Clock.{has_time_packets, is_time, last_behind, mark_of, marks_of, told_in};
 ghost use Rattle.bench_clock.specs.Rising.{IsRising};
 ghost use Rattle.ch11_reader.specs.Listing.{listing};
 ghost use Rattle.ch11_stream.specs.Folding.{FoldsPackets};
-ghost use Rattle.std.specs.Prelude.{◌≡◌, ◌||◌, ℕ, List, Some, IfOk};
+ghost use Rattle.std.specs.Prelude.{◌≡◌, ◌||◌, ◌++◌, ℕ, List, Some, IfOk, OnOk};
 
 use crate::clock::Mark;
 use crate::marks::{is_time, keep, told_in};
 use ch11_header::Header;
 use ch11_stream::{Advance, Packets, StreamFault};
-use std::alloc::Global;
+use std::alloc::{AllocError, Global};
 
 /// What the time packets of a recording tell.
 #[derive(Drop)]
@@ -21,10 +21,32 @@ pub(crate) struct TimePackets {
 }
 
 /// Whether there was a time packet of the channel that is named before, or this is one.
-pub(crate) fn or_time(any: bool, named: Option<u16>, header: &Header) -> bool
+fn or_time(any: bool, named: Option<u16>, header: &Header) -> bool
     ensures { result ≡ (any || is_time named header.now) }
 {
     any || is_time(named, header)
+}
+
+impl TimePackets {
+    /// One more packet, which has this header and begins these bytes: notes what it tells, behind a last counter, and
+    /// answers the last counter behind it.
+    pub(crate) fn note(
+        &mut self,
+        named: Option<u16>,
+        last: Option<u64>,
+        header: &Header,
+        bytes: &[u8],
+    ) -> Result<Option<u64>, AllocError>
+        ensures marks { OnOk result (self.new.marks.items ≡ self.old.marks.items
+            ++ mark_of last header.now.counter (told_in named header.now bytes.now)) }
+        ensures last { IfOk result
+            (λ l. l ≡ last_behind last header.now.counter (told_in named header.now bytes.now)) }
+        ensures any { OnOk result (self.new.any ≡ (self.old.any || is_time named header.now)) }
+    {
+        let told = told_in(named, header, bytes);
+        self.any = or_time(self.any, named, header);
+        keep(&mut self.marks, last, header.counter, told)
+    }
 }
 
 /// The time packets of all bytes that a reader has left, of the channel that is named.
@@ -40,17 +62,13 @@ pub(crate) fn read_marks<R: Advance + Drop>(
         → FoldsPackets (λ ps t. t.any ≡ has_time_packets named (listing ps)) result file }
 {
     let mut packets = Packets::over(alloc, input)?;
-    let mut marks = Vec::new(alloc);
+    let marks = Vec::new(alloc);
+    let mut found = TimePackets { marks, any: false };
     let mut last = None;
-    let mut any = false;
     'packets: for _made in 0..u64::MAX {
         match packets.next() {
-            Ok(Some(packet)) => {
-                let told = told_in(named, &packet.header, packets.bytes());
-                last = keep(&mut marks, last, packet.header.counter, told)?;
-                any = or_time(any, named, &packet.header);
-            }
-            Ok(None) => return Ok(TimePackets { marks, any }),
+            Ok(Some(packet)) => last = found.note(named, last, &packet.header, packets.bytes())?,
+            Ok(None) => return Ok(found),
             Err(fault) => return Err(fault),
         }
     }

@@ -13,26 +13,13 @@ pub(crate) fn digit(number: u32) -> u8
     b'0' + (number % 10) as u8
 }
 
-/// A day, a second of it, and ticks of that second.
-fn text_of(day: u64, second: u32, ticks: u32) -> [u8; 27]
-    requires { day ≤ 2932896 }
-    ensures { result ≡ spec.time_of_day_text (day_numbered day) second ticks }
+/// The hours, minutes and seconds of a second of a day, and ticks of it.
+#[inline]
+pub(crate) fn hours_text(second: u32, ticks: u32) -> [u8; 16]
+    ensures { result ≡ spec.hours_text second ticks }
 {
-    let date = date_of(day);
-    let (year, month, day) = (date.year as u32, u32::from(date.month), u32::from(date.day));
     let (minutes, seconds) = (second / 60 % 60, second % 60);
     [
-        digit(year / 1000),
-        digit(year / 100),
-        digit(year / 10),
-        digit(year),
-        b'-',
-        digit(month / 10),
-        digit(month),
-        b'-',
-        digit(day / 10),
-        digit(day),
-        b'T',
         digit(second / 36_000),
         digit(second / 3600),
         b':',
@@ -50,6 +37,40 @@ fn text_of(day: u64, second: u32, ticks: u32) -> [u8; 27]
         digit(ticks / 10),
         digit(ticks),
     ]
+}
+
+/// A day, in front of a second of it.
+#[inline]
+fn date_text(day: u64) -> [u8; 11]
+    requires { day ≤ 2932896 }
+    ensures { result ≡ spec.date_text (day_numbered day) }
+{
+    let date = date_of(day);
+    let (year, month, day) = (date.year as u32, u32::from(date.month), u32::from(date.day));
+    [
+        digit(year / 1000),
+        digit(year / 100),
+        digit(year / 10),
+        digit(year),
+        b'-',
+        digit(month / 10),
+        digit(month),
+        b'-',
+        digit(day / 10),
+        digit(day),
+        b'T',
+    ]
+}
+
+/// A day, a second of it, and ticks of that second.
+fn text_of(day: u64, second: u32, ticks: u32) -> [u8; 27]
+    requires { day ≤ 2932896 }
+    ensures { result ≡ spec.time_of_day_text (day_numbered day) second ticks }
+{
+    let mut text = [0; 27];
+    text[..11].copy_from_slice(&date_text(day));
+    text[11..].copy_from_slice(&hours_text(second, ticks));
+    text
 }
 
 impl UtcTime {

@@ -4,35 +4,16 @@ ghost use Rattle.std.specs.Prelude.{◌≡◌, ◌<◌, ◌≤◌};
 
 use crate::body::DAY;
 use crate::time::{SECOND, YearTime};
-use crate::utc_text::digit;
+use crate::utc_text::{digit, hours_text};
 
 /// A day of a year, a second of it, and ticks of that second.
 fn year_text_of(day: u32, second: u32, ticks: u32) -> [u8; 20]
     ensures { result ≡ spec.day_of_year_text day second ticks }
 {
-    let (minutes, seconds) = (second / 60 % 60, second % 60);
-    [
-        digit(day / 100),
-        digit(day / 10),
-        digit(day),
-        b':',
-        digit(second / 36_000),
-        digit(second / 3600),
-        b':',
-        digit(minutes / 10),
-        digit(minutes),
-        b':',
-        digit(seconds / 10),
-        digit(seconds),
-        b'.',
-        digit(ticks / 1_000_000),
-        digit(ticks / 100_000),
-        digit(ticks / 10_000),
-        digit(ticks / 1000),
-        digit(ticks / 100),
-        digit(ticks / 10),
-        digit(ticks),
-    ]
+    let mut text = [0; 20];
+    text[..4].copy_from_slice(&[digit(day / 100), digit(day / 10), digit(day), b':']);
+    text[4..].copy_from_slice(&hours_text(second, ticks));
+    text
 }
 
 impl YearTime {

@@ -22,9 +22,20 @@ pub struct Asked<'a> {
     pub context: Context,
 }
 
-/// What a command line asks.
+/// What a command line asks, by its kin.
 #[derive(Debug, Drop)]
 pub enum Request<'a> {
+    /// Something made: of jobs, of scripts, of codes, or a job of a recording.
+    Make(MakeRequest<'a>),
+    /// A recording, shown.
+    Show(ShowRequest<'a>),
+    /// A recording, judged, or something made of it.
+    Take(TakeRequest<'a>),
+}
+
+/// What is asked to be made of jobs, of scripts and of codes, or as a job.
+#[derive(Debug, Drop)]
+pub enum MakeRequest<'a> {
     /// One message on fresh terminals, printed as a packet.
     One(one_message::Request<'a>),
     /// The image of a script, written to a file.
@@ -33,20 +44,34 @@ pub enum Request<'a> {
     Run(command_run::Request<'a>),
     /// Jobs, tried without a recording.
     Check(checking::Request<'a>),
+    /// A recorded channel, written as a job that plays it again.
+    Reproduce(reproducing::Request<'a>),
+    /// What codes mean; all of them where none is given.
+    Explain(explaining::Request<'a>),
+}
+
+/// What is asked to be shown of a recording.
+#[derive(Debug, Drop)]
+pub enum ShowRequest<'a> {
     /// The packets and messages of a recording, or messages alone, printed as lines.
     Dump(dumping::Request<'a>),
     /// A recording, walked through by lines of the standard input.
     Step(stepping::Request<'a>),
     /// The figures of a recording: aligned for people, or as rows of comma-separated values.
     Stat(statistics::Request<'a>),
-    /// The messages of a recording, written to a file for other programs.
-    Export(exporting::Request<'a>),
     /// The values of signals in a recording, written to a file for other programs.
     Signals(signalling::Request<'a>),
     /// The messages of a recording over time, written to a file as a picture.
     Draw(drawing::Request<'a>),
     /// The messages of a recording, written to a file as a page for a browser.
     View(viewing::Request<'a>),
+}
+
+/// What is asked to be judged, or to be made of a recording.
+#[derive(Debug, Drop)]
+pub enum TakeRequest<'a> {
+    /// The messages of a recording, written to a file for other programs.
+    Export(exporting::Request<'a>),
     /// A recording, judged by rules.
     Judge(judging::Request<'a>),
     /// A recording, made into the file that other tools expect.
@@ -55,10 +80,6 @@ pub enum Request<'a> {
     Cut(cutting::Request<'a>),
     /// Two recordings, compared.
     Compare(comparing::Request<'a>),
-    /// A recorded channel, written as a job that plays it again.
-    Reproduce(reproducing::Request<'a>),
-    /// What codes mean; all of them where none is given.
-    Explain(explaining::Request<'a>),
 }
 
 /// What the words ask, the program's name first. An error is a usage fault, the help or the version that was asked
@@ -75,7 +96,7 @@ pub fn read<'a>(alloc: Global, words: &'a [String]) -> Result<Asked<'a>, Error> 
 fn request_in<'a>(alloc: Global, matches: &ArgMatches<'a>) -> Result<Request<'a>, AllocError> {
     match matches.subcommand() {
         Some((name, given)) => request_of(alloc, name, given),
-        None => Ok(Request::One(one_message::request_in(matches))),
+        None => Ok(one_request(matches)),
     }
 }
 
@@ -95,29 +116,37 @@ fn request_of<'a>(
 }
 
 fn run_request<'a>(alloc: Global, given: &ArgMatches<'a>) -> Result<Request<'a>, AllocError> {
-    Ok(Request::Run(command_run::request_in(alloc, given)?))
+    let request = command_run::request_in(alloc, given)?;
+    Ok(Request::Make(MakeRequest::Run(request)))
 }
 
 fn check_request<'a>(alloc: Global, given: &ArgMatches<'a>) -> Result<Request<'a>, AllocError> {
-    Ok(Request::Check(checking::request_in(alloc, given)?))
+    let request = checking::request_in(alloc, given)?;
+    Ok(Request::Make(MakeRequest::Check(request)))
 }
 
 fn step_request<'a>(alloc: Global, given: &ArgMatches<'a>) -> Result<Request<'a>, AllocError> {
-    Ok(Request::Step(stepping::request_in(alloc, given)?))
+    let request = stepping::request_in(alloc, given)?;
+    Ok(Request::Show(ShowRequest::Step(request)))
 }
 
 fn explain_request<'a>(alloc: Global, given: &ArgMatches<'a>) -> Result<Request<'a>, AllocError> {
-    Ok(Request::Explain(explaining::request_in(alloc, given)?))
+    let request = explaining::request_in(alloc, given)?;
+    Ok(Request::Make(MakeRequest::Explain(request)))
+}
+
+fn one_request<'a>(given: &ArgMatches<'a>) -> Request<'a> {
+    Request::Make(MakeRequest::One(one_message::request_in(given)))
 }
 
 /// What the command of this name asks, which takes no list of words.
 fn plain_request<'a>(name: &str, given: &ArgMatches<'a>) -> Request<'a> {
     match name {
-        "assemble" => Request::Assemble(assembling::request_in(given)),
-        "dump" => Request::Dump(dumping::request_in(given)),
-        "stat" => Request::Stat(statistics::request_in(given)),
-        "judge" => Request::Judge(judging::request_in(given)),
-        "compare" => Request::Compare(comparing::request_in(given)),
+        "assemble" => Request::Make(MakeRequest::Assemble(assembling::request_in(given))),
+        "dump" => Request::Show(ShowRequest::Dump(dumping::request_in(given))),
+        "stat" => Request::Show(ShowRequest::Stat(statistics::request_in(given))),
+        "judge" => Request::Take(TakeRequest::Judge(judging::request_in(given))),
+        "compare" => Request::Take(TakeRequest::Compare(comparing::request_in(given))),
         _ => writing_request(name, given),
     }
 }
@@ -125,14 +154,14 @@ fn plain_request<'a>(name: &str, given: &ArgMatches<'a>) -> Request<'a> {
 /// What the command of this name asks, where it writes what a recording has; else that of one message.
 fn writing_request<'a>(name: &str, given: &ArgMatches<'a>) -> Request<'a> {
     match name {
-        "export" => Request::Export(exporting::request_in(given)),
-        "signals" => Request::Signals(signalling::request_in(given)),
-        "draw" => Request::Draw(drawing::request_in(given)),
-        "view" => Request::View(viewing::request_in(given)),
-        "complete" => Request::Complete(completing::request_in(given)),
-        "cut" => Request::Cut(cutting::request_in(given)),
-        "reproduce" => Request::Reproduce(reproducing::request_in(given)),
-        _ => Request::One(one_message::request_in(given)),
+        "export" => Request::Take(TakeRequest::Export(exporting::request_in(given))),
+        "signals" => Request::Show(ShowRequest::Signals(signalling::request_in(given))),
+        "draw" => Request::Show(ShowRequest::Draw(drawing::request_in(given))),
+        "view" => Request::Show(ShowRequest::View(viewing::request_in(given))),
+        "complete" => Request::Take(TakeRequest::Complete(completing::request_in(given))),
+        "cut" => Request::Take(TakeRequest::Cut(cutting::request_in(given))),
+        "reproduce" => Request::Make(MakeRequest::Reproduce(reproducing::request_in(given))),
+        _ => one_request(given),
     }
 }
 

@@ -1,6 +1,6 @@
 //! The commands of `bench`: which of them is asked for is done, and how the process ends then.
 
-use crate::command_line::{self, Asked, Request};
+use crate::command_line::{self, Asked, MakeRequest, Request, ShowRequest, TakeRequest};
 use crate::given_words::{word_at_fault, words_of};
 use crate::naming::named_in;
 use clap::Error;
@@ -9,6 +9,7 @@ use command_export::{completing, drawing, exporting, signalling};
 use command_judge::{checking, judging};
 use command_listing::{dumping, statistics};
 use command_material::{comparing, cutting};
+use command_parts::context::Context;
 use command_parts::hosts::{Errors, Host};
 use command_parts::requests::CommandFault;
 use command_remedies::explain_fault;
@@ -67,7 +68,8 @@ fn run_asked<R: Host, E: Errors>(rt: &R, errors: &E, asked: &Asked<'_>) -> ExitC
 where
     R::Reader: 'static,
 {
-    match obey(rt, errors, asked) {
+    let process = Process { rt, errors };
+    match process.obey(asked) {
         Ok(()) => ExitCode::SUCCESS,
         Err(fault) => give_up(rt, errors, asked, &fault),
     }
@@ -130,80 +132,62 @@ fn stop<E: Eprint>(errors: &E, fault: &CommandFault<'_>) -> ExitCode {
     ExitCode::from(fault.status())
 }
 
-/// Does what is asked of jobs, of scripts and of codes; None where something else is asked.
-fn make<'a, R: Host, E: Errors>(
-    rt: &R,
-    errors: &E,
-    request: &Request<'a>,
-) -> Option<Result<(), CommandFault<'a>>>
-where
-    R::Reader: 'static,
-{
-    match request {
-        Request::One(request) => Some(one_message::run(rt, request)),
-        Request::Assemble(request) => Some(assembling::run(rt, errors, request)),
-        Request::Run(request) => Some(command_run::run(rt, errors, request)),
-        Request::Check(request) => Some(checking::run(rt, request)),
-        Request::Reproduce(request) => Some(reproducing::run(rt, errors, request)),
-        Request::Explain(request) => Some(explaining::run(rt, request)),
-        _ => None,
-    }
+/// The process that a command runs in, and where it says what it says of faults and of its progress.
+#[derive(Drop)]
+struct Process<'p, R, E> {
+    rt: &'p R,
+    errors: &'p E,
 }
 
-/// Shows what is asked to be shown of a recording; None where something else is asked.
-fn show<'a, R: Host, E: Errors>(
-    rt: &R,
-    errors: &E,
-    asked: &Asked<'a>,
-) -> Option<Result<(), CommandFault<'a>>>
+impl<R: Host, E: Errors> Process<'_, R, E>
 where
     R::Reader: 'static,
 {
-    match &asked.request {
-        Request::Dump(request) => Some(dumping::run(rt, errors, request)),
-        Request::Step(request) => Some(stepping::run(rt, errors, request, asked.context)),
-        Request::Stat(request) => Some(statistics::run(rt, errors, request)),
-        Request::Signals(request) => Some(signalling::run(rt, errors, request)),
-        Request::Draw(request) => Some(drawing::run(rt, errors, request)),
-        Request::View(request) => Some(viewing::run(rt, errors, request)),
-        _ => None,
+    /// Does what is asked, by its kin.
+    fn obey<'a>(&self, asked: &Asked<'a>) -> Result<(), CommandFault<'a>> {
+        match &asked.request {
+            Request::Make(request) => self.make(request),
+            Request::Show(request) => self.show(request, asked.context),
+            Request::Take(request) => self.take(request),
+        }
     }
-}
 
-/// Judges a recording, or makes something of it; None where something else is asked.
-fn take<'a, R: Host, E: Errors>(
-    rt: &R,
-    errors: &E,
-    request: &Request<'a>,
-) -> Option<Result<(), CommandFault<'a>>>
-where
-    R::Reader: 'static,
-{
-    match request {
-        Request::Export(request) => Some(exporting::run(rt, errors, request)),
-        Request::Judge(request) => Some(judging::run(rt, errors, request)),
-        Request::Complete(request) => Some(completing::run(rt, errors, request)),
-        Request::Cut(request) => Some(cutting::run(rt, errors, request)),
-        Request::Compare(request) => Some(comparing::run(rt, errors, request)),
-        _ => None,
+    /// Does what is asked of jobs, of scripts and of codes, or makes a job.
+    fn make<'a>(&self, request: &MakeRequest<'a>) -> Result<(), CommandFault<'a>> {
+        match request {
+            MakeRequest::One(request) => one_message::run(self.rt, request),
+            MakeRequest::Assemble(request) => assembling::run(self.rt, self.errors, request),
+            MakeRequest::Run(request) => command_run::run(self.rt, self.errors, request),
+            MakeRequest::Check(request) => checking::run(self.rt, request),
+            MakeRequest::Reproduce(request) => reproducing::run(self.rt, self.errors, request),
+            MakeRequest::Explain(request) => explaining::run(self.rt, request),
+        }
     }
-}
 
-/// Does what is asked, by the kin of the request.
-fn obey<'a, R: Host, E: Errors>(
-    rt: &R,
-    errors: &E,
-    asked: &Asked<'a>,
-) -> Result<(), CommandFault<'a>>
-where
-    R::Reader: 'static,
-{
-    if let Some(done) = make(rt, errors, &asked.request) {
-        return done;
+    /// Shows what is asked to be shown of a recording.
+    fn show<'a>(
+        &self,
+        request: &ShowRequest<'a>,
+        context: Context,
+    ) -> Result<(), CommandFault<'a>> {
+        match request {
+            ShowRequest::Dump(request) => dumping::run(self.rt, self.errors, request),
+            ShowRequest::Step(request) => stepping::run(self.rt, self.errors, request, context),
+            ShowRequest::Stat(request) => statistics::run(self.rt, self.errors, request),
+            ShowRequest::Signals(request) => signalling::run(self.rt, self.errors, request),
+            ShowRequest::Draw(request) => drawing::run(self.rt, self.errors, request),
+            ShowRequest::View(request) => viewing::run(self.rt, self.errors, request),
+        }
     }
-    if let Some(done) = show(rt, errors, asked) {
-        return done;
+
+    /// Judges a recording, or makes something of it.
+    fn take<'a>(&self, request: &TakeRequest<'a>) -> Result<(), CommandFault<'a>> {
+        match request {
+            TakeRequest::Export(request) => exporting::run(self.rt, self.errors, request),
+            TakeRequest::Judge(request) => judging::run(self.rt, self.errors, request),
+            TakeRequest::Complete(request) => completing::run(self.rt, self.errors, request),
+            TakeRequest::Cut(request) => cutting::run(self.rt, self.errors, request),
+            TakeRequest::Compare(request) => comparing::run(self.rt, self.errors, request),
+        }
     }
-    // Each request is of one of the three kins.
-    take(rt, errors, &asked.request).unwrap_or(Ok(()))
 }

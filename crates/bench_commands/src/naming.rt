@@ -1,6 +1,6 @@
 //! What a request names, for the lines behind its faults.
 
-use crate::command_line::Request;
+use crate::command_line::{MakeRequest, Request, ShowRequest, TakeRequest};
 use command_listing::dumping;
 use command_parts::requests::RunRequest;
 use command_parts::selecting::GivenSelection;
@@ -27,7 +27,7 @@ pub(crate) fn named_in<'r, 'a>(request: &'r Request<'a>) -> Named<'r, 'a> {
 /// The message of `bench one`.
 fn text_in<'a>(request: &Request<'a>) -> Option<&'a str> {
     match request {
-        Request::One(request) => Some(request.text),
+        Request::Make(MakeRequest::One(request)) => Some(request.text),
         _ => None,
     }
 }
@@ -35,7 +35,7 @@ fn text_in<'a>(request: &Request<'a>) -> Option<&'a str> {
 /// The file of a script.
 fn script_in<'a>(request: &Request<'a>) -> Option<&'a str> {
     match request {
-        Request::Assemble(request) => Some(request.script),
+        Request::Make(MakeRequest::Assemble(request)) => Some(request.script),
         _ => None,
     }
 }
@@ -43,9 +43,9 @@ fn script_in<'a>(request: &Request<'a>) -> Option<&'a str> {
 /// The files of jobs.
 fn jobs_in<'r, 'a>(request: &'r Request<'a>) -> &'r [&'a str] {
     match request {
-        Request::Run(request) => request.run.jobs.as_slice(),
-        Request::Check(request) => request.jobs.as_slice(),
-        Request::Step(request) => request.jobs.as_slice(),
+        Request::Make(MakeRequest::Run(request)) => request.run.jobs.as_slice(),
+        Request::Make(MakeRequest::Check(request)) => request.jobs.as_slice(),
+        Request::Show(ShowRequest::Step(request)) => request.jobs.as_slice(),
         _ => &[],
     }
 }
@@ -53,7 +53,7 @@ fn jobs_in<'r, 'a>(request: &'r Request<'a>) -> &'r [&'a str] {
 /// The file of a report.
 fn report_in<'a>(request: &Request<'a>) -> Option<&'a str> {
     match request {
-        Request::Step(request) => Some(request.report),
+        Request::Show(ShowRequest::Step(request)) => Some(request.report),
         _ => None,
     }
 }
@@ -61,18 +61,22 @@ fn report_in<'a>(request: &Request<'a>) -> Option<&'a str> {
 /// The file that is read as a recording.
 fn recording_in<'a>(request: &Request<'a>) -> Option<&'a str> {
     match request {
-        Request::Dump(dumping::Request::Packets(packets)) => Some(packets.recording),
-        Request::Dump(dumping::Request::Messages(messages)) => Some(messages.recording),
-        Request::Stat(request) => Some(request.recording),
-        Request::Export(request) => Some(request.extract.recording),
-        Request::Signals(request) => Some(request.extract.recording),
-        Request::Draw(request) => Some(request.showing.extract.recording),
-        Request::View(request) => Some(request.showing.extract.recording),
-        Request::Complete(request) => Some(request.recording),
-        Request::Judge(request) => Some(request.recording),
-        Request::Cut(request) => Some(request.extract.recording),
-        Request::Reproduce(request) => Some(request.recording),
-        Request::Step(request) => Some(request.recording),
+        Request::Show(ShowRequest::Dump(dumping::Request::Packets(packets))) => Some(
+            packets.recording,
+        ),
+        Request::Show(ShowRequest::Dump(dumping::Request::Messages(messages))) => {
+            Some(messages.recording)
+        }
+        Request::Show(ShowRequest::Stat(request)) => Some(request.recording),
+        Request::Take(TakeRequest::Export(request)) => Some(request.extract.recording),
+        Request::Show(ShowRequest::Signals(request)) => Some(request.extract.recording),
+        Request::Show(ShowRequest::Draw(request)) => Some(request.showing.extract.recording),
+        Request::Show(ShowRequest::View(request)) => Some(request.showing.extract.recording),
+        Request::Take(TakeRequest::Complete(request)) => Some(request.recording),
+        Request::Take(TakeRequest::Judge(request)) => Some(request.recording),
+        Request::Take(TakeRequest::Cut(request)) => Some(request.extract.recording),
+        Request::Make(MakeRequest::Reproduce(request)) => Some(request.recording),
+        Request::Show(ShowRequest::Step(request)) => Some(request.recording),
         _ => None,
     }
 }
@@ -80,7 +84,7 @@ fn recording_in<'a>(request: &Request<'a>) -> Option<&'a str> {
 /// The file that is read as a recording, where it is to be made into a job.
 fn reproduced_in<'a>(request: &Request<'a>) -> Option<&'a str> {
     match request {
-        Request::Reproduce(request) => Some(request.recording),
+        Request::Make(MakeRequest::Reproduce(request)) => Some(request.recording),
         _ => None,
     }
 }
@@ -88,8 +92,8 @@ fn reproduced_in<'a>(request: &Request<'a>) -> Option<&'a str> {
 /// The file of rules.
 fn rules_in<'a>(request: &Request<'a>) -> Option<&'a str> {
     match request {
-        Request::Judge(request) => request.rules,
-        Request::Run(request) => request.run.judge,
+        Request::Take(TakeRequest::Judge(request)) => request.rules,
+        Request::Make(MakeRequest::Run(request)) => request.run.judge,
         _ => None,
     }
 }
@@ -97,15 +101,15 @@ fn rules_in<'a>(request: &Request<'a>) -> Option<&'a str> {
 /// The file of a dictionary.
 fn dictionary_in<'a>(request: &Request<'a>) -> Option<&'a str> {
     match request {
-        Request::Signals(request) => Some(request.dictionary),
-        Request::Export(request) => request.signals,
-        Request::Draw(request) => request.showing.signals,
-        Request::View(request) => request.showing.signals,
-        Request::Stat(request) => request.signals,
-        Request::Judge(request) => request.signals,
-        Request::Check(request) => request.signals,
-        Request::Run(request) => request.run.signals,
-        Request::Dump(dumping::Request::Messages(messages)) => messages.signals,
+        Request::Show(ShowRequest::Signals(request)) => Some(request.dictionary),
+        Request::Take(TakeRequest::Export(request)) => request.signals,
+        Request::Show(ShowRequest::Draw(request)) => request.showing.signals,
+        Request::Show(ShowRequest::View(request)) => request.showing.signals,
+        Request::Show(ShowRequest::Stat(request)) => request.signals,
+        Request::Take(TakeRequest::Judge(request)) => request.signals,
+        Request::Make(MakeRequest::Check(request)) => request.signals,
+        Request::Make(MakeRequest::Run(request)) => request.run.signals,
+        Request::Show(ShowRequest::Dump(dumping::Request::Messages(messages))) => messages.signals,
         _ => None,
     }
 }
@@ -113,14 +117,16 @@ fn dictionary_in<'a>(request: &Request<'a>) -> Option<&'a str> {
 /// Which messages are asked for.
 fn selection_in<'r, 'a>(request: &'r Request<'a>) -> Option<&'r GivenSelection<'a>> {
     match request {
-        Request::Dump(dumping::Request::Messages(messages)) => Some(&messages.selection),
-        Request::Stat(request) => Some(&request.selection),
-        Request::Export(request) => Some(&request.extract.selection),
-        Request::Signals(request) => Some(&request.extract.selection),
-        Request::Draw(request) => Some(&request.showing.extract.selection),
-        Request::View(request) => Some(&request.showing.extract.selection),
-        Request::Cut(request) => Some(&request.extract.selection),
-        Request::Compare(request) => Some(&request.selection),
+        Request::Show(ShowRequest::Dump(dumping::Request::Messages(messages))) => {
+            Some(&messages.selection)
+        }
+        Request::Show(ShowRequest::Stat(request)) => Some(&request.selection),
+        Request::Take(TakeRequest::Export(request)) => Some(&request.extract.selection),
+        Request::Show(ShowRequest::Signals(request)) => Some(&request.extract.selection),
+        Request::Show(ShowRequest::Draw(request)) => Some(&request.showing.extract.selection),
+        Request::Show(ShowRequest::View(request)) => Some(&request.showing.extract.selection),
+        Request::Take(TakeRequest::Cut(request)) => Some(&request.extract.selection),
+        Request::Take(TakeRequest::Compare(request)) => Some(&request.selection),
         _ => None,
     }
 }
@@ -128,7 +134,7 @@ fn selection_in<'r, 'a>(request: &'r Request<'a>) -> Option<&'r GivenSelection<'
 /// What a run is asked for.
 fn run_in<'r, 'a>(request: &'r Request<'a>) -> Option<&'r RunRequest<'a>> {
     match request {
-        Request::Run(request) => Some(&request.run),
+        Request::Make(MakeRequest::Run(request)) => Some(&request.run),
         _ => None,
     }
 }
@@ -136,7 +142,7 @@ fn run_in<'r, 'a>(request: &'r Request<'a>) -> Option<&'r RunRequest<'a>> {
 /// Whether the recording of a run is completed.
 fn is_completed(request: &Request<'_>) -> bool {
     match request {
-        Request::Run(request) => request.completing.is_some(),
+        Request::Make(MakeRequest::Run(request)) => request.completing.is_some(),
         _ => false,
     }
 }
@@ -144,11 +150,14 @@ fn is_completed(request: &Request<'_>) -> bool {
 /// In which order a command takes files of more than one kind.
 fn order_of(request: &Request<'_>) -> &'static str {
     match request {
-        Request::Step(_) => {
+        Request::Show(ShowRequest::Step(_)) => {
             "  bench step takes the recording, then the report of its run, then the jobs of it\n"
         }
-        Request::Judge(_) => "  bench judge takes the recording, then the rules\n",
-        Request::Signals(_) => "  bench signals takes the recording, then the dictionary\n",
+        Request::Take(TakeRequest::Judge(_)) =>
+            "  bench judge takes the recording, then the rules\n",
+        Request::Show(ShowRequest::Signals(_)) => {
+            "  bench signals takes the recording, then the dictionary\n"
+        }
         _ => "",
     }
 }

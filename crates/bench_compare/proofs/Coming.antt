@@ -15,7 +15,7 @@ use Rattle.ch11_stream.proofs.Folding.{not_found}
 use Rattle.ch11_stream.proofs.Readings.{IsAmid, amid_end, amid_on, amid_start}
 use Rattle.bench_select.specs.declared.selection.Selection.{Selection}
 use Rattle.bench_compare.specs.Chosen.{chosen_behind, chosen_in, chosen_of}
-use Rattle.bench_compare.specs.Lanes.{IsUnderWay, to_come}
+use Rattle.bench_compare.specs.Passes.{IsUnderWay, to_come}
 
 -- ---- a reading under way
 

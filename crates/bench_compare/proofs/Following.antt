@@ -13,7 +13,7 @@ use Rattle.bench_compare.specs.declared.differences.Part.{Part}
 use Rattle.bench_compare.specs.Channels.{left_of, origins_by}
 use Rattle.bench_compare.specs.Chosen.{chosen_among, one_if}
 use Rattle.bench_compare.specs.Differences.{difference_at, differs_behind, differs_by, part_of}
-use Rattle.bench_compare.specs.Lanes.{IsUnderWay, Laned, lane_to_come}
+use Rattle.bench_compare.specs.Passes.{IsUnderWay, Passing, pass_to_come}
 use Rattle.bench_compare.proofs.Keeping.{one_more}
 
 -- ---- two messages
@@ -33,12 +33,12 @@ differs_on within st o a b found part is seen some xs ys =
 
 -- ---- the messages of a packet
 
-module _ (within : ℕ) (s t : Selection) (own channel : ℕ) (kind : StampKind) (other : List ℕ) (qs : List Found) (start : Standing) (first : Laned) where
+module _ (within : ℕ) (s t : Selection) (own channel : ℕ) (kind : StampKind) (other : List ℕ) (qs : List Found) (start : Standing) (first : Passing) where
   -- so many were compared
-  pub record IsFollowing (before number : ℕ) (all rest : List Message) (st : Standing) (lane : Laned) : Type 0 where
-    pub way : IsUnderWay other lane.reading
-    pub same : (xs : List Recorded) → left_of within start (chosen_among s kind before own all ++ xs) (lane_to_come t channel qs first)
-        ≡ left_of within st (chosen_among s kind number own rest ++ xs) (lane_to_come t channel qs lane)
+  pub record IsFollowing (before number : ℕ) (all rest : List Message) (st : Standing) (pass : Passing) : Type 0 where
+    pub way : IsUnderWay other pass.reading
+    pub same : (xs : List Recorded) → left_of within start (chosen_among s kind before own all ++ xs) (pass_to_come t channel qs first)
+        ≡ left_of within st (chosen_among s kind number own rest ++ xs) (pass_to_come t channel qs pass)
 
   pub begins : (before : ℕ) (all : List Message) → IsUnderWay other first.reading → IsFollowing before before all all start first
   begins before all way = record { way = way; same = λ xs. refl }
@@ -50,23 +50,23 @@ module _ (within : ℕ) (s t : Selection) (own channel : ℕ) (kind : StampKind)
       ∙ ap (λ (l : List Recorded). l ++ xs) (one_more s kind number own m others b e)
       ∙ append_assoc (one_if b (recorded kind m)) (chosen_among s kind (number + 1) own others) xs
 
-  pub goes_on : (before number : ℕ) (all rest others : List Message) (m : Message) (b : Bool) (st now : Standing) (lane left : Laned) → IsFollowing before number all rest st lane → rest ≡ m ∷ others
+  pub goes_on : (before number : ℕ) (all rest others : List Message) (m : Message) (b : Bool) (st now : Standing) (pass left : Passing) → IsFollowing before number all rest st pass → rest ≡ m ∷ others
       → b ≡ selects s (number + 1) own (recorded kind m) → IsUnderWay other left.reading
-      → ((xs : List Recorded) → left_of within st (one_if b (recorded kind m) ++ xs) (lane_to_come t channel qs lane) ≡ left_of within now xs (lane_to_come t channel qs left))
+      → ((xs : List Recorded) → left_of within st (one_if b (recorded kind m) ++ xs) (pass_to_come t channel qs pass) ≡ left_of within now xs (pass_to_come t channel qs left))
       → IsFollowing before (number + 1) all others now left
-  goes_on before number all rest others m b st now lane left f is e way one = record {
+  goes_on before number all rest others m b st now pass left f is e way one = record {
     way = way;
     same = λ xs.
         f.same xs
-        ∙ ap (λ (l : List Recorded). left_of within st l (lane_to_come t channel qs lane)) (split number rest others m b xs is e)
+        ∙ ap (λ (l : List Recorded). left_of within st l (pass_to_come t channel qs pass)) (split number rest others m b xs is e)
         ∙ one (chosen_among s kind (number + 1) own others ++ xs);
   }
 
-  pub found_in_it : (before number : ℕ) (all rest others : List Message) (m : Message) (b : Bool) (st : Standing) (lane : Laned) (d : Difference) → IsFollowing before number all rest st lane → rest ≡ m ∷ others
+  pub found_in_it : (before number : ℕ) (all rest others : List Message) (m : Message) (b : Bool) (st : Standing) (pass : Passing) (d : Difference) → IsFollowing before number all rest st pass → rest ≡ m ∷ others
       → b ≡ selects s (number + 1) own (recorded kind m)
-      → ((xs : List Recorded) → left_of within st (one_if b (recorded kind m) ++ xs) (lane_to_come t channel qs lane) ≡ Some d)
-      → (xs : List Recorded) → left_of within start (chosen_among s kind before own all ++ xs) (lane_to_come t channel qs first) ≡ Some d
-  found_in_it before number all rest others m b st lane d f is e one xs =
+      → ((xs : List Recorded) → left_of within st (one_if b (recorded kind m) ++ xs) (pass_to_come t channel qs pass) ≡ Some d)
+      → (xs : List Recorded) → left_of within start (chosen_among s kind before own all ++ xs) (pass_to_come t channel qs first) ≡ Some d
+  found_in_it before number all rest others m b st pass d f is e one xs =
       f.same xs
-      ∙ ap (λ (l : List Recorded). left_of within st l (lane_to_come t channel qs lane)) (split number rest others m b xs is e)
+      ∙ ap (λ (l : List Recorded). left_of within st l (pass_to_come t channel qs pass)) (split number rest others m b xs is e)
       ∙ one (chosen_among s kind (number + 1) own others ++ xs)

@@ -11,7 +11,7 @@ use Rattle.ch11_stream.specs.Reading.{IsEnd, IsStep, Reading, last_found}
 use Rattle.bench_select.specs.declared.selection.Selection.{Selection}
 use Rattle.bench_select.specs.Selecting.{selects}
 use Rattle.bench_compare.specs.Chosen.{chosen_among, chosen_of, one_if}
-use Rattle.bench_compare.specs.Lanes.{AreKept, IsUnderWay, Laned, lane_to_come, to_come}
+use Rattle.bench_compare.specs.Passes.{AreKept, IsUnderWay, Passing, pass_to_come, to_come}
 use Rattle.bench_compare.proofs.Coming.{amid_of, behind_all, coming_end, coming_on}
 
 pub one_more : (s : Selection) (kind : StampKind) (number channel : ℕ) (m : Message) (others : List Message) (b : Bool) → b ≡ selects s (number + 1) channel (recorded kind m)
@@ -44,11 +44,11 @@ goes_on s kind start items after before number channel all rest others m b k is 
 pub ends : (s : Selection) (kind : StampKind) (start items : List Recorded) (before number channel : ℕ) (all rest : List Message) → IsKeeping s kind start items before number channel all rest → rest ≡ [] → items ≡ start ++ chosen_among s kind before channel all
 ends s kind start items before number channel all rest k none = sym (append-nil items) ∙ ap (λ (ms : List Message). items ++ chosen_among s kind number channel ms) (sym none) ∙ k.same
 
--- ---- a lane
+-- ---- a pass
 
 -- a packet was read, and its messages are kept
-pub kept_on : (s : Selection) (channel : ℕ) (file : List ℕ) (ps : List Found) (before now : Laned) (p : Packet) → IsStep before.reading now.reading p → packets_in file ≡ Ok ps → IsUnderWay file before.reading
-    → now.kept ≡ before.kept ++ chosen_of s channel p.before (last_found now.reading p) → lane_to_come s channel ps before ≡ lane_to_come s channel ps now
+pub kept_on : (s : Selection) (channel : ℕ) (file : List ℕ) (ps : List Found) (before now : Passing) (p : Packet) → IsStep before.reading now.reading p → packets_in file ≡ Ok ps → IsUnderWay file before.reading
+    → now.kept ≡ before.kept ++ chosen_of s channel p.before (last_found now.reading p) → pass_to_come s channel ps before ≡ pass_to_come s channel ps now
 kept_on s channel file ps before now p step read way more =
     let here : chosen_of s channel (total_in before.reading.earlier) (last_found now.reading p) ≡ chosen_of s channel p.before (last_found now.reading p) = ap (λ (n : ℕ). chosen_of s channel n (last_found now.reading p)) (sym (behind_all before.reading now.reading p step)) in
     ap (λ (l : List Recorded). before.kept ++ l) (coming_on s channel file before.reading now.reading p ps step (amid_of file before.reading way) read ∙ ap (λ (l : List Recorded). l ++ to_come s channel ps now.reading) here)
@@ -60,7 +60,7 @@ no_items [] none = refl
 no_items (x ∷ xs) none = absurd (omega (arith, none))
 
 -- some are kept already
-pub kept_some : (s : Selection) (channel : ℕ) (file : List ℕ) (ps : List Found) (before now : Laned) (n : ℕ) → n ≡ length now.kept → false ≡ eqb n 0 → IsUnderWay file now.reading → lane_to_come s channel ps before ≡ lane_to_come s channel ps now
+pub kept_some : (s : Selection) (channel : ℕ) (file : List ℕ) (ps : List Found) (before now : Passing) (n : ℕ) → n ≡ length now.kept → false ≡ eqb n 0 → IsUnderWay file now.reading → pass_to_come s channel ps before ≡ pass_to_come s channel ps now
     → AreKept s channel file ps before now
 kept_some s channel file ps before now n long test way same = record {
   some = λ m others is. (way, same);
@@ -71,8 +71,8 @@ kept_some s channel file ps before now n long test way same = record {
 }
 
 -- none is kept, and none is to come
-pub kept_end : (s : Selection) (channel : ℕ) (file : List ℕ) (ps : List Found) (before : Laned) (kept : List Recorded) (now last : Reading) (n : ℕ) → n ≡ length kept → true ≡ eqb n 0 → IsEnd now last → packets_in file ≡ Ok ps → IsUnderWay file now
-    → lane_to_come s channel ps before ≡ lane_to_come s channel ps (record { reading = now; kept = kept }) → AreKept s channel file ps before (record { reading = last; kept = kept })
+pub kept_end : (s : Selection) (channel : ℕ) (file : List ℕ) (ps : List Found) (before : Passing) (kept : List Recorded) (now last : Reading) (n : ℕ) → n ≡ length kept → true ≡ eqb n 0 → IsEnd now last → packets_in file ≡ Ok ps → IsUnderWay file now
+    → pass_to_come s channel ps before ≡ pass_to_come s channel ps (record { reading = now; kept = kept }) → AreKept s channel file ps before (record { reading = last; kept = kept })
 kept_end s channel file ps before kept now last n long test e read way same =
     let zero : n ≡ 0 = eqb-true n 0 (sym test) in
     let empty : kept ≡ [] = no_items kept (omega (arith, long, zero)) in

@@ -6,7 +6,7 @@ use Rattle.ch11_stream.specs.Folding.{IsFaultOf}
 use Rattle.bench_select.specs.declared.selection.Selection.{Selection}
 use Rattle.bench_compare.specs.Chosen.{chosen_in}
 use Rattle.bench_compare.specs.Differences.{difference, differs_behind, first_stamp}
-use Rattle.bench_compare.specs.Lanes.{IsUnderWay, Laned, lane_to_come}
+use Rattle.bench_compare.specs.Passes.{IsUnderWay, Passing, pass_to_come}
 use Rattle.bench_compare.specs.declared.channels.Asked.{Asked}
 use Rattle.bench_compare.specs.declared.channels.Standing.{Standing}
 use Rattle.bench_compare.specs.declared.differences.Difference.{Difference}
@@ -48,21 +48,21 @@ IsFaultOfSides file other (Second f) = IsFaultOfSide other f
 
 -- messages were compared with the next ones of the second recording: one differs, or the rest decides
 abbrev pub ComparesAll : ℕ → Selection → ℕ → List ℕ → List ℕ → List Found → List Recorded
-    → Result (Option Difference) CompareFault → Standing → Laned → Standing → Laned → Type 0
-ComparesAll within s channel file other qs ms (Ok (Some d)) before lane now left =
-    (xs : List Recorded) → left_of within before (ms ++ xs) (lane_to_come s channel qs lane) ≡ Some d
-ComparesAll within s channel file other qs ms (Ok None) before lane now left =
+    → Result (Option Difference) CompareFault → Standing → Passing → Standing → Passing → Type 0
+ComparesAll within s channel file other qs ms (Ok (Some d)) before pass now left =
+    (xs : List Recorded) → left_of within before (ms ++ xs) (pass_to_come s channel qs pass) ≡ Some d
+ComparesAll within s channel file other qs ms (Ok None) before pass now left =
     IsUnderWay other left.reading
-    × ((xs : List Recorded) → left_of within before (ms ++ xs) (lane_to_come s channel qs lane)
-    ≡ left_of within now xs (lane_to_come s channel qs left))
-ComparesAll within s channel file other qs ms (Err f) before lane now left = IsFaultOfSides file other f
+    × ((xs : List Recorded) → left_of within before (ms ++ xs) (pass_to_come s channel qs pass)
+    ≡ left_of within now xs (pass_to_come s channel qs left))
+ComparesAll within s channel file other qs ms (Err f) before pass now left = IsFaultOfSides file other f
 
 -- nothing more is to come of the first recording: the next message of the second is missing there, or there is none
 abbrev pub EndsWith : ℕ → Selection → ℕ → List ℕ → List ℕ → List Found → Result (Option Difference) CompareFault
-    → Standing → Laned → Type 0
-EndsWith within s channel file other qs (Ok d) before lane =
-    d ≡ left_of within before [] (lane_to_come s channel qs lane)
-EndsWith within s channel file other qs (Err f) before lane = IsFaultOfSides file other f
+    → Standing → Passing → Type 0
+EndsWith within s channel file other qs (Ok d) before pass =
+    d ≡ left_of within before [] (pass_to_come s channel qs pass)
+EndsWith within s channel file other qs (Err f) before pass = IsFaultOfSides file other f
 
 -- the answer is the first message of the channel that differs, if any does
 abbrev pub FindsDifference : Asked → List ℕ → List ℕ → List Found → List Found → Result (Option Difference) CompareFault

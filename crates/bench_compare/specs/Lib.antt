@@ -3,5 +3,5 @@ pub mod Chosen
 pub mod Compared
 pub mod Counting
 pub mod Differences
-pub mod Lanes
 pub mod Laws
+pub mod Passes

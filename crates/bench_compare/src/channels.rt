@@ -2,16 +2,16 @@
 ghost use Rattle.bench_compare.specs.Channels.{Compares, ComparesAll, EndsWith, FindsDifference, origins_by};
 ghost use Rattle.bench_compare.specs.Chosen.{chosen_among, chosen_if, one_if};
 ghost use Rattle.bench_compare.specs.Differences.{part_of};
-ghost use Rattle.bench_compare.specs.Lanes.{IsUnderWay};
+ghost use Rattle.bench_compare.specs.Passes.{IsUnderWay};
 ghost use Rattle.ch11_f1.specs.Views.{message_of};
 ghost use Rattle.ch11_layout.specs.Stamps.{kind_of, recorded};
 ghost use Rattle.ch11_reader.specs.Recording.{Found, packets_in};
 ghost use Rattle.std.specs.Prelude.{◌≡◌, ◌+◌, ◌≤◌, ◌<◌, ◌^◌, ◌==◌, ℕ, List, None, Ok, Some, length, IfOk};
 
+use crate::channel_pass::{ChannelPass, Choice};
 use crate::differences::{Difference, Origins, Part};
 use crate::fault::{CompareFault, SideFault};
 use crate::kept::{Kept, Met};
-use crate::lane::{Choice, Lane};
 use crate::pairs;
 use ch11_f1::Messages;
 use ch11_layout::{StampKind, View};
@@ -137,20 +137,20 @@ fn compare_if<S: Advance>(
     asked: &Asked<'_>,
     chosen: bool,
     standing: &mut Standing,
-    lane: &mut Lane<S>,
+    pass: &mut ChannelPass<S>,
     met: &Met<'_>,
 ) -> Result<Option<Difference>, CompareFault>
     requires { standing.old.same + 1 < 2 ^ 64 }
-    ensures compared { (file other : List ℕ) (qs : List Found) → IsUnderWay other lane.old.reading
+    ensures compared { (file other : List ℕ) (qs : List Found) → IsUnderWay other pass.old.reading
         → packets_in other ≡ Ok qs → ComparesAll asked.now.within asked.now.second.selection.now
         asked.now.second.channel file other qs (one_if chosen (recorded met.now.kind (message_of met.now.seen)))
-        result standing.old lane.old standing.new lane.new }
+        result standing.old pass.old standing.new pass.new }
     ensures counted { standing.new.same ≤ standing.old.same + 1 }
 {
     if !chosen {
         return Ok(None);
     }
-    match lane.next(alloc, asked.second) {
+    match pass.next(alloc, asked.second) {
         Ok(second) => {
             let found = compare_message(alloc, asked.within, standing, met, second)?;
             Ok(found)
@@ -165,17 +165,17 @@ fn compare_messages<S: Advance>(
     alloc: Global,
     asked: &Asked<'_>,
     standing: &mut Standing,
-    lane: &mut Lane<S>,
+    pass: &mut ChannelPass<S>,
     packet: &Packet,
     messages: Messages<'_>,
 ) -> Result<Option<Difference>, CompareFault>
     requires few { packet.now.before + length messages < 2 ^ 64 }
     requires within { standing.old.same ≤ packet.now.before }
-    ensures compared { (file other : List ℕ) (qs : List Found) → IsUnderWay other lane.old.reading
+    ensures compared { (file other : List ℕ) (qs : List Found) → IsUnderWay other pass.old.reading
         → packets_in other ≡ Ok qs → ComparesAll asked.now.within asked.now.second.selection.now
         asked.now.second.channel file other qs (chosen_among asked.now.first.selection.now
         (kind_of packet.now.header) packet.now.before asked.now.first.channel messages.entry) result standing.old
-        lane.old standing.new lane.new }
+        pass.old standing.new pass.new }
     ensures counted { standing.new.same ≤ packet.now.before + length messages.entry }
 {
     let (channel, selection) = (asked.first.channel, asked.first.selection);
@@ -186,7 +186,7 @@ fn compare_messages<S: Advance>(
         number += 1;
         let met = Met { number, kind, seen };
         let chosen = selection.selects(number, channel, &met.view());
-        if let Some(difference) = compare_if(alloc, asked, chosen, standing, lane, &met)? {
+        if let Some(difference) = compare_if(alloc, asked, chosen, standing, pass, &met)? {
             return Ok(Some(difference));
         }
     }
@@ -198,22 +198,22 @@ fn compare_packet<S: Advance>(
     alloc: Global,
     asked: &Asked<'_>,
     standing: &mut Standing,
-    lane: &mut Lane<S>,
+    pass: &mut ChannelPass<S>,
     packet: &Packet,
     messages: Messages<'_>,
 ) -> Result<Option<Difference>, CompareFault>
     requires few { packet.now.before + length messages < 2 ^ 64 }
     requires within { standing.old.same ≤ packet.now.before }
-    ensures compared { (file other : List ℕ) (qs : List Found) → IsUnderWay other lane.old.reading
+    ensures compared { (file other : List ℕ) (qs : List Found) → IsUnderWay other pass.old.reading
         → packets_in other ≡ Ok qs → ComparesAll asked.now.within asked.now.second.selection.now
         asked.now.second.channel file other qs
         (chosen_if asked.now.first.selection.now (packet.now.header.channel == asked.now.first.channel)
         (kind_of packet.now.header) packet.now.before asked.now.first.channel messages.entry) result
-        standing.old lane.old standing.new lane.new }
+        standing.old pass.old standing.new pass.new }
     ensures counted { standing.new.same ≤ packet.now.before + length messages.entry }
 {
     if packet.header.channel == asked.first.channel {
-        compare_messages(alloc, asked, standing, lane, packet, messages)
+        compare_messages(alloc, asked, standing, pass, packet, messages)
     } else {
         Ok(None)
     }
@@ -224,13 +224,13 @@ fn compare_end<S: Advance>(
     alloc: Global,
     asked: &Asked<'_>,
     standing: &Standing,
-    lane: &mut Lane<S>,
+    pass: &mut ChannelPass<S>,
 ) -> Result<Option<Difference>, CompareFault>
-    ensures { (file other : List ℕ) (qs : List Found) → IsUnderWay other lane.old.reading → packets_in other ≡ Ok qs
+    ensures { (file other : List ℕ) (qs : List Found) → IsUnderWay other pass.old.reading → packets_in other ≡ Ok qs
         → EndsWith asked.now.within asked.now.second.selection.now asked.now.second.channel file other qs result
-        standing.now lane.old }
+        standing.now pass.old }
 {
-    match lane.next(alloc, asked.second) {
+    match pass.next(alloc, asked.second) {
         Ok(Some(second)) => {
             let Some(number) = standing.same.checked_add(1) else {
                 return Err(CompareFault::Second(SideFault::Reading(StreamFault::Device)));
@@ -262,7 +262,7 @@ pub(crate) fn compare_channel<R: Advance + Drop, S: Advance + Drop>(
         → FindsDifference asked.now file other ps qs result }
 {
     let mut packets = Packets::over(alloc, first)?;
-    let mut lane = Lane::over(alloc, second)?;
+    let mut pass = ChannelPass::over(alloc, second)?;
     let mut standing = Standing {
         same: 0,
         origins: None,
@@ -275,7 +275,7 @@ pub(crate) fn compare_channel<R: Advance + Drop, S: Advance + Drop>(
                     alloc,
                     asked,
                     &mut standing,
-                    &mut lane,
+                    &mut pass,
                     &packet,
                     messages,
                 )?;
@@ -283,7 +283,7 @@ pub(crate) fn compare_channel<R: Advance + Drop, S: Advance + Drop>(
                     return Ok(Some(difference));
                 }
             }
-            Ok(None) => return compare_end(alloc, asked, &standing, &mut lane),
+            Ok(None) => return compare_end(alloc, asked, &standing, &mut pass),
             Err(fault) => return Err(CompareFault::First(SideFault::Reading(fault))),
         }
     }

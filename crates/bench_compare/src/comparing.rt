@@ -4,11 +4,11 @@ ghost use Rattle.bench_compare.specs.Counting.{AreCounts};
 ghost use Rattle.ch11_reader.specs.Recording.{Found, packets_in};
 ghost use Rattle.std.specs.Prelude.{◌≡◌, ℕ, List, Ok, Some, length, vec_len, IfOk};
 
+use crate::channel_pass::Choice;
 use crate::channels::{Asked, compare_channel};
 use crate::counting::count_channels;
 use crate::differences::{Compared, Difference};
 use crate::fault::{CompareFault, SideFault};
-use crate::lane::Choice;
 use bench_select::{CHANNELS, Selection};
 use bench_watch::Reopen;
 use std::alloc::Global;

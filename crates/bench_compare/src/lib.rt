@@ -5,6 +5,7 @@
 //! of a text. Its tests: `command_tests`. Its wrong bodies: `edits/`.
 #![tactic(auto)]
 
+mod channel_pass;
 mod channels;
 mod comparing;
 mod counting;
@@ -12,7 +13,6 @@ mod differences;
 mod fault;
 mod junit;
 mod kept;
-mod lane;
 mod laws;
 mod lines;
 mod pairs;

@@ -9,32 +9,32 @@ use Rattle.ch11_recording.specs.Laws.{IsFormat, IsPrologue}
 use Rattle.ch11_recording.specs.WrittenFile.{Format, channel_in, held_in, closed_packets}
 use Rattle.ch11_recording.proofs.Recordings.{file_of_none}
 use Rattle.bench_settings.specs.Lawful.{channels_of}
-use Rattle.bench_core.specs.Bench.{LaneState, begun_lane, begun}
+use Rattle.bench_core.specs.Bench.{ChannelState, begun_channel, begun}
 use Rattle.bench_core.specs.Settled.{IsFresh}
 use Rattle.bench_core.specs.Channels.{IsMade}
 use Rattle.bench_core.specs.World.{IsKeptWorld}
 use Rattle.bench_core.proofs.Fields.{state}
 
-abbrev pub lanes_of : List JobState → List LaneState
-lanes_of jobs = map begun_lane jobs
+abbrev pub begun_of : List JobState → List ChannelState
+begun_of jobs = map begun_channel jobs
 
-same_channels : (jobs : List JobState) → map (λ (l : LaneState). l.channel) (lanes_of jobs) ≡ channels_of jobs
+same_channels : (jobs : List JobState) → map (λ (l : ChannelState). l.channel) (begun_of jobs) ≡ channels_of jobs
 same_channels [] = refl
 same_channels (j ∷ jobs) = ap (λ (cs : List ℕ). j.channel ∷ cs) (same_channels jobs)
 
-all_fresh : (jobs : List JobState) → AllByRecursion (λ (j : JobState). j.channel < 2 ^ 16) jobs → AllByRecursion IsFresh (lanes_of jobs)
+all_fresh : (jobs : List JobState) → AllByRecursion (λ (j : JobState). j.channel < 2 ^ 16) jobs → AllByRecursion IsFresh (begun_of jobs)
 all_fresh [] low = tt
 all_fresh (j ∷ jobs) low = (record { channel = low.0; made = refl; refused = refl }, all_fresh jobs low.1)
 
-none_made : (jobs : List JobState) → AllByRecursion IsMade (lanes_of jobs)
+none_made : (jobs : List JobState) → AllByRecursion IsMade (begun_of jobs)
 none_made [] = tt
 none_made (j ∷ jobs) = (record { recorded = tt; few = omega arith }, none_made jobs)
 
-none_held : (f : Format) (jobs : List JobState) → map (λ (j : JobState). fresh (channel_in f j.channel)) jobs ≡ map (λ (l : LaneState). held_in f l.channel []) (lanes_of jobs)
+none_held : (f : Format) (jobs : List JobState) → map (λ (j : JobState). fresh (channel_in f j.channel)) jobs ≡ map (λ (l : ChannelState). held_in f l.channel []) (begun_of jobs)
 none_held f [] = refl
 none_held f (j ∷ jobs) = ap (λ (hs : List Held). fresh (channel_in f j.channel) ∷ hs) (none_held f jobs)
 
-as_many : (jobs : List JobState) → length (lanes_of jobs) ≡ length jobs
+as_many : (jobs : List JobState) → length (begun_of jobs) ≡ length jobs
 as_many [] = refl
 as_many (j ∷ jobs) = ap suc (as_many jobs)
 
@@ -44,10 +44,10 @@ no_packets f = refl
 
 pub begun_kept : (f : Format) (prologue : List ℕ) (most : ℕ) (jobs : List JobState) (capacity slots : ℕ) → AllByRecursion (λ (j : JobState). j.channel < 2 ^ 16) jobs → AreDistinct (channels_of jobs)
     → IsFormat f → IsPrologue prologue → length jobs ≤ 32 → capacity ≤ slots
-    → IsKeptWorld slots (map (λ (j : JobState). fresh (channel_in f j.channel)) jobs) prologue 0 (state f prologue most (lanes_of jobs) capacity [] [])
+    → IsKeptWorld slots (map (λ (j : JobState). fresh (channel_in f j.channel)) jobs) prologue 0 (state f prologue most (begun_of jobs) capacity [] [])
 begun_kept f prologue most jobs capacity slots low distinct format first few room = record {
   reached = record {
-    lanes = lanes_of jobs;
+    channels = begun_of jobs;
     capacity = capacity;
     steps = [];
     fresh = all_fresh jobs low;
@@ -64,24 +64,24 @@ begun_kept f prologue most jobs capacity slots low distinct format first few roo
   room = room;
 }
 
-module _ (f : Format) (prologue : List ℕ) (most : ℕ) (jobs : List JobState) (capacity : ℕ) (ls : List LaneState) (queue taken : List Item) (shown : List ℕ)
-    (lanes : ls ≡ lanes_of jobs) (no_items : queue ≡ []) (none_taken : taken ≡ []) (same : shown ≡ prologue) where
+module _ (f : Format) (prologue : List ℕ) (most : ℕ) (jobs : List JobState) (capacity : ℕ) (ls : List ChannelState) (queue taken : List Item) (shown : List ℕ)
+    (channels : ls ≡ begun_of jobs) (no_items : queue ≡ []) (none_taken : taken ≡ []) (same : shown ≡ prologue) where
   pub begun_is : state f shown most ls capacity queue taken
-      ≡ record { format = f; prologue = prologue; most = most; bench = begun capacity (map begun_lane jobs) }
+      ≡ record { format = f; prologue = prologue; most = most; bench = begun capacity (map begun_channel jobs) }
   begun_is =
       ap (λ (bytes : List ℕ). state f bytes most ls capacity queue taken) same
-      ∙ ap (λ (bs : List LaneState). state f prologue most bs capacity queue taken) lanes
-      ∙ ap (λ (xs : List Item). state f prologue most (lanes_of jobs) capacity xs taken) no_items
-      ∙ ap (λ (xs : List Item). state f prologue most (lanes_of jobs) capacity [] xs) none_taken
+      ∙ ap (λ (bs : List ChannelState). state f prologue most bs capacity queue taken) channels
+      ∙ ap (λ (xs : List Item). state f prologue most (begun_of jobs) capacity xs taken) no_items
+      ∙ ap (λ (xs : List Item). state f prologue most (begun_of jobs) capacity [] xs) none_taken
 
   pub begun_fields : (slots : ℕ) (builders : List Held) (bytes : List ℕ) → builders ≡ map (λ (j : JobState). fresh (channel_in f j.channel)) jobs → bytes ≡ prologue
       → AllByRecursion (λ (j : JobState). j.channel < 2 ^ 16) jobs → AreDistinct (channels_of jobs) → IsFormat f → IsPrologue prologue → length jobs ≤ 32 → capacity ≤ slots
       → IsKeptWorld slots builders bytes 0 (state f shown most ls capacity queue taken)
   begun_fields slots builders bytes held file low distinct format first few room =
       subst (λ (ps : List ℕ). IsKeptWorld slots builders bytes 0 (state f ps most ls capacity queue taken)) (sym same)
-      (subst (λ (bs : List LaneState). IsKeptWorld slots builders bytes 0 (state f prologue most bs capacity queue taken)) (sym lanes)
-      (subst (λ (xs : List Item). IsKeptWorld slots builders bytes 0 (state f prologue most (lanes_of jobs) capacity xs taken)) (sym no_items)
-      (subst (λ (xs : List Item). IsKeptWorld slots builders bytes 0 (state f prologue most (lanes_of jobs) capacity [] xs)) (sym none_taken)
-      (subst (λ (hs : List Held). IsKeptWorld slots hs bytes 0 (state f prologue most (lanes_of jobs) capacity [] [])) (sym held)
-      (subst (λ (bs : List ℕ). IsKeptWorld slots (map (λ (j : JobState). fresh (channel_in f j.channel)) jobs) bs 0 (state f prologue most (lanes_of jobs) capacity [] [])) (sym file)
+      (subst (λ (bs : List ChannelState). IsKeptWorld slots builders bytes 0 (state f prologue most bs capacity queue taken)) (sym channels)
+      (subst (λ (xs : List Item). IsKeptWorld slots builders bytes 0 (state f prologue most (begun_of jobs) capacity xs taken)) (sym no_items)
+      (subst (λ (xs : List Item). IsKeptWorld slots builders bytes 0 (state f prologue most (begun_of jobs) capacity [] xs)) (sym none_taken)
+      (subst (λ (hs : List Held). IsKeptWorld slots hs bytes 0 (state f prologue most (begun_of jobs) capacity [] [])) (sym held)
+      (subst (λ (bs : List ℕ). IsKeptWorld slots (map (λ (j : JobState). fresh (channel_in f j.channel)) jobs) bs 0 (state f prologue most (begun_of jobs) capacity [] [])) (sym file)
       (begun_kept f prologue most jobs capacity slots low distinct format first few room))))))

@@ -14,12 +14,12 @@ use Rattle.ch11_recording.specs.Laws.{IsItem, LatestIsLast}
 use Rattle.ch11_recording.specs.WrittenFile.{Format, channel_in, concerns, met, held_in}
 use Rattle.ch11_recording.proofs.Growth.{after_more}
 use Rattle.ch11_recording.proofs.Kept.{not_mine, mine, items_channel}
-use Rattle.bench_core.specs.Bench.{LaneState, Bench, all_records}
+use Rattle.bench_core.specs.Bench.{ChannelState, Bench, all_records}
 use Rattle.bench_core.specs.Settled.{kept_of, IsSettled}
 use Rattle.bench_settings.specs.Kept.{is_kept}
 use Rattle.bench_core.specs.Writing.{MayCome}
 use Rattle.bench_settings.proofs.Lists.{records_both}
-use Rattle.bench_core.proofs.Steps.{channels_in, stands_apart}
+use Rattle.bench_core.proofs.Steps.{numbers_in, stands_apart}
 
 -- ---- numbers rise
 
@@ -49,7 +49,7 @@ own_front channel k r c taken behind same =
     records_both channel taken (item.Message c k r ∷ behind)
     ∙ ap (λ (b : Bool). records_in channel taken ++ (cond b (numbered k r ∷ []) [] ++ records_in channel behind)) (eq-eqb c channel same)
 
-pub may_come : LatestIsLast → (f : Format) (b : Bench) (l : LaneState) (x : Item) (behind : List Item) → b.queue ≡ x ∷ behind → channel_of x ≡ l.channel → IsSettled b l → IsItem x
+pub may_come : LatestIsLast → (f : Format) (b : Bench) (l : ChannelState) (x : Item) (behind : List Item) → b.queue ≡ x ∷ behind → channel_of x ≡ l.channel → IsSettled b l → IsItem x
     → MayCome (held_in f l.channel b.taken) x
 may_come latest f b l (item.Message c k r) behind at of settled good =
     let whole : records_in l.channel b.taken ++ numbered k r ∷ records_in l.channel behind ≡ kept_of l =
@@ -75,26 +75,26 @@ held_same f items x channel d of other =
     ∙ not_mine (held_in f d items) x (false_from_ne_true (concerns (held_in f d items) x)
     (λ e. other (sym (own f d items) ∙ sym (eqb-true (channel_of x) (held_in f d items).channel.channel e) ∙ of)))
 
-abbrev pub holds : Format → List Item → List LaneState → List Held
-holds f items lanes = map (λ (l : LaneState). held_in f l.channel items) lanes
+abbrev pub holds : Format → List Item → List ChannelState → List Held
+holds f items channels = map (λ (l : ChannelState). held_in f l.channel items) channels
 
-held_others : (f : Format) (items : List Item) (x : Item) (channel : ℕ) (lanes : List LaneState) → channel_of x ≡ channel → AllByRecursion (λ other. other ≢ channel) (channels_in lanes)
-    → holds f items lanes ≡ holds f (items ++ x ∷ []) lanes
+held_others : (f : Format) (items : List Item) (x : Item) (channel : ℕ) (channels : List ChannelState) → channel_of x ≡ channel → AllByRecursion (λ other. other ≢ channel) (numbers_in channels)
+    → holds f items channels ≡ holds f (items ++ x ∷ []) channels
 held_others f items x channel [] of others = refl
-held_others f items x channel (k ∷ lanes) of others =
-    ap (λ (h : Held). h ∷ holds f items lanes) (sym (held_same f items x channel k.channel of others.0))
-    ∙ ap (λ (hs : List Held). held_in f k.channel (items ++ x ∷ []) ∷ hs) (held_others f items x channel lanes of others.1)
+held_others f items x channel (k ∷ channels) of others =
+    ap (λ (h : Held). h ∷ holds f items channels) (sym (held_same f items x channel k.channel of others.0))
+    ∙ ap (λ (hs : List Held). held_in f k.channel (items ++ x ∷ []) ∷ hs) (held_others f items x channel channels of others.1)
 
-pub held_set : (f : Format) (items : List Item) (x : Item) (lanes : List LaneState) (i : ℕ) (l : LaneState) → AreDistinct (channels_in lanes) → slice_get lanes i ≡ Some l → channel_of x ≡ l.channel
-    → slice_set (holds f items lanes) i (met (held_in f l.channel items) x) ≡ holds f (items ++ x ∷ []) lanes
+pub held_set : (f : Format) (items : List Item) (x : Item) (channels : List ChannelState) (i : ℕ) (l : ChannelState) → AreDistinct (numbers_in channels) → slice_get channels i ≡ Some l → channel_of x ≡ l.channel
+    → slice_set (holds f items channels) i (met (held_in f l.channel items) x) ≡ holds f (items ++ x ∷ []) channels
 held_set f items x [] i l distinct at of = absurd cc
-held_set f items x (k ∷ lanes) zero l distinct at of =
+held_set f items x (k ∷ channels) zero l distinct at of =
     let same : l ≡ k = cc in
-    let here : channel_of x ≡ k.channel = of ∙ ap (λ (y : LaneState). y.channel) same in
-    ap (λ (y : LaneState). met (held_in f y.channel items) x ∷ holds f items lanes) same
-    ∙ ap (λ (h : Held). h ∷ holds f items lanes) (sym (held_more f items x k.channel here))
-    ∙ ap (λ (hs : List Held). held_in f k.channel (items ++ x ∷ []) ∷ hs) (held_others f items x k.channel lanes here distinct.0)
-held_set f items x (k ∷ lanes) (suc i) l distinct at of =
-    let apart : l.channel ≢ k.channel = stands_apart k.channel i l lanes distinct.0 at in
-    ap (λ (h : Held). h ∷ slice_set (holds f items lanes) i (met (held_in f l.channel items) x)) (sym (held_same f items x l.channel k.channel of (λ e. apart (sym e))))
-    ∙ ap (λ (hs : List Held). held_in f k.channel (items ++ x ∷ []) ∷ hs) (held_set f items x lanes i l distinct.1 at of)
+    let here : channel_of x ≡ k.channel = of ∙ ap (λ (y : ChannelState). y.channel) same in
+    ap (λ (y : ChannelState). met (held_in f y.channel items) x ∷ holds f items channels) same
+    ∙ ap (λ (h : Held). h ∷ holds f items channels) (sym (held_more f items x k.channel here))
+    ∙ ap (λ (hs : List Held). held_in f k.channel (items ++ x ∷ []) ∷ hs) (held_others f items x k.channel channels here distinct.0)
+held_set f items x (k ∷ channels) (suc i) l distinct at of =
+    let apart : l.channel ≢ k.channel = stands_apart k.channel i l channels distinct.0 at in
+    ap (λ (h : Held). h ∷ slice_set (holds f items channels) i (met (held_in f l.channel items) x)) (sym (held_same f items x l.channel k.channel of (λ e. apart (sym e))))
+    ∙ ap (λ (hs : List Held). held_in f k.channel (items ++ x ∷ []) ∷ hs) (held_set f items x channels i l distinct.1 at of)

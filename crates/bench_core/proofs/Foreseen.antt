@@ -34,7 +34,7 @@ use Rattle.job_file.specs.Jobs.{job_in}
 use Rattle.job_file.specs.Spelled.{ChannelJob}
 use Rattle.job_file.specs.Meaning.{bus_of, drained_at, end_of, records_in, records}
 use Rattle.bench_settings.proofs.Ordered.{up_to_same}
-use Rattle.bench_core.specs.Bench.{LaneState, all_records, with_post}
+use Rattle.bench_core.specs.Bench.{ChannelState, all_records, with_post}
 use Rattle.bench_core.proofs.Growing.{BusPoint, asks_alike, tests_alike, Grows, grows_same, grows_through, inserting_grows, many_grow, drained_grows, own_grows, paced_grows, attempts_grow, times_grow, turns_grow, tree_grows}
 
 -- the same actions are placed at the first k messages
@@ -272,7 +272,7 @@ added_alike k ps one later n low high =
     ∙ append-nil (placed_at n ps)
 
 -- a post changes none of a channel's messages so far
-pub records_posted : (l : LaneState) (action : HostAction) → take l.made (all_records (with_post l action)) ≡ take l.made (all_records l)
+pub records_posted : (l : ChannelState) (action : HostAction) → take l.made (all_records (with_post l action)) ≡ take l.made (all_records l)
 records_posted l action =
     let one : Placed = record { number = l.made + 1; action = action } in
     records_same (job_in l.job) l.placed (l.placed ++ one ∷ []) l.made (added_alike l.made l.placed one (omega arith))

@@ -14,7 +14,7 @@ use Rattle.ch11_builder.specs.Recorded.{IsRecorded}
 use Rattle.ch11_recording.specs.declared.item.Item.{Item}
 use Rattle.ch11_recording.specs.declared.item.Item.TheVariants as item
 use Rattle.ch11_recording.specs.Items.{numbered}
-use Rattle.bench_core.specs.Bench.{LaneState, Bench, all_records, has_room, with_message, with_end, message_of, next_offered, lane_offers, offered}
+use Rattle.bench_core.specs.Bench.{ChannelState, Bench, all_records, has_room, with_message, with_end, message_of, next_offered, channel_offers, offered}
 use Rattle.bench_core.specs.Channels.{after_next, queued_next, next_in}
 
 -- ---- a channel's numbers and records
@@ -67,69 +67,69 @@ all_set_to P (x ∷ xs) (suc i) v all new = (all.0, all_set_to P xs i v all.1 ne
 
 -- ---- the bench after an offer
 
-abbrev pub offer_made : ℕ → Bench → LaneState → Option Item → Bench
-offer_made i b l queued = record { lanes = slice_set b.lanes i l; capacity = b.capacity; queue = b.queue ++ option_to_list queued; taken = b.taken }
+abbrev pub offer_made : ℕ → Bench → ChannelState → Option Item → Bench
+offer_made i b l queued = record { channels = slice_set b.channels i l; capacity = b.capacity; queue = b.queue ++ option_to_list queued; taken = b.taken }
 
-message_made : (i : ℕ) (b : Bench) (l : LaneState) (r : Record) (room : Bool)
+message_made : (i : ℕ) (b : Bench) (l : ChannelState) (r : Record) (room : Bool)
     → offer_made i b (with_message l room) (cond room (Some (message_of l r)) None)
-    ≡ record { lanes = slice_set b.lanes i (with_message l room); capacity = b.capacity; queue = cond room (b.queue ++ message_of l r ∷ []) b.queue; taken = b.taken }
+    ≡ record { channels = slice_set b.channels i (with_message l room); capacity = b.capacity; queue = cond room (b.queue ++ message_of l r ∷ []) b.queue; taken = b.taken }
 message_made i b l r true = refl
 message_made i b l r false =
-    ap (λ (q : List Item). record { lanes = slice_set b.lanes i (with_message l false); capacity = b.capacity; queue = q; taken = b.taken }) (append-nil b.queue)
+    ap (λ (q : List Item). record { channels = slice_set b.channels i (with_message l false); capacity = b.capacity; queue = q; taken = b.taken }) (append-nil b.queue)
 
-end_made : (i : ℕ) (b : Bench) (l : LaneState) (stays : Bool) → slice_get b.lanes i ≡ Some l
+end_made : (i : ℕ) (b : Bench) (l : ChannelState) (stays : Bool) → slice_get b.channels i ≡ Some l
     → offer_made i b (cond stays l (with_end l)) (cond stays None (Some (item.End l.channel)))
-    ≡ cond stays b (record { lanes = slice_set b.lanes i (with_end l); capacity = b.capacity; queue = b.queue ++ item.End l.channel ∷ []; taken = b.taken })
+    ≡ cond stays b (record { channels = slice_set b.channels i (with_end l); capacity = b.capacity; queue = b.queue ++ item.End l.channel ∷ []; taken = b.taken })
 end_made i b l true at =
-    ap (λ (q : List Item). record { lanes = slice_set b.lanes i l; capacity = b.capacity; queue = q; taken = b.taken }) (append-nil b.queue)
-    ∙ ap (λ (ls : List LaneState). record { lanes = ls; capacity = b.capacity; queue = b.queue; taken = b.taken }) (set_same b.lanes i l at)
+    ap (λ (q : List Item). record { channels = slice_set b.channels i l; capacity = b.capacity; queue = q; taken = b.taken }) (append-nil b.queue)
+    ∙ ap (λ (ls : List ChannelState). record { channels = ls; capacity = b.capacity; queue = b.queue; taken = b.taken }) (set_same b.channels i l at)
 end_made i b l false at = refl
 
-next_made : (i : ℕ) (b : Bench) (l : LaneState) (next : Option Record) → slice_get b.lanes i ≡ Some l
+next_made : (i : ℕ) (b : Bench) (l : ChannelState) (next : Option Record) → slice_get b.channels i ≡ Some l
     → offer_made i b (after_next l next (has_room b)) (queued_next l next (has_room b)) ≡ next_offered i l next b
 next_made i b l (Some r) at = message_made i b l r (has_room b)
 next_made i b l None at = end_made i b l (l.ended || not (has_room b)) at
 
-pub offer_is : (i : ℕ) (b : Bench) (l : LaneState) → slice_get b.lanes i ≡ Some l
+pub offer_is : (i : ℕ) (b : Bench) (l : ChannelState) → slice_get b.channels i ≡ Some l
     → offer_made i b (after_next l (next_in l) (has_room b)) (queued_next l (next_in l) (has_room b)) ≡ offered i b
-offer_is i b l at = next_made i b l (next_in l) at ∙ ap (λ (o : Option LaneState). lane_offers i o b) (sym at)
+offer_is i b l at = next_made i b l (next_in l) at ∙ ap (λ (o : Option ChannelState). channel_offers i o b) (sym at)
 
 -- ---- what comes next of a channel
 
-next_ended : (l : LaneState) → l.ended ≡ true → next_in l ≡ None
+next_ended : (l : ChannelState) → l.ended ≡ true → next_in l ≡ None
 next_ended l is = ap (λ (ended : Bool). cond ended None (slice_get (all_records l) l.made)) is
 
-pub next_none : (l : LaneState) → slice_get (all_records l) l.made ≡ None → next_in l ≡ None
+pub next_none : (l : ChannelState) → slice_get (all_records l) l.made ≡ None → next_in l ≡ None
 next_none l none = go l.ended
   where
     go : (ended : Bool) → cond ended None (slice_get (all_records l) l.made) ≡ None
     go true = refl
     go false = none
 
-pub next_some : (l : LaneState) (r : Record) → l.ended ≡ false → slice_get (all_records l) l.made ≡ Some r → next_in l ≡ Some r
+pub next_some : (l : ChannelState) (r : Record) → l.ended ≡ false → slice_get (all_records l) l.made ≡ Some r → next_in l ≡ Some r
 next_some l r going at = ap (λ (ended : Bool). cond ended None (slice_get (all_records l) l.made)) going ∙ at
 
 -- a channel behind its end mark stays as it is
-pub ended_stays : (l : LaneState) (room : Bool) → l.ended ≡ true → l ≡ after_next l (next_in l) room
+pub ended_stays : (l : ChannelState) (room : Bool) → l.ended ≡ true → l ≡ after_next l (next_in l) room
 ended_stays l room is =
     sym (ap (λ (o : Option Record). after_next l o room) (next_ended l is) ∙ ap (λ (ended : Bool). cond (ended || not room) l (with_end l)) is)
 
-pub ended_gives : (l : LaneState) (room : Bool) → l.ended ≡ true → None ≡ queued_next l (next_in l) room
+pub ended_gives : (l : ChannelState) (room : Bool) → l.ended ≡ true → None ≡ queued_next l (next_in l) room
 ended_gives l room is =
     sym (ap (λ (o : Option Record). queued_next l o room) (next_ended l is) ∙ ap (λ (ended : Bool). cond (ended || not room) None (Some (item.End l.channel))) is)
 
 -- ---- a channel after its last message, and after a message
 
-ended_shape : (l : LaneState) (e room : Bool)
-    → ◌≡◌ {A = LaneState} (record { channel = l.channel; job = l.job; placed = l.placed; made = l.made; refused = l.refused; ended = e || room })
+ended_shape : (l : ChannelState) (e room : Bool)
+    → ◌≡◌ {A = ChannelState} (record { channel = l.channel; job = l.job; placed = l.placed; made = l.made; refused = l.refused; ended = e || room })
     (cond (e || not room) (record { channel = l.channel; job = l.job; placed = l.placed; made = l.made; refused = l.refused; ended = e }) (with_end l))
 ended_shape l true room = refl
 ended_shape l false true = refl
 ended_shape l false false = refl
 
-pub ended_lane : (l : LaneState) (room : Bool) (placed : List Placed) (made : ℕ) (refused : List ℕ) (ended : Bool) → next_in l ≡ None → placed ≡ l.placed → made ≡ l.made → refused ≡ l.refused → ended ≡ (l.ended || room)
-    → ◌≡◌ {A = LaneState} (record { channel = l.channel; job = l.job; placed = placed; made = made; refused = refused; ended = ended }) (after_next l (next_in l) room)
-ended_lane l room placed made refused ended none acts is same marked =
+pub ended_channel : (l : ChannelState) (room : Bool) (placed : List Placed) (made : ℕ) (refused : List ℕ) (ended : Bool) → next_in l ≡ None → placed ≡ l.placed → made ≡ l.made → refused ≡ l.refused → ended ≡ (l.ended || room)
+    → ◌≡◌ {A = ChannelState} (record { channel = l.channel; job = l.job; placed = placed; made = made; refused = refused; ended = ended }) (after_next l (next_in l) room)
+ended_channel l room placed made refused ended none acts is same marked =
     ap (λ (ps : List Placed). record { channel = l.channel; job = l.job; placed = ps; made = made; refused = refused; ended = ended }) acts
     ∙ ap (λ (k : ℕ). record { channel = l.channel; job = l.job; placed = l.placed; made = k; refused = refused; ended = ended }) is
     ∙ ap (λ (ns : List ℕ). record { channel = l.channel; job = l.job; placed = l.placed; made = l.made; refused = ns; ended = ended }) same
@@ -137,17 +137,17 @@ ended_lane l room placed made refused ended none acts is same marked =
     ∙ ended_shape l l.ended room
     ∙ sym (ap (λ (o : Option Record). after_next l o room) none)
 
-pub ended_item : (l : LaneState) (room : Bool) → next_in l ≡ None → cond (l.ended || not room) None (Some (item.End l.channel)) ≡ queued_next l (next_in l) room
+pub ended_item : (l : ChannelState) (room : Bool) → next_in l ≡ None → cond (l.ended || not room) None (Some (item.End l.channel)) ≡ queued_next l (next_in l) room
 ended_item l room none = sym (ap (λ (o : Option Record). queued_next l o room) none)
 
-message_shape : (l : LaneState) (r : Record) (room : Bool)
-    → ◌≡◌ {A = LaneState} (record { channel = l.channel; job = l.job; placed = l.placed; made = l.made + 1; refused = cond room l.refused (l.refused ++ (l.made + 1) ∷ []); ended = l.ended }) (with_message l room)
+message_shape : (l : ChannelState) (r : Record) (room : Bool)
+    → ◌≡◌ {A = ChannelState} (record { channel = l.channel; job = l.job; placed = l.placed; made = l.made + 1; refused = cond room l.refused (l.refused ++ (l.made + 1) ∷ []); ended = l.ended }) (with_message l room)
 message_shape l r room = refl
 
-pub message_lane : (l : LaneState) (r : Record) (room : Bool) (placed : List Placed) (made number : ℕ) (old refused : List ℕ) → next_in l ≡ Some r → placed ≡ l.placed → made ≡ l.made + 1 → number ≡ made → old ≡ l.refused
+pub message_channel : (l : ChannelState) (r : Record) (room : Bool) (placed : List Placed) (made number : ℕ) (old refused : List ℕ) → next_in l ≡ Some r → placed ≡ l.placed → made ≡ l.made + 1 → number ≡ made → old ≡ l.refused
     → refused ≡ cond room old (old ++ number ∷ [])
-    → ◌≡◌ {A = LaneState} (record { channel = l.channel; job = l.job; placed = placed; made = made; refused = refused; ended = l.ended }) (after_next l (next_in l) room)
-message_lane l r room placed made number old refused at acts is same kept listed =
+    → ◌≡◌ {A = ChannelState} (record { channel = l.channel; job = l.job; placed = placed; made = made; refused = refused; ended = l.ended }) (after_next l (next_in l) room)
+message_channel l r room placed made number old refused at acts is same kept listed =
     ap (λ (ps : List Placed). record { channel = l.channel; job = l.job; placed = ps; made = made; refused = refused; ended = l.ended }) acts
     ∙ ap (λ (ns : List ℕ). record { channel = l.channel; job = l.job; placed = l.placed; made = made; refused = ns; ended = l.ended })
     (listed ∙ ap (λ (k : ℕ). cond room old (old ++ k ∷ [])) same ∙ ap (λ (ns : List ℕ). cond room ns (ns ++ made ∷ [])) kept)
@@ -155,7 +155,7 @@ message_lane l r room placed made number old refused at acts is same kept listed
     ∙ message_shape l r room
     ∙ sym (ap (λ (o : Option Record). after_next l o room) at)
 
-pub message_item : (l : LaneState) (r : Record) (room : Bool) (number : ℕ) → next_in l ≡ Some r → number ≡ l.made + 1
+pub message_item : (l : ChannelState) (r : Record) (room : Bool) (number : ℕ) → next_in l ≡ Some r → number ≡ l.made + 1
     → cond room (Some (item.Message l.channel number r)) None ≡ queued_next l (next_in l) room
 message_item l r room number at is =
     ap (λ (k : ℕ). cond room (Some (item.Message l.channel k r)) None) is ∙ sym (ap (λ (o : Option Record). queued_next l o room) at)

@@ -58,10 +58,10 @@ module _ {S : Type 0} (taken : S → Option (List ℕ)) (failures : S → ℕ) (
   })
 
   -- the channel's number so far, as its recorder looks at it
-  pub is_next : (n : ℕ) (r : Recording S) (h : Held) → Stage taken failures job placed version limit before n r → slice_get r.lanes 0 ≡ Some h → latest_number h < n + 1
+  pub is_next : (n : ℕ) (r : Recording S) (h : Held) → Stage taken failures job placed version limit before n r → slice_get r.held 0 ≡ Some h → latest_number h < n + 1
   is_next n r h s at =
-      let lanes : r.lanes ≡ held_in (format_of version limit) job.channel (items_of job.channel (take n (records job placed))) ∷ [] = s.recording.lanes in
-      let e : Some (held_in (format_of version limit) job.channel (items_of job.channel (take n (records job placed)))) ≡ Some h = sym (ap (λ (hs : List Held). slice_get hs 0) lanes) ∙ at in
+      let held : r.held ≡ held_in (format_of version limit) job.channel (items_of job.channel (take n (records job placed))) ∷ [] = s.recording.held in
+      let e : Some (held_in (format_of version limit) job.channel (items_of job.channel (take n (records job placed)))) ≡ Some h = sym (ap (λ (hs : List Held). slice_get hs 0) held) ∙ at in
       let same : held_in (format_of version limit) job.channel (items_of job.channel (take n (records job placed))) ≡ h = cc in
       omega (arith, ap latest_number (sym same) ∙ s.latest)
 
@@ -69,11 +69,11 @@ module _ {S : Type 0} (taken : S → Option (List ℕ)) (failures : S → ℕ) (
   abbrev pub holding : ℕ → Held
   holding n = held_in (format_of version limit) job.channel (items_of job.channel (take n (records job placed)))
 
-  pub lane_now : (n : ℕ) (r : Recording S) → Stage taken failures job placed version limit before n r → slice_get r.lanes 0 ≡ Some (holding n)
-  lane_now n r st = ap (λ (hs : List Held). slice_get hs 0) st.recording.lanes
+  pub channel_now : (n : ℕ) (r : Recording S) → Stage taken failures job placed version limit before n r → slice_get r.held 0 ≡ Some (holding n)
+  channel_now n r st = ap (λ (hs : List Held). slice_get hs 0) st.recording.held
 
-  pub one_lane : (n : ℕ) (r : Recording S) → Stage taken failures job placed version limit before n r → 0 < length r.lanes
-  one_lane n r st = let e : length r.lanes ≡ 1 = ap (λ (hs : List Held). length hs) st.recording.lanes in omega arith
+  pub one_channel : (n : ℕ) (r : Recording S) → Stage taken failures job placed version limit before n r → 0 < length r.held
+  one_channel n r st = let e : length r.held ≡ 1 = ap (λ (hs : List Held). length hs) st.recording.held in omega arith
 
   pub rises : (old new : Bool) (a b : ℕ) → b ≡ cond (old || not new) a (a + 1) → (old ≡ true → failures before < a) → failures before ≤ a
       → (new ≡ true → failures before < b) × (failures before ≤ b)

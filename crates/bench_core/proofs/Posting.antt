@@ -12,7 +12,7 @@ use Rattle.job_file.specs.Jobs.{JobState, job_in}
 use Rattle.job_file.specs.Meaning.{records}
 use Rattle.job_file.specs.Machines.{IsOf}
 use Rattle.bench_settings.specs.Placing.{placed_up_to}
-use Rattle.bench_core.specs.Bench.{LaneState, with_post}
+use Rattle.bench_core.specs.Bench.{ChannelState, with_post}
 use Rattle.bench_core.proofs.Foreseen.{records_posted}
 use Rattle.bench_core.proofs.Offers.{AreRecorded}
 use Rattle.bench_settings.proofs.Ordered.{up_to_same}
@@ -55,10 +55,10 @@ module _ (job : JobState) (m n : MachineState) (action : HostAction) (is : n ≡
     under_way = under_way;
   }
 
-  pub posted_lane : (channel : ℕ) (refused : List ℕ) (ended : Bool)
-      → ◌≡◌ {A = LaneState} (record { channel = channel; job = job; placed = n.placed; made = n.point.number; refused = refused; ended = ended })
+  pub posted_channel : (channel : ℕ) (refused : List ℕ) (ended : Bool)
+      → ◌≡◌ {A = ChannelState} (record { channel = channel; job = job; placed = n.placed; made = n.point.number; refused = refused; ended = ended })
       (with_post (record { channel = channel; job = job; placed = m.placed; made = m.point.number; refused = refused; ended = ended }) action)
-  posted_lane channel refused ended = ap (λ (x : MachineState). record { channel = channel; job = job; placed = x.placed; made = x.point.number; refused = refused; ended = ended }) is
+  posted_channel channel refused ended = ap (λ (x : MachineState). record { channel = channel; job = job; placed = x.placed; made = x.point.number; refused = refused; ended = ended }) is
 
   pub posted_recorded : AreRecorded (take m.point.number (records (job_in job) m.placed)) → AreRecorded (take n.point.number (records (job_in job) n.placed))
   posted_recorded all =

@@ -10,10 +10,10 @@ use Rattle.ch11_recording.specs.declared.item.Item.{Item}
 use Rattle.ch11_recording.specs.Items.{records_in}
 use Rattle.ch11_recording.specs.WrittenFile.{Format, held_in, closed_records}
 use Rattle.ch11_recording.specs.Laws.{IsFormat, IsPrologue, IsItem, RecordingIsRead, RecordsAreKept}
-use Rattle.bench_core.specs.Bench.{LaneState, Bench}
+use Rattle.bench_core.specs.Bench.{ChannelState, Bench}
 use Rattle.bench_core.specs.Settled.{kept_of, HasRecorded, ReadsBack}
 use Rattle.bench_settings.proofs.Lists.{records_both}
-use Rattle.bench_core.proofs.Steps.{IsLane, IsBench}
+use Rattle.bench_core.proofs.Steps.{IsChannel, IsBench}
 
 abbrev heard : List Numbered → List Message
 heard ns = map as_message (messages_of ns)
@@ -26,29 +26,29 @@ front_of : (xs ys : List Item) → AllByRecursion IsItem (xs ++ ys) → AllByRec
 front_of [] ys all = tt
 front_of (x ∷ xs) ys all = (all.0, front_of xs ys all.1)
 
-pub settled_lanes : (items : List Item) (lanes : List LaneState) → AllByRecursion (IsLane items) lanes → AllByRecursion (λ l. records_in l.channel items ≡ kept_of l) lanes
-settled_lanes items [] all = tt
-settled_lanes items (l ∷ lanes) all = (all.0.settled, settled_lanes items lanes all.1)
+pub settled_channels : (items : List Item) (channels : List ChannelState) → AllByRecursion (IsChannel items) channels → AllByRecursion (λ l. records_in l.channel items ≡ kept_of l) channels
+settled_channels items [] all = tt
+settled_channels items (l ∷ channels) all = (all.0.settled, settled_channels items channels all.1)
 
 module _ (read : RecordingIsRead) (kept : RecordsAreKept) (f : Format) where
-  lane_read : (b : Bench) (l : LaneState) (ps : List Found) → reading ps l.channel ≡ heard (closed_records f l.channel b.taken) → IsLane (b.taken ++ b.queue) l
+  channel_read : (b : Bench) (l : ChannelState) (ps : List Found) → reading ps l.channel ≡ heard (closed_records f l.channel b.taken) → IsChannel (b.taken ++ b.queue) l
       → reading ps l.channel ++ heard ((held_in f l.channel b.taken).records ++ records_in l.channel b.queue) ≡ heard (kept_of l)
-  lane_read b l ps is lane =
+  channel_read b l ps is channel =
       let closed : List Numbered = closed_records f l.channel b.taken in
       let held : List Numbered = (held_in f l.channel b.taken).records in
       let queued : List Numbered = records_in l.channel b.queue in
       ap (λ (ms : List Message). ms ++ heard (held ++ queued)) is
       ∙ sym (heard_both closed (held ++ queued))
       ∙ ap heard (sym (append_assoc closed held queued) ∙ ap (λ (ns : List Numbered). ns ++ queued) (kept f l.channel b.taken)
-      ∙ sym (records_both l.channel b.taken b.queue) ∙ lane.settled)
+      ∙ sym (records_both l.channel b.taken b.queue) ∙ channel.settled)
 
-  lanes_read : (b : Bench) (lanes : List LaneState) (ps : List Found) → ((channel : ℕ) → reading ps channel ≡ heard (closed_records f channel b.taken))
-      → AllByRecursion (IsLane (b.taken ++ b.queue)) lanes
-      → AllByRecursion (λ l. reading ps l.channel ++ heard ((held_in f l.channel b.taken).records ++ records_in l.channel b.queue) ≡ heard (kept_of l)) lanes
-  lanes_read b [] ps is all = tt
-  lanes_read b (l ∷ lanes) ps is all = (lane_read b l ps (is l.channel) all.0, lanes_read b lanes ps is all.1)
+  channels_read : (b : Bench) (channels : List ChannelState) (ps : List Found) → ((channel : ℕ) → reading ps channel ≡ heard (closed_records f channel b.taken))
+      → AllByRecursion (IsChannel (b.taken ++ b.queue)) channels
+      → AllByRecursion (λ l. reading ps l.channel ++ heard ((held_in f l.channel b.taken).records ++ records_in l.channel b.queue) ≡ heard (kept_of l)) channels
+  channels_read b [] ps is all = tt
+  channels_read b (l ∷ channels) ps is all = (channel_read b l ps (is l.channel) all.0, channels_read b channels ps is all.1)
 
-  pub reads_back : (prologue : List ℕ) (b : Bench) → IsFormat f → IsPrologue prologue → IsBench b → AllByRecursion HasRecorded b.lanes → ReadsBack f prologue b
+  pub reads_back : (prologue : List ℕ) (b : Bench) → IsFormat f → IsPrologue prologue → IsBench b → AllByRecursion HasRecorded b.channels → ReadsBack f prologue b
   reads_back prologue b good first is recorded =
       let r = read f prologue b.taken good first (front_of b.taken b.queue (is.items recorded)) in
-      (r.0, r.1, lanes_read b b.lanes r.0 r.2 is.lanes)
+      (r.0, r.1, channels_read b b.channels r.0 r.2 is.channels)

@@ -3,24 +3,24 @@ use Rattle.std.proofs.Common.{◌≡◌, ℕ, zero, suc, ◌+◌, List, [], ◌�
 use Rattle.std.specs.List.{AllByRecursion}
 use Rattle.ch11_builder.specs.Held.{Held}
 use Rattle.bench_core.specs.declared.step.Step.{Step}
-use Rattle.bench_core.specs.Bench.{LaneState, Bench, begun, stepped, after_steps}
+use Rattle.bench_core.specs.Bench.{ChannelState, Bench, begun, stepped, after_steps}
 use Rattle.bench_core.specs.Settled.{IsSettled, HasRecorded, ReadsBack, SettledAfterEachStep, ReadsBackAfterEachStep}
 use Rattle.bench_core.specs.Channels.{IsMade}
 use Rattle.bench_core.specs.World.{WorldState, with_bench, IsReached, IsKeptWorld, IsWhole}
 use Rattle.bench_core.proofs.Steps.{IsBench, at_first, after_all}
 use Rattle.bench_core.proofs.Tidy.{IsTidy, tidy_first, tidy_all}
 
-pub all_recorded : (lanes : List LaneState) → AllByRecursion IsMade lanes → AllByRecursion HasRecorded lanes
+pub all_recorded : (channels : List ChannelState) → AllByRecursion IsMade channels → AllByRecursion HasRecorded channels
 all_recorded [] all = tt
-all_recorded (l ∷ lanes) all = (all.0.recorded, all_recorded lanes all.1)
+all_recorded (l ∷ channels) all = (all.0.recorded, all_recorded channels all.1)
 
 -- ---- a bench that was reached
 
 pub reached_bench : (b : Bench) → IsReached b → IsBench b
-reached_bench b r = subst IsBench (sym r.is) (after_all (begun r.capacity r.lanes) r.steps (at_first r.capacity r.lanes r.fresh r.distinct))
+reached_bench b r = subst IsBench (sym r.is) (after_all (begun r.capacity r.channels) r.steps (at_first r.capacity r.channels r.fresh r.distinct))
 
 pub reached_tidy : (b : Bench) → IsReached b → IsTidy b
-reached_tidy b r = subst IsTidy (sym r.is) (tidy_all (begun r.capacity r.lanes) r.steps (tidy_first r.capacity r.lanes))
+reached_tidy b r = subst IsTidy (sym r.is) (tidy_all (begun r.capacity r.channels) r.steps (tidy_first r.capacity r.channels))
 
 pub steps_more : (b : Bench) (steps : List Step) (s : Step) → after_steps (steps ++ s ∷ []) b ≡ stepped s (after_steps steps b)
 steps_more b [] s = refl
@@ -28,22 +28,22 @@ steps_more b (x ∷ steps) s = steps_more (stepped x b) steps s
 
 pub reached_more : (b : Bench) (s : Step) → IsReached b → IsReached (stepped s b)
 reached_more b s r = record {
-  lanes = r.lanes;
+  channels = r.channels;
   capacity = r.capacity;
   steps = r.steps ++ s ∷ [];
   fresh = r.fresh;
   distinct = r.distinct;
-  is = ap (stepped s) r.is ∙ sym (steps_more (begun r.capacity r.lanes) r.steps s);
+  is = ap (stepped s) r.is ∙ sym (steps_more (begun r.capacity r.channels) r.steps s);
 }
 
 pub is_whole : SettledAfterEachStep → ReadsBackAfterEachStep → (slots : ℕ) (builders : List Held) (bytes : List ℕ) (count : ℕ) (w : WorldState) → IsKeptWorld slots builders bytes count w → IsWhole w
 is_whole settled read slots builders bytes count w is =
     let r = is.reached in
     record {
-      settled = subst (λ (b : Bench). AllByRecursion (IsSettled b) b.lanes) (sym r.is) (settled r.lanes r.capacity r.steps r.fresh r.distinct);
+      settled = subst (λ (b : Bench). AllByRecursion (IsSettled b) b.channels) (sym r.is) (settled r.channels r.capacity r.steps r.fresh r.distinct);
       read = subst (ReadsBack w.format w.prologue) (sym r.is)
-          (read r.lanes r.capacity r.steps w.format w.prologue r.fresh r.distinct is.format is.prologue
-          (subst (λ (b : Bench). AllByRecursion HasRecorded b.lanes) r.is (all_recorded w.bench.lanes is.made)));
+          (read r.channels r.capacity r.steps w.format w.prologue r.fresh r.distinct is.format is.prologue
+          (subst (λ (b : Bench). AllByRecursion HasRecorded b.channels) r.is (all_recorded w.bench.channels is.made)));
     }
 
 -- ---- lists from a place on

@@ -16,7 +16,7 @@ use Rattle.bench_core.specs.declared.step.Step.TheVariants.{Offer, Take, Post}
 
 -- a channel: its number, its job, the placed actions, which at first are the job's, how many messages it has made, the
 -- numbers of those that were refused, and whether its end mark was taken into the queue
-pub record LaneState : Type 0 where
+pub record ChannelState : Type 0 where
   pub channel : ℕ
   pub job : JobState
   pub placed : List Placed
@@ -27,14 +27,14 @@ pub record LaneState : Type 0 where
 -- the channels, the queue with how many items it holds at most, its front first, and what the writer has taken, in that
 -- order
 pub record Bench : Type 0 where
-  pub lanes : List LaneState
+  pub channels : List ChannelState
   pub capacity : ℕ
   pub queue : List Item
   pub taken : List Item
 
 -- nothing was made yet
-abbrev pub begun_lane : JobState → LaneState
-begun_lane job = record {
+abbrev pub begun_channel : JobState → ChannelState
+begun_channel job = record {
   channel = job.channel;
   job = job;
   placed = job.actions;
@@ -44,17 +44,17 @@ begun_lane job = record {
 }
 
 -- the records of all messages that its job means under the placed actions
-abbrev pub all_records : LaneState → List Record
+abbrev pub all_records : ChannelState → List Record
 all_records l = records (job_in l.job) l.placed
 
-abbrev pub begun : ℕ → List LaneState → Bench
-begun capacity lanes = record { lanes = lanes; capacity = capacity; queue = []; taken = [] }
+abbrev pub begun : ℕ → List ChannelState → Bench
+begun capacity channels = record { channels = channels; capacity = capacity; queue = []; taken = [] }
 
 abbrev pub has_room : Bench → Bool
 has_room b = nat_lt (length b.queue) b.capacity
 
 -- one more message of a channel was made; where the queue did not take it, its number is refused
-abbrev pub with_message : LaneState → Bool → LaneState
+abbrev pub with_message : ChannelState → Bool → ChannelState
 with_message l kept = record {
   channel = l.channel;
   job = l.job;
@@ -64,7 +64,7 @@ with_message l kept = record {
   ended = l.ended;
 }
 
-abbrev pub with_end : LaneState → LaneState
+abbrev pub with_end : ChannelState → ChannelState
 with_end l = record {
   channel = l.channel;
   job = l.job;
@@ -74,52 +74,53 @@ with_end l = record {
   ended = true;
 }
 
-abbrev pub message_of : LaneState → Record → Item
+abbrev pub message_of : ChannelState → Record → Item
 message_of l r = item.Message l.channel (l.made + 1) r
 
 -- a channel offers its next message
-abbrev pub message_offered : ℕ → LaneState → Record → Bench → Bench
+abbrev pub message_offered : ℕ → ChannelState → Record → Bench → Bench
 message_offered index l r b = record {
-  lanes = slice_set b.lanes index (with_message l (has_room b));
+  channels = slice_set b.channels index (with_message l (has_room b));
   capacity = b.capacity;
   queue = if has_room b then (b.queue ++ message_of l r ∷ []) else b.queue;
   taken = b.taken;
 }
 
 -- a channel offers its end mark, once and where there is room
-abbrev pub end_offered : ℕ → LaneState → Bench → Bench
+abbrev pub end_offered : ℕ → ChannelState → Bench → Bench
 end_offered index l b =
     if l.ended || not (has_room b) then b
     else record {
-      lanes = slice_set b.lanes index (with_end l);
+      channels = slice_set b.channels index (with_end l);
       capacity = b.capacity;
       queue = b.queue ++ item.End l.channel ∷ [];
       taken = b.taken;
     }
 
-abbrev pub next_offered : ℕ → LaneState → Option Record → Bench → Bench
+abbrev pub next_offered : ℕ → ChannelState → Option Record → Bench → Bench
 next_offered index l (Some r) b = message_offered index l r b
 next_offered index l None b = end_offered index l b
 
 -- the record of its next message; a channel makes none behind its end mark
-abbrev pub next_in : LaneState → Option Record
+abbrev pub next_in : ChannelState → Option Record
 next_in l = if l.ended then None else slice_get (all_records l) l.made
 
-abbrev pub lane_offers : ℕ → Option LaneState → Bench → Bench
-lane_offers index None b = b
-lane_offers index (Some l) b = next_offered index l (next_in l) b
+abbrev pub channel_offers : ℕ → Option ChannelState → Bench → Bench
+channel_offers index None b = b
+channel_offers index (Some l) b = next_offered index l (next_in l) b
 
 -- the channel at an index offers what comes next
 abbrev pub offered : ℕ → Bench → Bench
-offered index b = lane_offers index (slice_get b.lanes index) b
+offered index b = channel_offers index (slice_get b.channels index) b
 
 -- the writer takes the front of a queue
 abbrev pub taken_from : List Item → Bench → Bench
 taken_from [] b = b
-taken_from (x ∷ behind) b = record { lanes = b.lanes; capacity = b.capacity; queue = behind; taken = b.taken ++ x ∷ [] }
+taken_from (x ∷ behind) b =
+    record { channels = b.channels; capacity = b.capacity; queue = behind; taken = b.taken ++ x ∷ [] }
 
 -- an action was posted to a channel, for a terminal or for the controller
-abbrev pub with_post : LaneState → HostAction → LaneState
+abbrev pub with_post : ChannelState → HostAction → ChannelState
 with_post l action = record {
   channel = l.channel;
   job = l.job;
@@ -129,11 +130,11 @@ with_post l action = record {
   ended = l.ended;
 }
 
-abbrev pub lane_posts : ℕ → Option LaneState → HostAction → Bench → Bench
-lane_posts index None action b = b
-lane_posts index (Some l) action b =
+abbrev pub channel_posts : ℕ → Option ChannelState → HostAction → Bench → Bench
+channel_posts index None action b = b
+channel_posts index (Some l) action b =
     record {
-      lanes = slice_set b.lanes index (with_post l action);
+      channels = slice_set b.channels index (with_post l action);
       capacity = b.capacity;
       queue = b.queue;
       taken = b.taken;
@@ -141,7 +142,7 @@ lane_posts index (Some l) action b =
 
 -- a host posts an action to the channel at an index
 abbrev pub posted : ℕ → HostAction → Bench → Bench
-posted index action b = lane_posts index (slice_get b.lanes index) action b
+posted index action b = channel_posts index (slice_get b.channels index) action b
 
 -- one step
 unfoldable pub stepped : Step → Bench → Bench

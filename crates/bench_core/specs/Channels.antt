@@ -9,44 +9,44 @@ use Rattle.job_file.specs.Jobs.{tree_in, job_in}
 use Rattle.job_file.specs.Machines.{IsOf}
 use Rattle.ch11_recording.specs.declared.item.Item.{Item}
 use Rattle.ch11_recording.specs.declared.item.Item.TheVariants as item
-use Rattle.bench_core.specs.Bench.{LaneState, with_message, with_end, message_of}
+use Rattle.bench_core.specs.Bench.{ChannelState, with_message, with_end, message_of}
 pub use Rattle.bench_core.specs.Bench.{next_in}
 use Rattle.bc_machine.specs.declared.placed.HostAction.{HostAction}
 use Rattle.bc_machine.specs.declared.placed.HostAction.TheVariants.{Terminal, Controller}
 use Rattle.bench_core.specs.Settled.{HasRecorded}
 use Rattle.bench_settings.specs.Placing.{placed_up_to, IsOrdered}
-use Rattle.bench_core.specs.declared.lane.Lane.TheInside.{Inside}
+use Rattle.bench_core.specs.declared.stepped_channel.SteppedChannel.TheInside.{Inside}
 
 -- a channel after what comes next of it, where the queue has room or not
-abbrev pub after_next : LaneState → Option Record → Bool → LaneState
+abbrev pub after_next : ChannelState → Option Record → Bool → ChannelState
 after_next l (Some r) room = with_message l room
 after_next l None room = if l.ended || not room then l else with_end l
 
 -- what it puts into the queue
-abbrev pub queued_next : LaneState → Option Record → Bool → Option Item
+abbrev pub queued_next : ChannelState → Option Record → Bool → Option Item
 queued_next l (Some r) room = if room then Some (message_of l r) else None
 queued_next l None room = if l.ended || not room then None else Some (item.End l.channel)
 
 -- its messages so far are those of a bus monitor, and at most 1,000,000
-pub record IsMade (l : LaneState) : Type 0 where
+pub record IsMade (l : ChannelState) : Type 0 where
   pub recorded : HasRecorded l
   pub few : l.made ≤ 1000000
 
 -- how many actions were posted for it
-abbrev pub posts_of : LaneState → ℕ
+abbrev pub posts_of : ChannelState → ℕ
 posts_of l = length l.placed - length l.job.actions
 
 -- whether there is a terminal at an address of its bus
-abbrev pub has_terminal : LaneState → ℕ → Bool
+abbrev pub has_terminal : ChannelState → ℕ → Bool
 has_terminal l address = list_any (λ a. a == address) l.job.addresses
 
 -- whether an action may be posted: one for a terminal where its bus has it, one for the controller always
-abbrev pub may_post : LaneState → HostAction → Bool
+abbrev pub may_post : ChannelState → HostAction → Bool
 may_post l (Terminal address action) = has_terminal l address
 may_post l (Controller asked) = true
 
 -- what a report says of it
-abbrev pub report_part : LaneState → ChannelPart
+abbrev pub report_part : ChannelState → ChannelPart
 report_part l = record {
   channel = l.channel;
   made = l.made;
@@ -56,8 +56,8 @@ report_part l = record {
 
 -- ---- what its fields keep
 
-abbrev pub lane_in : Inside → LaneState
-lane_in l = record {
+abbrev pub channel_state_in : Inside → ChannelState
+channel_state_in l = record {
   channel = l.channel;
   job = l.job.value;
   placed = l.machine.placed;
@@ -66,7 +66,7 @@ lane_in l = record {
   ended = l.ended;
 }
 
-pub record IsKeptLane (l : Inside) : Type 0 where
+pub record IsKeptChannel (l : Inside) : Type 0 where
   pub controller : IsOf (job_in l.job.value) l.machine.placed l.machine
   pub sound : IsSound (tree_in l.job.value)
   pub channel : 1 ≤ l.channel
@@ -75,4 +75,4 @@ pub record IsKeptLane (l : Inside) : Type 0 where
   pub placed : l.placed.actions ≡ placed_up_to 1000000 l.machine.placed
   pub ordered : IsOrdered l.placed.actions
   pub posts : length l.machine.placed ≡ length l.job.value.actions + l.posts
-  pub recorded : HasRecorded (lane_in l)
+  pub recorded : HasRecorded (channel_state_in l)

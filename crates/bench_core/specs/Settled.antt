@@ -13,14 +13,14 @@ use Rattle.ch11_recording.specs.Recording.{AreDistinct}
 use Rattle.ch11_recording.specs.Laws.{IsFormat, IsPrologue}
 use Rattle.bench_core.specs.declared.step.Step.{Step}
 use Rattle.bench_settings.specs.Kept.{kept_records}
-use Rattle.bench_core.specs.Bench.{LaneState, Bench, all_records, begun, after_steps}
+use Rattle.bench_core.specs.Bench.{ChannelState, Bench, all_records, begun, after_steps}
 
 -- the messages that a channel has made, but for the refused
-abbrev pub kept_of : LaneState → List Numbered
+abbrev pub kept_of : ChannelState → List Numbered
 kept_of l = kept_records l.refused (take l.made (all_records l))
 
 -- nothing is lost that is not listed, and nothing is doubled or out of order
-abbrev pub IsSettled : Bench → LaneState → Type 0
+abbrev pub IsSettled : Bench → ChannelState → Type 0
 IsSettled b l = records_in l.channel (b.taken ++ b.queue) ≡ kept_of l
 
 -- the recording of the taken items, read back, has the records of the closed packets; with those of the open packet and
@@ -30,29 +30,29 @@ ReadsBack f prologue b =
     (ps : List Found) × (packets_in (written_file f prologue b.taken) ≡ Ok ps)
     × AllByRecursion (λ l. reading ps l.channel
     ++ map as_message (messages_of ((held_in f l.channel b.taken).records ++ records_in l.channel b.queue))
-    ≡ map as_message (messages_of (kept_of l))) b.lanes
+    ≡ map as_message (messages_of (kept_of l))) b.channels
 
 -- a channel at the beginning: nothing was made
-pub record IsFresh (l : LaneState) : Type 0 where
+pub record IsFresh (l : ChannelState) : Type 0 where
   pub channel : l.channel < 2 ^ 16
   pub made : l.made ≡ 0
   pub refused : l.refused ≡ []
 
 -- the messages that a channel has made are those of a bus monitor
-abbrev pub HasRecorded : LaneState → Type 0
+abbrev pub HasRecorded : ChannelState → Type 0
 HasRecorded l = AllByRecursion (λ r. IsRecorded (numbered 0 r)) (take l.made (all_records l))
 
 -- After each list of steps, of a bench with any capacity.
 abbrev pub SettledAfterEachStep : Type 0
 SettledAfterEachStep =
-    (lanes : List LaneState) (capacity : ℕ) (steps : List Step) → AllByRecursion IsFresh lanes
-    → AreDistinct (map (λ l. l.channel) lanes)
-    → AllByRecursion (IsSettled (after_steps steps (begun capacity lanes)))
-    (after_steps steps (begun capacity lanes)).lanes
+    (channels : List ChannelState) (capacity : ℕ) (steps : List Step) → AllByRecursion IsFresh channels
+    → AreDistinct (map (λ l. l.channel) channels)
+    → AllByRecursion (IsSettled (after_steps steps (begun capacity channels)))
+    (after_steps steps (begun capacity channels)).channels
 
 abbrev pub ReadsBackAfterEachStep : Type 0
 ReadsBackAfterEachStep =
-    (lanes : List LaneState) (capacity : ℕ) (steps : List Step) (f : Format) (prologue : List ℕ)
-    → AllByRecursion IsFresh lanes → AreDistinct (map (λ l. l.channel) lanes) → IsFormat f → IsPrologue prologue
-    → AllByRecursion HasRecorded (after_steps steps (begun capacity lanes)).lanes
-    → ReadsBack f prologue (after_steps steps (begun capacity lanes))
+    (channels : List ChannelState) (capacity : ℕ) (steps : List Step) (f : Format) (prologue : List ℕ)
+    → AllByRecursion IsFresh channels → AreDistinct (map (λ l. l.channel) channels) → IsFormat f → IsPrologue prologue
+    → AllByRecursion HasRecorded (after_steps steps (begun capacity channels)).channels
+    → ReadsBack f prologue (after_steps steps (begun capacity channels))

@@ -16,7 +16,7 @@ use Rattle.bench_core.specs.declared.step.Step.TheVariants.{Offer, Take, Post}
 use Rattle.bench_core.specs.declared.error.PlayError.{PlayError}
 use Rattle.bench_core.specs.declared.error.PlayError.TheVariants as fault
 use Rattle.bench_settings.specs.Lawful.{format_of}
-use Rattle.bench_core.specs.Bench.{LaneState, Bench, begun_lane, begun, after_steps}
+use Rattle.bench_core.specs.Bench.{ChannelState, Bench, begun_channel, begun, after_steps}
 use Rattle.bench_core.specs.Settled.{IsSettled, IsFresh, ReadsBack}
 use Rattle.bench_core.specs.Channels.{posts_of, may_post, report_part, IsMade}
 use Rattle.bench_core.specs.declared.world.World.TheInside.{Inside}
@@ -34,7 +34,7 @@ world_of jobs s = record {
   format = format_of s;
   prologue = s.prologue.items;
   most = s.posts;
-  bench = begun s.queue (map begun_lane jobs);
+  bench = begun s.queue (map begun_channel jobs);
 }
 
 abbrev pub with_bench : WorldState → Bench → WorldState
@@ -50,20 +50,20 @@ abbrev pub AreSteps : ℕ → List Step → Type 0
 AreSteps channels steps = AllByRecursion (IsBenchStep channels) steps
 
 abbrev pub channel_count : WorldState → ℕ
-channel_count w = length w.bench.lanes
+channel_count w = length w.bench.channels
 
-abbrev pub may_post_to : Option LaneState → HostAction → Bool
+abbrev pub may_post_to : Option ChannelState → HostAction → Bool
 may_post_to None action = false
 may_post_to (Some l) action = may_post l action
 
 -- what is posted for a terminal is for one of its channel
-abbrev pub IsForTerminal : List LaneState → Step → Type 0
-IsForTerminal lanes (Offer index) = Unit {0}
-IsForTerminal lanes Take = Unit {0}
-IsForTerminal lanes (Post index action) = may_post_to (slice_get lanes index) action ≡ true
+abbrev pub IsForTerminal : List ChannelState → Step → Type 0
+IsForTerminal channels (Offer index) = Unit {0}
+IsForTerminal channels Take = Unit {0}
+IsForTerminal channels (Post index action) = may_post_to (slice_get channels index) action ≡ true
 
-abbrev pub AreForTerminals : List LaneState → List Step → Type 0
-AreForTerminals lanes steps = AllByRecursion (IsForTerminal lanes) steps
+abbrev pub AreForTerminals : List ChannelState → List Step → Type 0
+AreForTerminals channels steps = AllByRecursion (IsForTerminal channels) steps
 
 abbrev pub is_post_for : ℕ → Step → Bool
 is_post_for index (Offer i) = false
@@ -76,31 +76,31 @@ posts_for index [] = 0
 posts_for index (s ∷ ss) = (if is_post_for index s then 1 else 0) + posts_for index ss
 
 -- with those of the steps no channel has more posts than may be placed
-abbrev pub AreFewPosts : ℕ → List LaneState → List Step → Type 0
-AreFewPosts most lanes steps = (index : ℕ) (l : LaneState) → slice_get lanes index ≡ Some l
+abbrev pub AreFewPosts : ℕ → List ChannelState → List Step → Type 0
+AreFewPosts most channels steps = (index : ℕ) (l : ChannelState) → slice_get channels index ≡ Some l
     → posts_of l + posts_for index steps ≤ most
 
 -- the steps may be taken
 pub record MayPlay (steps : List Step) (w : WorldState) : Type 0 where
   pub channels : AreSteps (channel_count w) steps
-  pub terminals : AreForTerminals w.bench.lanes steps
-  pub few : AreFewPosts w.most w.bench.lanes steps
+  pub terminals : AreForTerminals w.bench.channels steps
+  pub few : AreFewPosts w.most w.bench.channels steps
 
 -- what steps leave: O1, then O3, then O4 nothing done, O2 the bench after the steps before the refused one
 abbrev pub Plays : List Step → WorldState → {U : Type 0} → Result U PlayError → WorldState → Type 0
 Plays steps old (Ok u) new = MayPlay steps old × (new ≡ with_bench old (after_steps steps old.bench))
 Plays steps old (Err fault.Index) new = ¬ AreSteps (channel_count old) steps × (new ≡ old)
 Plays steps old (Err fault.NoTerminal) new = AreSteps (channel_count old) steps
-    × ¬ AreForTerminals old.bench.lanes steps × (new ≡ old)
+    × ¬ AreForTerminals old.bench.channels steps × (new ≡ old)
 Plays steps old (Err fault.Posts) new =
-    AreSteps (channel_count old) steps × AreForTerminals old.bench.lanes steps
-    × ¬ AreFewPosts old.most old.bench.lanes steps × (new ≡ old)
+    AreSteps (channel_count old) steps × AreForTerminals old.bench.channels steps
+    × ¬ AreFewPosts old.most old.bench.channels steps × (new ≡ old)
 Plays steps old (Err (fault.Memory done)) new =
     MayPlay steps old × (done < length steps) × (new ≡ with_bench old (after_steps (take done steps) old.bench))
 
 -- nothing is lost, doubled or out of order, in what was taken and queued and in the file read back
 pub record IsWhole (w : WorldState) : Type 0 where
-  pub settled : AllByRecursion (IsSettled w.bench) w.bench.lanes
+  pub settled : AllByRecursion (IsSettled w.bench) w.bench.channels
   pub read : ReadsBack w.format w.prologue w.bench
 
 -- the bytes of its file, and the packets in it behind the prologue
@@ -111,7 +111,7 @@ abbrev pub packets_of : WorldState → List (List ℕ)
 packets_of w = closed_packets w.format w.bench.taken
 
 abbrev pub report_of : WorldState → RunReport
-report_of w = record { channels = map report_part w.bench.lanes; packets = length (packets_of w) }
+report_of w = record { channels = map report_part w.bench.channels; packets = length (packets_of w) }
 
 abbrev pub play_code : PlayError → List ℕ
 play_code fault.Index = codes "O1"
@@ -123,30 +123,30 @@ play_code fault.Posts = codes "O4"
 
 -- a bench that steps led to, from channels with different numbers of which no message was made
 pub record IsReached (b : Bench) : Type 0 where
-  pub lanes : List LaneState
+  pub channels : List ChannelState
   pub capacity : ℕ
   pub steps : List Step
-  pub fresh : AllByRecursion IsFresh lanes
-  pub distinct : AreDistinct (map (λ l. l.channel) lanes)
-  pub is : b ≡ after_steps steps (begun capacity lanes)
+  pub fresh : AllByRecursion IsFresh channels
+  pub distinct : AreDistinct (map (λ l. l.channel) channels)
+  pub is : b ≡ after_steps steps (begun capacity channels)
 
 abbrev pub state_in : Inside → WorldState
 state_in w = record {
   format = record { version = w.version; limit = w.limit };
   prologue = w.prologue.value.items;
   most = w.most;
-  bench = record { lanes = w.lanes.items; capacity = w.capacity; queue = w.queue.items; taken = w.taken };
+  bench = record { channels = w.channels.items; capacity = w.capacity; queue = w.queue.items; taken = w.taken };
 }
 
 pub record IsKeptWorld (slots : ℕ) (builders : List Held) (bytes : List ℕ) (count : ℕ) (w : WorldState) : Type 0 where
   pub reached : IsReached w.bench
-  pub made : AllByRecursion IsMade w.bench.lanes
+  pub made : AllByRecursion IsMade w.bench.channels
   pub format : IsFormat w.format
   pub prologue : IsPrologue w.prologue
-  pub held : builders ≡ map (λ (l : LaneState). held_in w.format l.channel w.bench.taken) w.bench.lanes
+  pub held : builders ≡ map (λ (l : ChannelState). held_in w.format l.channel w.bench.taken) w.bench.channels
   pub file : bytes ≡ file_of w
   pub packets : count ≡ length (packets_of w)
-  pub few : length w.bench.lanes ≤ 32
+  pub few : length w.bench.channels ≤ 32
   pub room : w.bench.capacity ≤ slots
 
 abbrev pub IsWorld : Inside → Type 0

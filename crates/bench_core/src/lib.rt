@@ -9,11 +9,11 @@
 mod alone;
 mod channel_fault;
 mod error;
-mod lane;
 mod laws;
 mod play;
 mod posted;
 mod step;
+mod stepped_channel;
 mod stepping;
 mod world;
 mod writing;

@@ -23,13 +23,13 @@ impl World {
     fn play_all(&mut self, steps: &[Step]) -> Result<(), PlayError>
         ensures { Plays steps.now self.old result self.new }
     {
-        if !are_steps(self.lanes().len(), steps) {
+        if !are_steps(self.channels().len(), steps) {
             return Err(PlayError::Index);
         }
-        if !are_for_terminals(self.lanes(), steps) {
+        if !are_for_terminals(self.channels(), steps) {
             return Err(PlayError::NoTerminal);
         }
-        if !are_few_posts(self.most(), self.lanes(), steps) {
+        if !are_few_posts(self.most(), self.channels(), steps) {
             return Err(PlayError::Posts);
         }
         let mut done = 0;

@@ -3,8 +3,8 @@ ghost use Rattle.bench_core.specs.World.{AreFewPosts};
 ghost use Rattle.bench_core.specs.World.{IsBenchStep, AreSteps, IsForTerminal, AreForTerminals, is_post_for, posts_for};
 ghost use Rattle.std.specs.Prelude.{◌≡◌, ◌↔◌, ◌+◌, ◌≤◌, IsTrue};
 
-use crate::lane::Lane;
 use crate::step::Step;
+use crate::stepped_channel::SteppedChannel;
 
 /// Whether a step of a channel is of one of so many.
 fn is_step(channels: usize, step: &Step) -> bool
@@ -29,12 +29,12 @@ pub(crate) fn are_steps(channels: usize, steps: &[Step]) -> bool
 }
 
 /// Whether what a step posts is for a terminal of its channel.
-fn is_for_terminal(lanes: &[Lane], step: &Step) -> bool
-    ensures { IsTrue result ↔ IsForTerminal lanes.now step.now }
+fn is_for_terminal(channels: &[SteppedChannel], step: &Step) -> bool
+    ensures { IsTrue result ↔ IsForTerminal channels.now step.now }
 {
     match step {
-        Step::Post(index, action) => match lanes.get(usize::from(*index)) {
-            Some(lane) => lane.may_post(action),
+        Step::Post(index, action) => match channels.get(usize::from(*index)) {
+            Some(channel) => channel.may_post(action),
             None => false,
         },
         Step::Offer(_) | Step::Take => true,
@@ -42,11 +42,11 @@ fn is_for_terminal(lanes: &[Lane], step: &Step) -> bool
 }
 
 /// Whether all that is posted is for terminals of the channels.
-pub(crate) fn are_for_terminals(lanes: &[Lane], steps: &[Step]) -> bool
-    ensures { IsTrue result ↔ AreForTerminals lanes.now steps.now }
+pub(crate) fn are_for_terminals(channels: &[SteppedChannel], steps: &[Step]) -> bool
+    ensures { IsTrue result ↔ AreForTerminals channels.now steps.now }
 {
     for step in steps {
-        if !is_for_terminal(lanes, step) {
+        if !is_for_terminal(channels, step) {
             return false;
         }
     }
@@ -84,11 +84,11 @@ fn has_few_posts(most: u32, posts: u32, more: usize) -> bool
 }
 
 /// Whether no channel has more than `most` posts with those of the steps.
-pub(crate) fn are_few_posts(most: u32, lanes: &[Lane], steps: &[Step]) -> bool
-    ensures { IsTrue result ↔ AreFewPosts most lanes.now steps.now }
+pub(crate) fn are_few_posts(most: u32, channels: &[SteppedChannel], steps: &[Step]) -> bool
+    ensures { IsTrue result ↔ AreFewPosts most channels.now steps.now }
 {
-    for index in 0..lanes.len() {
-        if !has_few_posts(most, lanes[index].posts(), posts_for(index, steps)) {
+    for index in 0..channels.len() {
+        if !has_few_posts(most, channels[index].posts(), posts_for(index, steps)) {
             return false;
         }
     }

@@ -1,5 +1,5 @@
 //! The bench of jobs, one step at a time.
-ghost use Rattle.bench_core.specs.Bench.{LaneState, begun_lane, offered, posted, taken_from, stepped};
+ghost use Rattle.bench_core.specs.Bench.{ChannelState, begun_channel, offered, posted, taken_from, stepped};
 ghost use Rattle.bench_core.specs.Channels.{after_next, queued_next, next_in, IsMade};
 ghost use Rattle.bench_settings.specs.Lawful.{AreLawful, RefusesJobs};
 ghost use Rattle.bench_core.specs.World.{world_of, with_bench, file_of, report_of, IsWhole};
@@ -10,9 +10,9 @@ ghost use Rattle.std.specs.Prelude.{IfErr, OnOk, OnErr, MatchOption, option_to_l
 ghost use Rattle.std.specs.Prelude.{◌≡◌, ◌≢◌, ◌<◌, ◌≤◌, ◌^◌, ◌++◌, nat_lt, map, length, slice_get, Some, Option, IfOk};
 ghost use Rattle.std.specs.VecDeque.{deque_capacity};
 
-use crate::lane::Lane;
 use crate::laws::bench_is_settled;
 use crate::step::Step;
+use crate::stepped_channel::SteppedChannel;
 use crate::writing::{LONGEST, channel_of, write};
 use bc_machine::HostAction;
 use bench_report::Report;
@@ -30,7 +30,7 @@ use std::snapshot::Snapshot;
 /// too, of which no byte is kept.
 #[derive(Drop)]
 pub struct World {
-    lanes: Vec<Lane>,
+    channels: Vec<SteppedChannel>,
     builders: Vec<Builder>,
     queue: VecDeque<Item>,
     capacity: u32,
@@ -54,14 +54,14 @@ impl Model for World {
 }
 
 /// The channels of jobs.
-fn lanes_of(alloc: Global, jobs: &[Job]) -> Result<Vec<Lane>, AllocError>
-    ensures { IfOk result (λ v. v.items ≡ map begun_lane jobs.now) }
+fn channels_of(alloc: Global, jobs: &[Job]) -> Result<Vec<SteppedChannel>, AllocError>
+    ensures { IfOk result (λ v. v.items ≡ map begun_channel jobs.now) }
 {
-    let mut lanes = Vec::with_capacity(alloc, jobs.len())?;
+    let mut channels = Vec::with_capacity(alloc, jobs.len())?;
     for job in jobs {
-        lanes.push(Lane::make(alloc, job)?)?;
+        channels.push(SteppedChannel::make(alloc, job)?)?;
     }
-    Ok(lanes)
+    Ok(channels)
 }
 
 /// A builder for the packets of each job's channel.
@@ -88,13 +88,13 @@ fn builders_of(
 }
 
 /// The place of a channel.
-fn place_of(lanes: &[Lane], channel: u16) -> Option<usize>
-    ensures { MatchOption result (AllByRecursion (λ (l : LaneState). l.channel ≢ channel) lanes.now)
-        (λ index. slice_get (map (λ l. l.channel) lanes.now) index ≡ Some channel) }
+fn place_of(channels: &[SteppedChannel], channel: u16) -> Option<usize>
+    ensures { MatchOption result (AllByRecursion (λ (l : ChannelState). l.channel ≢ channel) channels.now)
+        (λ index. slice_get (map (λ l. l.channel) channels.now) index ≡ Some channel) }
 {
     let mut place = 0;
-    for lane in lanes {
-        if lane.channel() == channel {
+    for one in channels {
+        if one.channel() == channel {
             return Some(place);
         }
         place += 1;
@@ -104,20 +104,24 @@ fn place_of(lanes: &[Lane], channel: u16) -> Option<usize>
 
 /// What comes next of a channel goes into the queue, where that has room. It fails for want of memory alone, and then
 /// nothing was done.
-fn offer_to(lane: &mut Lane, queue: &mut VecDeque<Item>, capacity: usize) -> Result<(), AllocError>
+fn offer_to(
+    channel: &mut SteppedChannel,
+    queue: &mut VecDeque<Item>,
+    capacity: usize,
+) -> Result<(), AllocError>
     requires room { capacity ≤ deque_capacity queue.old }
-    ensures lane { OnOk result (lane.new
-        ≡ after_next lane.old (next_in lane.old) (nat_lt (length queue.old.items) capacity)) }
+    ensures channel { OnOk result (channel.new
+        ≡ after_next channel.old (next_in channel.old) (nat_lt (length queue.old.items) capacity)) }
     ensures queue { OnOk result (queue.new.items
         ≡ queue.old.items ++ option_to_list
-        (queued_next lane.old (next_in lane.old) (nat_lt (length queue.old.items) capacity))) }
-    ensures made { OnOk result (IsMade lane.new) }
+        (queued_next channel.old (next_in channel.old) (nat_lt (length queue.old.items) capacity))) }
+    ensures made { OnOk result (IsMade channel.new) }
     ensures capacity { deque_capacity queue.new ≡ deque_capacity queue.old }
-    ensures same_lane { OnErr result (lane.new ≡ lane.old) }
+    ensures same_channel { OnErr result (channel.new ≡ channel.old) }
     ensures same_queue { OnErr result (queue.new.items ≡ queue.old.items) }
 {
     let room = queue.len() < capacity;
-    if let Some(item) = lane.advance(room)? {
+    if let Some(item) = channel.advance(room)? {
         queue.push_back_reserved(item);
     }
     Ok(())
@@ -143,12 +147,12 @@ impl World {
         requires { AreLawful jobs.now settings.now }
         ensures { IfOk result (λ w. w ≡ world_of jobs.now settings.now) }
     {
-        let lanes = lanes_of(alloc, jobs)?;
+        let channels = channels_of(alloc, jobs)?;
         let builders = builders_of(alloc, jobs, settings.version, settings.limit)?;
         let queue = VecDeque::with_capacity(alloc, settings.queue as usize)?;
         let file = settings.prologue.to_vec(alloc)?;
         Ok(World {
-            lanes,
+            channels,
             builders,
             queue,
             capacity: settings.queue,
@@ -182,11 +186,11 @@ impl World {
         ensures ok { OnOk result (self.new ≡ with_bench self.old (offered index self.old.bench)) }
         ensures err { OnErr result (self.new ≡ self.old) }
     {
-        if index >= self.lanes.len() {
+        if index >= self.channels.len() {
             return Ok(());
         }
         offer_to(
-            &mut self.lanes[index],
+            &mut self.channels[index],
             &mut self.queue,
             self.capacity as usize,
         )
@@ -206,7 +210,7 @@ impl World {
             return Ok(());
         };
         // What is queued is of one of the channels.
-        let Some(index) = place_of(&self.lanes, channel_of(&item)) else {
+        let Some(index) = place_of(&self.channels, channel_of(&item)) else {
             return Ok(());
         };
         latest_is_last();
@@ -223,10 +227,10 @@ impl World {
         ensures ok { OnOk result (self.new ≡ with_bench self.old (posted index action.now self.old.bench)) }
         ensures err { OnErr result (self.new ≡ self.old) }
     {
-        if index >= self.lanes.len() {
+        if index >= self.channels.len() {
             return Ok(());
         }
-        self.lanes[index].post(action)
+        self.channels[index].post(action)
     }
 
     /// One step, which does nothing where there is no such channel. It fails for want of memory, and for a post that a
@@ -244,10 +248,10 @@ impl World {
     }
 
     /// The channels.
-    pub(crate) fn lanes(&self) -> &[Lane]
-        ensures { result.now ≡ self.now.bench.lanes }
+    pub(crate) fn channels(&self) -> &[SteppedChannel]
+        ensures { result.now ≡ self.now.bench.channels }
     {
-        self.lanes.as_slice()
+        self.channels.as_slice()
     }
 
     /// How many posts of each channel may be placed.
@@ -262,7 +266,7 @@ impl World {
         ensures { IsWhole self.now }
     {
         // Named for the proofs alone.
-        let _ = &self.lanes;
+        let _ = &self.channels;
         bench_is_settled();
     }
 
@@ -271,9 +275,9 @@ impl World {
     pub fn report(&self, alloc: Global) -> Result<Report, AllocError>
         ensures { IfOk result (λ r. r ≡ report_of self.now) }
     {
-        let mut channels = Vec::with_capacity(alloc, self.lanes.len())?;
-        for lane in &self.lanes {
-            channels.push(lane.report()?)?;
+        let mut channels = Vec::with_capacity(alloc, self.channels.len())?;
+        for channel in &self.channels {
+            channels.push(channel.report()?)?;
         }
         Ok(Report::make(channels, self.packets))
     }

@@ -5,7 +5,7 @@ use Rattle.std.specs.List.{AllByRecursion}
 use Rattle.bench_cut.specs.Laws.{IsNumbered, jump, jumps_up_to, last_number}
 use Rattle.bench_cut.specs.Numbers.{is_of, left_out, number_behind, went_over}
 use Rattle.bench_cut.specs.Parts.{Part, goes_over}
-use Rattle.bench_cut.proofs.Laned.{none_left}
+use Rattle.bench_cut.proofs.ChannelLosses.{none_left}
 
 -- a number less how many were left out
 abbrev less : ℕ → ℕ → ℕ

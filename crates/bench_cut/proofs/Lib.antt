@@ -6,7 +6,7 @@ pub mod Going
 pub mod Headers
 pub mod Jumps
 pub mod Known
-pub mod Laned
+pub mod ChannelLosses
 pub mod Pieces
 pub mod Read
 pub mod Streamed

@@ -13,9 +13,9 @@ use Rattle.ch11_stream.proofs.Readings.{IsAmid, amid_on, amid_start}
 use Rattle.bench_complete.specs.Pieces.{Piece, bytes_of}
 use Rattle.bench_complete.proofs.Running.{appends_both, appends_nothing}
 use Rattle.bench_select.specs.declared.selection.Selection.{Selection}
-use Rattle.bench_cut.specs.declared.lanes.Lane.{Lane}
+use Rattle.bench_cut.specs.declared.losses.ChannelLoss.{ChannelLoss}
 use Rattle.bench_cut.specs.Cut.{cut_bytes, cut_pieces, piece_behind, pieces_behind}
-use Rattle.bench_cut.specs.Lanes.{AreLanes, new_lane}
+use Rattle.bench_cut.specs.Losses.{AreLosses, no_loss}
 use Rattle.bench_cut.specs.Packets.{IsRead, part_read, written_behind}
 use Rattle.bench_cut.specs.Streaming.{Cuts}
 use Rattle.bench_cut.specs.Parts.{Part, chooses, goes_over, part_by, part_of, parts_behind, parts_in}
@@ -95,32 +95,32 @@ read_is before now p step w = record {
   few = omega (arith, ap (λ (x : Packet). x.before) step.listed, step.few, ap total_in step.entered);
 }
 
-pub record IsCutting (s : Selection) (file : List ℕ) (got gets : Option (List ℕ)) (lanes : List Lane) (selected : Bool) (now : WholeReading) : Type 0 where
+pub record IsCutting (s : Selection) (file : List ℕ) (got gets : Option (List ℕ)) (losses : List ChannelLoss) (selected : Bool) (now : WholeReading) : Type 0 where
   pub amid : IsAmid file now.reading
-  pub laned : AreLanes (past s file (reverse now.reading.earlier)) lanes
+  pub kept : AreLosses (past s file (reverse now.reading.earlier)) losses
   pub written : Appends got gets (cut_bytes s file (reverse now.reading.earlier))
   pub any : selected ≡ chooses (parts_in s file (reverse now.reading.earlier))
 
-pub lanes_start : (lanes : List Lane) → lanes ≡ replicate 65536 new_lane → AreLanes [] lanes
-lanes_start lanes is channel small = ap (λ (l : List Lane). get_or l channel new_lane) is ∙ get_or-replicate 65536 channel new_lane new_lane small
+pub losses_start : (losses : List ChannelLoss) → losses ≡ replicate 65536 no_loss → AreLosses [] losses
+losses_start losses is channel small = ap (λ (l : List ChannelLoss). get_or l channel no_loss) is ∙ get_or-replicate 65536 channel no_loss no_loss small
 
-pub cut_start : (s : Selection) (file : List ℕ) (got : Option (List ℕ)) (lanes : List Lane) (now : WholeReading) → lanes ≡ replicate 65536 new_lane → now ≡ record { reading = at_start (Some file); whole = [] }
-    → IsCutting s file got got lanes false now
-cut_start s file got lanes now are is = subst (IsCutting s file got got lanes false) (sym is) (record { amid = amid_start file; laned = lanes_start lanes are; written = appends_nothing got; any = refl })
+pub cut_start : (s : Selection) (file : List ℕ) (got : Option (List ℕ)) (losses : List ChannelLoss) (now : WholeReading) → losses ≡ replicate 65536 no_loss → now ≡ record { reading = at_start (Some file); whole = [] }
+    → IsCutting s file got got losses false now
+cut_start s file got losses now are is = subst (IsCutting s file got got losses false) (sym is) (record { amid = amid_start file; kept = losses_start losses are; written = appends_nothing got; any = refl })
 
-pub cut_all : (s : Selection) (file : List ℕ) (got gets : Option (List ℕ)) (lanes : List Lane) (selected : Bool) (now last : WholeReading) → IsEnd now.reading last.reading → IsCutting s file got gets lanes selected now
+pub cut_all : (s : Selection) (file : List ℕ) (got gets : Option (List ℕ)) (losses : List ChannelLoss) (selected : Bool) (now last : WholeReading) → IsEnd now.reading last.reading → IsCutting s file got gets losses selected now
     → Cuts s (Ok selected) file got gets
-cut_all s file got gets lanes selected now last e c =
+cut_all s file got gets losses selected now last e c =
     let all = all_found file now.reading last.reading e c.amid in
     (all.0, subst (λ (ps : List Found). Appends got gets (cut_bytes s file ps)) all.1 c.written, subst (λ (ps : List Found). selected ≡ chooses (parts_in s file ps)) all.1 c.any)
 
-pub cuts_on : (s : Selection) (file : List ℕ) (got mid gets : Option (List ℕ)) (lanes after : List Lane) (selected any now_selected : Bool) (before now : WholeReading) (p : Packet)
-    → IsStep before.reading now.reading p → IsWhole before now p → IsCutting s file got mid lanes selected before
-    → ((earlier : List Part) → AreLanes earlier lanes → AreLanes (part_read s now p ∷ earlier) after)
-    → ((earlier : List Part) → AreLanes earlier lanes → Appends mid gets (written_behind earlier (part_read s now p)))
+pub cuts_on : (s : Selection) (file : List ℕ) (got mid gets : Option (List ℕ)) (losses after : List ChannelLoss) (selected any now_selected : Bool) (before now : WholeReading) (p : Packet)
+    → IsStep before.reading now.reading p → IsWhole before now p → IsCutting s file got mid losses selected before
+    → ((earlier : List Part) → AreLosses earlier losses → AreLosses (part_read s now p ∷ earlier) after)
+    → ((earlier : List Part) → AreLosses earlier losses → Appends mid gets (written_behind earlier (part_read s now p)))
     → any ≡ ltb 0 (length (part_read s now p).chosen) → now_selected ≡ (selected || any)
     → IsCutting s file got gets after now_selected now
-cuts_on s file got mid gets lanes after selected any now_selected before now p step w c laned wrote some chosen =
+cuts_on s file got mid gets losses after selected any now_selected before now p step w c kept wrote some chosen =
     let ps : List Found = reverse before.reading.earlier in
     let q : Found = last_found now.reading p in
     let part : Part = part_of s file (0 + total_in ps) q in
@@ -128,11 +128,11 @@ cuts_on s file got mid gets lanes after selected any now_selected before now p s
     let all : reverse now.reading.earlier ≡ ps ++ q ∷ [] = ap reverse step.entered ∙ one_behind q before.reading.earlier in
     record {
       amid = amid_on file before.reading now.reading p step c.amid;
-      laned = subst (λ (l : List Part). AreLanes l after) (sym (ap (past s file) all ∙ past_more s file ps q))
-          (subst (λ (x : Part). AreLanes (x ∷ past s file ps) after) is (laned (past s file ps) c.laned));
+      kept = subst (λ (l : List Part). AreLosses l after) (sym (ap (past s file) all ∙ past_more s file ps q))
+          (subst (λ (x : Part). AreLosses (x ∷ past s file ps) after) is (kept (past s file ps) c.kept));
       written = subst (Appends got gets) (sym (ap (cut_bytes s file) all ∙ cut_more s file ps q))
           (appends_both got mid gets (cut_bytes s file ps) (written_behind (past s file ps) part) c.written
-          (subst (λ (x : Part). Appends mid gets (written_behind (past s file ps) x)) is (wrote (past s file ps) c.laned)));
+          (subst (λ (x : Part). Appends mid gets (written_behind (past s file ps) x)) is (wrote (past s file ps) c.kept)));
       any = chosen ∙ ap (λ (b : Bool). b || any) c.any
           ∙ ap (λ (b : Bool). chooses (parts_in s file ps) || b) (some ∙ ap (λ (x : Part). ltb 0 (length x.chosen)) is)
           ∙ sym (ap (λ (l : List Found). chooses (parts_in s file l)) all ∙ ap chooses (parts_more s file 0 ps q) ∙ chooses_more (parts_in s file ps) part);

@@ -8,7 +8,7 @@ use Rattle.ch11_layout.specs.declared.stamps.StampKind.{StampKind}
 use Rattle.bench_complete.proofs.Running.{appends_both, appends_nothing}
 use Rattle.bench_select.specs.declared.selection.Selection.{Selection}
 use Rattle.bench_select.specs.Selecting.{selects}
-use Rattle.bench_cut.specs.declared.lanes.Lane.{Lane}
+use Rattle.bench_cut.specs.declared.losses.ChannelLoss.{ChannelLoss}
 use Rattle.bench_cut.specs.Cut.{body_with, bytes_if, bytes_of_messages, header_with}
 use Rattle.bench_cut.specs.Heads.{header_for}
 use Rattle.bench_cut.specs.Packets.{bytes_for}
@@ -62,13 +62,13 @@ is_short m rest others all is = (subst AreShort is all).0
 -- ---- packets
 
 -- a header, and all that stood behind it
-pub kept_written : (lane : Lane) (p : Part) (old mid new : Option (List ℕ)) → loses p ≡ false → Appends old mid (header_bytes (header_for lane p.header)) → Appends mid new (drop 24 p.bytes) → Appends old new (bytes_for lane p)
-kept_written lane p old mid new all head rest = rw all (appends_both old mid new (header_bytes (header_for lane p.header)) (drop 24 p.bytes) head rest)
+pub kept_written : (loss : ChannelLoss) (p : Part) (old mid new : Option (List ℕ)) → loses p ≡ false → Appends old mid (header_bytes (header_for loss p.header)) → Appends mid new (drop 24 p.bytes) → Appends old new (bytes_for loss p)
+kept_written loss p old mid new all head rest = rw all (appends_both old mid new (header_bytes (header_for loss p.header)) (drop 24 p.bytes) head rest)
 
 -- a header, and a body with the messages that are left
-pub lost_written : (lane : Lane) (p : Part) (old mid new : Option (List ℕ)) → loses p ≡ true → Appends old mid (header_bytes (header_for lane (header_with p.header p.chosen)))
-    → Appends mid new (body_with p.header p.bytes p.chosen) → Appends old new (bytes_for lane p)
-lost_written lane p old mid new some head rest = rw some (appends_both old mid new (header_bytes (header_for lane (header_with p.header p.chosen))) (body_with p.header p.bytes p.chosen) head rest)
+pub lost_written : (loss : ChannelLoss) (p : Part) (old mid new : Option (List ℕ)) → loses p ≡ true → Appends old mid (header_bytes (header_for loss (header_with p.header p.chosen)))
+    → Appends mid new (body_with p.header p.bytes p.chosen) → Appends old new (bytes_for loss p)
+lost_written loss p old mid new some head rest = rw some (appends_both old mid new (header_bytes (header_for loss (header_with p.header p.chosen))) (body_with p.header p.bytes p.chosen) head rest)
 
 -- three parts, one behind the other
 pub three_parts : (old one two new : Option (List ℕ)) (a b c : List ℕ) → Appends old one a → Appends one two b → Appends two new c → Appends old new (a ++ (b ++ c))

@@ -1,8 +1,8 @@
 pub mod Chosen
 pub mod Cut
 pub mod Heads
-pub mod Lanes
 pub mod Laws
+pub mod Losses
 pub mod Numbers
 pub mod Packets
 pub mod Parts

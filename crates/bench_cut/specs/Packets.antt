@@ -5,7 +5,7 @@ use Rattle.ch11_reader.specs.declared.packet.Packet.{Packet}
 use Rattle.ch11_reader.specs.Recording.{packet_messages, packet_at}
 use Rattle.ch11_stream.specs.WholePackets.{WholeReading}
 use Rattle.bench_select.specs.declared.selection.Selection.{Selection}
-use Rattle.bench_cut.specs.declared.lanes.Lane.{Lane}
+use Rattle.bench_cut.specs.declared.losses.ChannelLoss.{ChannelLoss}
 use Rattle.bench_cut.specs.Cut.{kept_header, kept_rest, piece_behind}
 use Rattle.bench_cut.specs.Heads.{header_for}
 use Rattle.bench_cut.specs.Parts.{Part, goes_over, part_by}
@@ -23,8 +23,8 @@ abbrev pub part_read : Selection → WholeReading → Packet → Part
 part_read s now p = part_by s p.before p.header now.whole now.reading.given
 
 -- the bytes with which a packet goes over, by what is kept of its channel
-abbrev pub bytes_for : Lane → Part → List ℕ
-bytes_for lane p = header_bytes (header_for lane (kept_header p)) ++ kept_rest p
+abbrev pub bytes_for : ChannelLoss → Part → List ℕ
+bytes_for loss p = header_bytes (header_for loss (kept_header p)) ++ kept_rest p
 
 -- the bytes that are written of a packet behind earlier ones, which stand newest first
 abbrev pub written_behind : List Part → Part → List ℕ

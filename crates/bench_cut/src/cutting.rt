@@ -1,6 +1,6 @@
 //! A recording that is cut from another.
 ghost use Rattle.bench_cut.specs.Chosen.{what_of};
-ghost use Rattle.bench_cut.specs.Lanes.{AreLanes, new_lane};
+ghost use Rattle.bench_cut.specs.Losses.{AreLosses, no_loss};
 ghost use Rattle.bench_cut.specs.Packets.{IsRead, bytes_for, part_read, written_behind};
 ghost use Rattle.bench_cut.specs.Parts as parts;
 ghost use Rattle.bench_cut.specs.Parts.{Part};
@@ -14,7 +14,7 @@ use crate::bodies::write_body;
 use crate::choosing::{Chosen, choose};
 use crate::fault::CutFault;
 use crate::heads::{header_behind, header_with};
-use crate::lanes::{CHANNELS, Lane};
+use crate::losses::{CHANNELS, ChannelLoss};
 use bench_select::Selection;
 use ch11_header::kinds::RECORDING_INDEX;
 use ch11_header::{HEADER_SIZE, Header, write_header};
@@ -41,66 +41,64 @@ fn write_head<W: Write>(header: &Header, out: &mut W) -> io::Result<()>
     Ok(())
 }
 
-/// Writes a packet that loses no message.
-fn write_kept<R: Read, W: Write>(
-    lane: Lane,
-    selection: &Selection,
-    packets: &WholePackets<R>,
-    packet: &Packet,
-    out: &mut W,
-) -> io::Result<()>
-    requires read { IsRead packets.now packet.now }
-    requires all { parts.loses (part_read selection.now packets.now packet.now) ≡ false }
-    ensures { OnOk result (Appends (W.contents out.old) (W.contents out.new)
-        (bytes_for lane (part_read selection.now packets.now packet.now))) }
-{
-    let bytes = packets.bytes();
-    write_head(&header_behind(&packet.header, lane), out)?;
-    out.write_all(&bytes[HEADER_SIZE..])?;
-    Ok(())
+/// The packet that was read last, on its way over.
+#[derive(Drop)]
+struct Crossing<'p, R: Read> {
+    /// What is lost of its channel in front of it.
+    loss: ChannelLoss,
+    selection: &'p Selection<'p>,
+    packets: &'p WholePackets<R>,
+    packet: &'p Packet,
+    /// What is chosen of it.
+    chosen: Chosen,
 }
 
-/// Writes a packet that loses messages, of which this is chosen.
-fn write_lost<R: Read, W: Write>(
-    lane: Lane,
-    selection: &Selection,
-    packets: &WholePackets<R>,
-    packet: &Packet,
-    chosen: Chosen,
-    out: &mut W,
-) -> io::Result<()>
-    requires read { IsRead packets.now packet.now }
-    requires what { chosen ≡ what_of (part_read selection.now packets.now packet.now).chosen }
-    requires some { parts.loses (part_read selection.now packets.now packet.now) ≡ true }
-    ensures { OnOk result (Appends (W.contents out.old) (W.contents out.new)
-        (bytes_for lane (part_read selection.now packets.now packet.now))) }
-{
-    let bytes = packets.bytes();
-    write_head(
-        &header_behind(&header_with(&packet.header, chosen), lane),
-        out,
-    )?;
-    write_body(selection, packet, bytes, packets.messages(), chosen, out)
-}
+impl<R: Read> Crossing<'_, R> {
+    /// Writes a packet that loses no message.
+    fn write_kept<W: Write>(&self, out: &mut W) -> io::Result<()>
+        requires read { IsRead self.now.packets.now self.now.packet.now }
+        requires all { parts.loses (part_read self.now.selection.now self.now.packets.now self.now.packet.now) ≡ false }
+        ensures { OnOk result (Appends (W.contents out.old) (W.contents out.new) (bytes_for self.now.loss
+            (part_read self.now.selection.now self.now.packets.now self.now.packet.now))) }
+    {
+        let bytes = self.packets.bytes();
+        write_head(&header_behind(&self.packet.header, self.loss), out)?;
+        out.write_all(&bytes[HEADER_SIZE..])?;
+        Ok(())
+    }
 
-/// Writes a packet of which this is chosen.
-fn write_packet<R: Read, W: Write>(
-    lane: Lane,
-    selection: &Selection,
-    packets: &WholePackets<R>,
-    packet: &Packet,
-    chosen: Chosen,
-    out: &mut W,
-) -> io::Result<()>
-    requires read { IsRead packets.now packet.now }
-    requires what { chosen ≡ what_of (part_read selection.now packets.now packet.now).chosen }
-    ensures { OnOk result (Appends (W.contents out.old) (W.contents out.new)
-        (bytes_for lane (part_read selection.now packets.now packet.now))) }
-{
-    if chosen.count < packet.count {
-        write_lost(lane, selection, packets, packet, chosen, out)
-    } else {
-        write_kept(lane, selection, packets, packet, out)
+    /// Writes a packet that loses messages.
+    fn write_lost<W: Write>(&self, out: &mut W) -> io::Result<()>
+        requires read { IsRead self.now.packets.now self.now.packet.now }
+        requires what { self.now.chosen
+            ≡ what_of (part_read self.now.selection.now self.now.packets.now self.now.packet.now).chosen }
+        requires some { parts.loses (part_read self.now.selection.now self.now.packets.now self.now.packet.now) ≡ true }
+        ensures { OnOk result (Appends (W.contents out.old) (W.contents out.new) (bytes_for self.now.loss
+            (part_read self.now.selection.now self.now.packets.now self.now.packet.now))) }
+    {
+        let (packet, chosen) = (self.packet, self.chosen);
+        let bytes = self.packets.bytes();
+        write_head(
+            &header_behind(&header_with(&packet.header, chosen), self.loss),
+            out,
+        )?;
+        let messages = self.packets.messages();
+        write_body(self.selection, packet, bytes, messages, chosen, out)
+    }
+
+    /// Writes the packet.
+    fn write_packet<W: Write>(&self, out: &mut W) -> io::Result<()>
+        requires read { IsRead self.now.packets.now self.now.packet.now }
+        requires what { self.now.chosen
+            ≡ what_of (part_read self.now.selection.now self.now.packets.now self.now.packet.now).chosen }
+        ensures { OnOk result (Appends (W.contents out.old) (W.contents out.new) (bytes_for self.now.loss
+            (part_read self.now.selection.now self.now.packets.now self.now.packet.now))) }
+    {
+        if self.chosen.count < self.packet.count {
+            self.write_lost(out)
+        } else {
+            self.write_kept(out)
+        }
     }
 }
 
@@ -116,43 +114,50 @@ fn choose_of<R: Read>(selection: &Selection, packets: &WholePackets<R>, packet: 
     chosen
 }
 
-/// What is kept of a channel.
-fn lane_at(lanes: &[Lane], channel: u16) -> Lane
-    requires { length lanes.now ≡ CHANNELS }
-    ensures { result ≡ slice_index_or lanes.now channel new_lane }
+/// What is lost of a channel so far.
+fn loss_at(losses: &[ChannelLoss], channel: u16) -> ChannelLoss
+    requires { length losses.now ≡ CHANNELS }
+    ensures { result ≡ slice_index_or losses.now channel no_loss }
 {
     let place = usize::from(channel);
-    lanes[place]
+    losses[place]
 }
 
 /// Writes the packet that was read last, if it goes over; answers whether a message of it is chosen.
 fn cut_packet<R: Read, W: Write>(
-    lanes: &mut [Lane],
+    losses: &mut [ChannelLoss],
     selection: &Selection,
     packets: &WholePackets<R>,
     packet: &Packet,
     out: &mut W,
 ) -> io::Result<bool>
-    requires channels { length lanes.old ≡ CHANNELS }
+    requires channels { length losses.old ≡ CHANNELS }
     requires read { IsRead packets.now packet.now }
-    ensures lanes { (earlier : List Part) → AreLanes earlier lanes.old
-        → OnOk result (AreLanes (part_read selection.now packets.now packet.now ∷ earlier) lanes.new) }
-    ensures written { (earlier : List Part) → AreLanes earlier lanes.old
+    ensures losses { (earlier : List Part) → AreLosses earlier losses.old
+        → OnOk result (AreLosses (part_read selection.now packets.now packet.now ∷ earlier) losses.new) }
+    ensures written { (earlier : List Part) → AreLosses earlier losses.old
         → OnOk result (Appends (W.contents out.old) (W.contents out.new)
         (written_behind earlier (part_read selection.now packets.now packet.now))) }
     ensures any { IfOk result
         (λ any. any ≡ nat_lt 0 (length (part_read selection.now packets.now packet.now).chosen)) }
 {
-    let lane = lane_at(lanes, packet.header.channel);
+    let loss = loss_at(losses, packet.header.channel);
     let place = usize::from(packet.header.channel);
     let chosen = choose_of(selection, packets, packet);
     let any = chosen.count > 0;
     if !goes_over(packet, chosen) {
-        lanes[place] = lane.left_out(packet.header.has_overflow());
+        losses[place] = loss.left_out(packet.header.has_overflow());
         return Ok(any);
     }
-    write_packet(lane, selection, packets, packet, chosen, out)?;
-    lanes[place] = lane.over();
+    let crossing = Crossing {
+        loss,
+        selection,
+        packets,
+        packet,
+        chosen,
+    };
+    crossing.write_packet(out)?;
+    losses[place] = loss.over();
     Ok(any)
 }
 
@@ -180,12 +185,12 @@ pub fn cut<R: Read + Drop, W: Write>(
         → Cuts selection.now result file (W.contents out.old) (W.contents out.new) }
 {
     let mut packets = WholePackets::over(alloc, input)?;
-    let mut lanes = vec![in alloc; Lane::new(); CHANNELS]?;
+    let mut losses = vec![in alloc; ChannelLoss::new(); CHANNELS]?;
     let mut selected = false;
     'packets: for _made in 0..u64::MAX {
         match packets.next() {
             Ok(Some(packet)) => {
-                let any = cut_packet(lanes.as_mut_slice(), selection, &packets, &packet, out)?;
+                let any = cut_packet(losses.as_mut_slice(), selection, &packets, &packet, out)?;
                 selected = either(selected, any);
             }
             Ok(None) => return Ok(selected),

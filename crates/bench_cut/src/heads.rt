@@ -9,7 +9,7 @@ ghost use Rattle.ch11_layout.specs.Stamps.{kind_of};
 ghost use Rattle.std.specs.Prelude.{◌≡◌, ◌+◌, ◌≤◌, List};
 
 use crate::choosing::Chosen;
-use crate::lanes::Lane;
+use crate::losses::ChannelLoss;
 use ch11_header::{Header, OVERFLOW};
 use ch11_layout::StampKind;
 
@@ -64,16 +64,16 @@ fn flags_with(owed: bool, flags: u8) -> u8
 }
 
 /// The header with the sequence number and the overflow flag that its channel's packets in front of it ask for.
-pub(crate) fn header_behind(header: &Header, lane: Lane) -> Header
-    ensures { result ≡ header_for lane header.now }
+pub(crate) fn header_behind(header: &Header, loss: ChannelLoss) -> Header
+    ensures { result ≡ header_for loss header.now }
 {
     Header {
         channel: header.channel,
         packet_length: header.packet_length,
         data_length: header.data_length,
         version: header.version,
-        sequence: lane.number(header.sequence),
-        flags: flags_with(lane.owed, header.flags),
+        sequence: loss.number(header.sequence),
+        flags: flags_with(loss.owed, header.flags),
         kind: header.kind,
         counter: header.counter,
     }

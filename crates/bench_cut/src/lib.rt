@@ -10,8 +10,8 @@ mod choosing;
 mod cutting;
 mod fault;
 mod heads;
-mod lanes;
 mod laws;
+mod losses;
 
 pub use cutting::cut;
 pub use fault::CutFault;

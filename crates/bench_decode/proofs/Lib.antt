@@ -1,4 +1,21 @@
+pub mod AllChosen
+pub mod ChosenLines
 pub mod Counts
+pub mod DigitLemmas
+pub mod Drawing
+pub mod DumpLines
+pub mod Entries
+pub mod Free
+pub mod Hexadecimal
+pub mod Narrow
+pub mod Numbered
 pub mod Passing
+pub mod PrintedLines
+pub mod Putting
+pub mod Recordings
+pub mod Seconds
+pub mod Slices
+pub mod Sorted
 pub mod Unchosen
+pub mod Wording
 mod Answered

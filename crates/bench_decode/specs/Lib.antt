@@ -1,5 +1,17 @@
+pub mod BitText
 pub mod ByTime
+pub mod Columns
+pub mod DetailsText
+pub mod Digits
+pub mod FormText
 pub mod Letters
+pub mod MessageText
+pub mod ModeText
 pub mod Numbering
+pub mod Printed
+pub mod ReadingText
+pub mod RecordingText
+pub mod ReplyText
 pub mod Superseding
 pub mod Times
+pub mod Waiting

@@ -1,7 +1,8 @@
 -- A second command in a recorded message, which supersedes the first (MIL-STD-1553B 4.4.3.2). A record does not say
 -- which sync a word had, so such a command is told by its answer (own choice).
 use Rattle.std.specs.Prelude.{◌≡◌, ℕ, ◌+◌, ◌-◌, ◌<◌, ◌≤◌, ◌==◌, Bool, true, false, not, ◌&&◌, ◌||◌, nat_lt}
-use Rattle.std.specs.Prelude.{if◌then◌else◌}
+use Rattle.std.specs.Prelude.{if◌then◌else◌, find, Option, None}
+use Rattle.std.specs.List.{range_with_len}
 use Rattle.mil_word.specs.Fields.{address_of, count_of, code_of, is_mode, is_transmit, is_broadcast, has_bit}
 use Rattle.mil_word.specs.Fields.{has_message_error, has_instrumentation, has_busy}
 use Rattle.mil_mode.specs.Table.{is_known, data_word_count}
@@ -85,15 +86,14 @@ pub record IsFirstAnswered (from to : ℕ) (m : Recorded) (place : ℕ) : Type 0
 abbrev pub IsAnsweredNowhere : ℕ → ℕ → Recorded → Type 0
 IsAnsweredNowhere from to m = (place : ℕ) → from ≤ place → place ≤ to → is_answered place m ≡ false
 
-abbrev pub last_place : Recorded → ℕ
-last_place m = commands_in m + controller_words m
+-- a message may have a second command
+abbrev pub may_have_second : Recorded → Bool
+may_have_second m = is_suspect m && not (has_own_status m)
 
--- the second command of a message stands where the controller's words do, and no word before it is answered
-pub record IsSecond (m : Recorded) (place : ℕ) : Type 0 where
-  pub suspect : is_suspect m ≡ true
-  pub other : has_own_status m ≡ false
-  pub told : IsFirstAnswered (commands_in m) (last_place m) m place
+-- the first word that is answered where the controller's words stand
+unfoldable pub second_among : Recorded → Option ℕ
+second_among m = find (λ place. is_answered place m) (range_with_len (commands_in m) (controller_words m + 1))
 
--- there is none
-pub record HasNoSecond (m : Recorded) : Type 0 where
-  pub none : is_suspect m ≡ true → has_own_status m ≡ false → IsAnsweredNowhere (commands_in m) (last_place m) m
+-- the place of the second command
+unfoldable pub second_place : Recorded → Option ℕ
+second_place m = if may_have_second m then second_among m else None

@@ -11,6 +11,7 @@ mod chosen;
 mod details;
 mod digits;
 mod fields;
+mod front;
 mod line;
 mod messages;
 mod modes;
@@ -21,6 +22,7 @@ mod replies;
 mod streaming;
 mod superseding;
 mod times;
+mod words;
 
 pub use by_time::decode_by_time;
 pub use chosen::{Chosen, messages_by_time};

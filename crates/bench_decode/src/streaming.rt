@@ -1,4 +1,11 @@
 //! The messages of a recording whose packets come from a reader.
+ghost use Rattle.bench_decode.specs.Printed.{AreDecoded, AreDecodedSound, HasPrinted, IsBehind};
+ghost use Rattle.bench_dump.specs.StretchText.{IsFew};
+ghost use Rattle.bench_select.specs.Viewed.{Viewed};
+ghost use Rattle.ch11_reader.specs.Skipping.{stretches_in};
+ghost use Rattle.ch11_stream.specs.Feeding.{IsOther};
+ghost use Rattle.ch11_stream.specs.Folding.{FoldsPackets};
+ghost use Rattle.std.specs.Prelude.{◌≡◌, ℕ, List, Some, true, false, IfErr, IfOk, OnOk};
 
 use crate::printing::{Output, Printing, put_messages, put_skip};
 use ch11_stream::{Advance, Packets, StreamFault, Stretch, Stretches};
@@ -16,12 +23,32 @@ pub fn decode<R: Advance + Drop, W: Write>(
     input: R,
     out: &mut W,
     output: &Output,
-) -> Result<u64, StreamFault> {
+) -> Result<u64, StreamFault>
+    ensures decoded { output.now.skip ≡ false → (file : List ℕ) → R.remaining input ≡ Some file
+        → FoldsPackets (AreDecoded output.now (W.contents out.old) (W.contents out.new)) result file }
+    ensures sound { output.now.skip ≡ true → (file : List ℕ) → R.remaining input ≡ Some file
+        → IfOk result (AreDecodedSound output.now (W.contents out.old) (W.contents out.new) (stretches_in file)) }
+    ensures failed { output.now.skip ≡ true → IfErr result IsOther }
+{
     if output.skip {
-        return decode_sound(alloc, input, out, output);
+        decode_sound(alloc, input, out, output)
+    } else {
+        decode_packets(alloc, input, out, output)
     }
+}
+
+/// Prints a recording that is not damaged.
+fn decode_packets<R: Advance + Drop, W: Write>(
+    alloc: Global,
+    input: R,
+    out: &mut W,
+    output: &Output,
+) -> Result<u64, StreamFault>
+    ensures { (file : List ℕ) → R.remaining input ≡ Some file
+        → FoldsPackets (AreDecoded output.now (W.contents out.old) (W.contents out.new)) result file }
+{
     let mut packets = Packets::over(alloc, input)?;
-    let mut printing = Printing::begin(alloc, output.shown)?;
+    let mut printing = Printing::begin(alloc, output)?;
     'packets: for _made in 0..u64::MAX {
         match packets.next() {
             Ok(Some(packet)) => {
@@ -43,15 +70,18 @@ fn decode_sound<R: Read + Drop, W: Write>(
     input: R,
     out: &mut W,
     output: &Output,
-) -> Result<u64, StreamFault> {
+) -> Result<u64, StreamFault>
+    ensures sound { (file : List ℕ) → R.remaining input ≡ Some file
+        → IfOk result (AreDecodedSound output.now (W.contents out.old) (W.contents out.new) (stretches_in file)) }
+    ensures failed { IfErr result IsOther }
+{
     let mut stretches = Stretches::over(alloc, input)?;
-    let mut printing = Printing::begin(alloc, output.shown)?;
+    let mut printing = Printing::begin(alloc, output)?;
     'stretches: for _made in 0..u64::MAX {
         match stretches.next() {
-            Ok(Some(Stretch::Sound(packet))) => {
-                put_messages(&mut printing, out, output, &packet, stretches.messages())?
+            Ok(Some(stretch)) => {
+                put_stretch(alloc, &mut printing, out, output, &stretches, &stretch)?
             }
-            Ok(Some(Stretch::Skipped(skip))) => put_skip(alloc, &mut printing.line, out, &skip)?,
             Ok(None) => {
                 printing.line.finish(out)?;
                 return Ok(printing.count);
@@ -60,4 +90,28 @@ fn decode_sound<R: Read + Drop, W: Write>(
         }
     }
     Err(StreamFault::Device)
+}
+
+/// Prints the stretch that was read last.
+fn put_stretch<R: Read, W: Write>(
+    alloc: Global,
+    printing: &mut Printing,
+    out: &mut W,
+    output: &Output,
+    stretches: &Stretches<R>,
+    stretch: &Stretch,
+) -> Result<(), StreamFault>
+    requires { IsFew stretch.now stretches.now.given }
+    ensures put { (history : List Viewed) → IsBehind output.now history printing.old
+        → OnOk result (HasPrinted output.now history stretch.now stretches.now.given
+        (W.contents out.old) printing.old (W.contents out.new) printing.new) }
+    ensures failed { IfErr result IsOther }
+{
+    match stretch {
+        Stretch::Sound(packet) => {
+            put_messages(printing, out, output, packet, stretches.messages())?;
+            Ok(())
+        }
+        Stretch::Skipped(skip) => put_skip(alloc, &mut printing.line, out, skip),
+    }
 }

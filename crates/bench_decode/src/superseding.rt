@@ -1,7 +1,7 @@
 //! A second command in a message, which supersedes the first.
 ghost use Rattle.bench_decode.specs.Superseding as spec;
 ghost use Rattle.ch11_layout.specs.Layouts.{commands_in};
-ghost use Rattle.std.specs.Prelude.{◌≡◌, ◌≤◌, MatchOption};
+ghost use Rattle.std.specs.Prelude.{◌≡◌, ◌≤◌, IfSome, MatchOption};
 
 use ch11_layout::{View, is_set};
 use mil_mode::{ModeRow, data_words, mode_of};
@@ -109,7 +109,7 @@ fn has_own_status(view: &View<'_>) -> bool
 }
 
 /// Whether a status word stands right behind the commands.
-fn has_front(view: &View<'_>) -> bool
+pub(crate) fn has_front(view: &View<'_>) -> bool
     ensures { result ≡ spec.has_front_word view.now }
 {
     let layout = view.layout();
@@ -124,7 +124,8 @@ fn could_be_of(address: u8, status: u16) -> bool
     word.address() == address && !(word.has_instrumentation() || has_reserved(status))
 }
 
-fn has_reserved(status: u16) -> bool
+/// Whether a reserved bit of a status word is set.
+pub(crate) fn has_reserved(status: u16) -> bool
     ensures { result ≡ spec.has_reserved status }
 {
     is_set(status, 7) || is_set(status, 6) || is_set(status, 5)
@@ -156,14 +157,31 @@ fn first_answered(view: &View<'_>, from: usize, to: usize) -> Option<usize>
     None
 }
 
-/// The place of the second command of a message, where the record tells one.
-pub(crate) fn second_command(view: &View<'_>) -> Option<usize>
-    ensures { MatchOption result (spec.HasNoSecond view.now)
-        (λ place. spec.IsSecond view.now place) }
+/// Whether a message may have a second command: one reply came to words that are not as they are due, and that is not
+/// the reply of the first command.
+fn may_have_second(view: &View<'_>) -> bool
+    ensures { result ≡ spec.may_have_second view.now }
 {
-    if !is_suspect(view) || has_own_status(view) {
-        return None;
-    }
+    is_suspect(view) && !has_own_status(view)
+}
+
+/// The first word that is answered as a command where the controller's words stand.
+fn second_among(view: &View<'_>) -> Option<usize>
+    ensures place { result ≡ spec.second_among view.now }
+    ensures near { IfSome result (λ place. place ≤ 900) }
+{
     let from = command_count(view);
     first_answered(view, from, from + usize::from(controller_words(view)))
+}
+
+/// The place of the second command of a message, where the record tells one, at most 900.
+pub(crate) fn second_command(view: &View<'_>) -> Option<usize>
+    ensures place { result ≡ spec.second_place view.now }
+    ensures near { IfSome result (λ place. place ≤ 900) }
+{
+    if may_have_second(view) {
+        second_among(view)
+    } else {
+        None
+    }
 }

@@ -30,6 +30,7 @@ mod range;
 mod rhythm;
 mod rows;
 mod scale;
+mod timed;
 mod track;
 
 pub use asked::Asked;

@@ -1,6 +1,6 @@
 //! The load of a lane over time, in percent.
 
-use crate::picture::Picture;
+use crate::canvas::Canvas;
 use crate::rows::{LOAD, Lane};
 use crate::scale::{LEFT, PARTS, Scale, WIDTH};
 use std::alloc::{AllocError, Global};
@@ -66,17 +66,15 @@ impl Load {
     /// Draws the load as a curve with its scale up to a bound in percent, and a mark where there are errors.
     pub(crate) fn draw(
         &self,
-        alloc: Global,
-        picture: &mut Picture,
-        scale: &Scale,
+        canvas: &mut Canvas<'_>,
         lane: &Lane,
         bound: u64,
     ) -> Result<(), AllocError> {
-        draw_bound(alloc, picture, lane, bound)?;
-        self.draw_curve(alloc, picture, scale, lane, bound)?;
+        draw_bound(canvas, lane, bound)?;
+        self.draw_curve(canvas, lane, bound)?;
         for (pixel, number) in self.errors.iter().enumerate() {
             if *number != 0 {
-                draw_mark(alloc, picture, lane, pixel, *number)?;
+                draw_mark(canvas, lane, pixel, *number)?;
             }
         }
         Ok(())
@@ -96,21 +94,19 @@ impl Load {
     /// Draws the curve.
     fn draw_curve(
         &self,
-        alloc: Global,
-        picture: &mut Picture,
-        scale: &Scale,
+        canvas: &mut Canvas<'_>,
         lane: &Lane,
         bound: u64,
     ) -> Result<(), AllocError> {
         let base = lane.load.saturating_add(LOAD);
-        let mut text = String::new(alloc);
+        let mut text = String::new(canvas.alloc);
         write!(
             text,
             "<path fill=\"#cfddf2\" stroke=\"#2a5caa\" stroke-width=\".7\" d=\"M{LEFT} {base}"
         )?;
         let mut last = 0u64;
         for part in 0..PARTS {
-            let high = self.height(scale, part, bound);
+            let high = self.height(&canvas.scale, part, bound);
             if high != last {
                 put_step(&mut text, base, part, high)?;
                 last = high;
@@ -118,7 +114,7 @@ impl Load {
         }
         let right = LEFT + WIDTH;
         write!(text, "H{right}V{base}Z\"/>\n")?;
-        picture.put(text.as_str())
+        canvas.picture.put(text.as_str())
     }
 }
 
@@ -132,36 +128,30 @@ fn put_step(text: &mut String, base: u64, part: usize, high: u64) -> Result<(), 
 }
 
 /// Draws the scale of the load, from 0 up to a bound in percent.
-fn draw_bound(
-    alloc: Global,
-    picture: &mut Picture,
-    lane: &Lane,
-    bound: u64,
-) -> Result<(), AllocError> {
+fn draw_bound(canvas: &mut Canvas<'_>, lane: &Lane, bound: u64) -> Result<(), AllocError> {
     let top = lane.load;
     let base = top.saturating_add(LOAD);
     let high = top.saturating_add(7);
     let right = LEFT + WIDTH;
-    let text = format!(in alloc;
+    let text = format!(in canvas.alloc;
         "<text x=\"86\" y=\"{high}\" class=\"r\">{bound} %</text><text x=\"86\" y=\"{base}\" class=\"r\">0</text>
 <path d=\"M{LEFT} {top}H{right}M{LEFT} {base}H{right}\" stroke=\"#ddd\" fill=\"none\"/>
 "
     )?;
-    picture.put(text.as_str())
+    canvas.picture.put(text.as_str())
 }
 
 /// Draws the mark of an error, whose tip is the number of its message.
 fn draw_mark(
-    alloc: Global,
-    picture: &mut Picture,
+    canvas: &mut Canvas<'_>,
     lane: &Lane,
     pixel: usize,
     number: u64,
 ) -> Result<(), AllocError> {
     let x = LEFT.saturating_add(pixel as u64).saturating_sub(1);
     let top = lane.load.saturating_sub(6);
-    let text = format!(in alloc;
+    let text = format!(in canvas.alloc;
         "<rect x=\"{x}\" y=\"{top}\" width=\"3\" height=\"6\" fill=\"#c22\"><title>message {number}</title></rect>\n"
     )?;
-    picture.put(text.as_str())
+    canvas.picture.put(text.as_str())
 }

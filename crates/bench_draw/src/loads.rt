@@ -6,8 +6,9 @@ use crate::load::Load;
 use crate::plan::{Plan, Strip};
 use crate::rows::Lane;
 use crate::scale::{Scale, end_of};
+use crate::timed::TimedMessages;
 use ch11_f1::Messages;
-use ch11_layout::{StampKind, View};
+use ch11_layout::View;
 use ch11_reader::Packet;
 use std::alloc::{AllocError, Global};
 
@@ -45,21 +46,15 @@ impl Loads {
         packet: &Packet,
         messages: Messages<'_>,
     ) {
-        let (channel, kind) = (packet.header.channel, StampKind::of(&packet.header));
-        let Some(strip) = plan.strip(channel) else {
+        let Some(strip) = plan.strip(packet.header.channel) else {
             return;
         };
         if self.is_whole {
             return;
         }
-        let mut number = packet.before;
-        let mut rest = messages;
-        'messages: while let Some(seen) = rest.next() {
-            number = number.saturating_add(1);
-            let view = View::of(kind, &seen);
-            if canvas.selection.selects(number, channel, &view) && view.has_time() {
-                self.add(&canvas.scale, strip, number, &view);
-            }
+        let mut timed = TimedMessages::of(&canvas.selection, packet, messages);
+        'messages: while let Some((number, view)) = timed.next() {
+            self.add(&canvas.scale, strip, number, &view);
         }
     }
 
@@ -100,9 +95,8 @@ impl Loads {
         place: usize,
         lane: &Lane,
     ) -> Result<(), AllocError> {
-        let (alloc, picture) = (canvas.alloc, &mut canvas.picture);
         match self.loads.get(place) {
-            Some(load) => load.draw(alloc, picture, &canvas.scale, lane, self.bound),
+            Some(load) => load.draw(canvas, lane, self.bound),
             None => Ok(()),
         }
     }

@@ -3,11 +3,12 @@
 use crate::canvas::Canvas;
 use crate::fault::DrawFault;
 use crate::plot::Plot;
+use crate::timed::TimedMessages;
 use bench_select::{Selection, value_in};
 use bench_signals::{SignalFigures, count_signals};
 use bench_watch::Reopen;
 use ch11_f1::Messages;
-use ch11_layout::{StampKind, View};
+use ch11_layout::View;
 use ch11_reader::Packet;
 use ch11_stream::{Advance, Packets, StreamFault};
 use signal_dictionary::Signal;
@@ -109,15 +110,9 @@ impl<'s> Plots<'s> {
 
     /// Adds the values of a packet's selected messages of which the time is known.
     fn add_messages(&mut self, canvas: &Canvas<'_>, packet: &Packet, messages: Messages<'_>) {
-        let (channel, kind) = (packet.header.channel, StampKind::of(&packet.header));
-        let mut number = packet.before;
-        let mut rest = messages;
-        'messages: while let Some(seen) = rest.next() {
-            number = number.saturating_add(1);
-            let view = View::of(kind, &seen);
-            if canvas.selection.selects(number, channel, &view) && view.has_time() {
-                self.add(canvas, channel, &view);
-            }
+        let mut timed = TimedMessages::of(&canvas.selection, packet, messages);
+        'messages: while let Some((_, view)) = timed.next() {
+            self.add(canvas, packet.header.channel, &view);
         }
     }
 

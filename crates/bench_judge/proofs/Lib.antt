@@ -5,10 +5,9 @@ mod Latest
 mod Passing
 mod Whole
 mod Tallying
-mod Writing
+pub mod Writing
 mod FirstTold
-mod Streamed
-mod Rereading
+pub mod Rereading
 mod Showing
 mod Behind
 mod Cases

@@ -1,20 +1,13 @@
--- A recording that is passed: no message, the messages of a packet, the packets, and the verdicts at the end.
-use Rattle.std.proofs.Common.{◌≡◌, ℕ, zero, suc, ◌+◌, ◌<◌, List, [], ◌∷◌, ◌++◌, length, take, refl, ap, sym, ◌∙◌, subst, arith, append_assoc, append-nil, reverse, length-append}
-use Rattle.std.specs.Prelude.{Some, slice_get, map}
-use Rattle.std.proofs.lemmas.List.{reverse-append, map-append, length-map, length-reverse}
-use Rattle.ch11_f1.specs.BodyReading.{Message}
-use Rattle.ch11_layout.specs.Stamps.{recorded, kind_of}
-use Rattle.ch11_layout.specs.declared.stamps.StampKind.{StampKind}
-use Rattle.ch11_reader.specs.Recording.{Found}
-use Rattle.ch11_reader.specs.Contents.{total_in}
-use Rattle.bench_select.specs.Viewed.{viewed_of, viewed_in, Viewed}
+-- Tallies of nothing, and the verdicts that tallies come to.
+use Rattle.std.proofs.Common.{◌≡◌, ℕ, zero, suc, ◌+◌, ◌<◌, List, [], ◌∷◌, ◌++◌, length, take, refl, ap, sym, ◌∙◌, subst, arith, length-append}
+use Rattle.std.specs.Prelude.{Some, slice_get}
 use Rattle.judge_rules.specs.declared.rules.Rule.{Rule}
 use Rattle.bench_judge.specs.declared.tallies.Tally.{Tally}
 use Rattle.bench_judge.specs.declared.verdicts.RuleVerdict.{RuleVerdict}
 use Rattle.bench_judge.specs.declared.packets.PacketTally.{PacketTally}
 use Rattle.bench_judge.specs.Packets.{IsPacketTally}
 use Rattle.bench_judge.specs.Verdicts.{IsVerdict, IsVerdictWith, AreVerdicts, Passed, of_these}
-use Rattle.bench_judge.specs.Tallies.{IsTally, viewed_on}
+use Rattle.bench_judge.specs.Tallies.{IsTally}
 
 -- an element of a list with one more: one of the list, or the last
 pub data Place (X : Type 0) (xs : List X) (x : X) (k : ℕ) (y : X) : Type 0 where
@@ -32,62 +25,23 @@ place_of (z ∷ zs) x zero y is = Earlier (omega arith) is
 place_of (z ∷ zs) x (suc k) y is = later z zs x k y (place_of zs x k y is)
 
 -- each tally is one of a kind
-pub record AreNew {T : Type 0} (new : Rule → T → Type 0) (tallies : List T) : Type 0 where
-  pub each : (k : ℕ) (tally : T) → slice_get tallies k ≡ Some tally → (rule : Rule) → new rule tally
+pub record AreNew {R T : Type 0} (new : R → T → Type 0) (tallies : List T) : Type 0 where
+  pub each : (k : ℕ) (tally : T) → slice_get tallies k ≡ Some tally → (rule : R) → new rule tally
 
-pub new-none : {T : Type 0} (new : Rule → T → Type 0) → AreNew new []
+pub new-none : {R T : Type 0} (new : R → T → Type 0) → AreNew new []
 new-none new = record { each = λ k tally there. absurd cc }
 
-pub new-more : {T : Type 0} (new : Rule → T → Type 0) (tallies : List T) (tally : T) → AreNew new tallies → ((rule : Rule) → new rule tally) → AreNew new (tallies ++ tally ∷ [])
-new-more {T} new tallies tally are one = record { each = λ k other there rule. go k other rule (place_of tallies tally k other there) }
+pub new-more : {R T : Type 0} (new : R → T → Type 0) (tallies : List T) (tally : T) → AreNew new tallies → ((rule : R) → new rule tally) → AreNew new (tallies ++ tally ∷ [])
+new-more {R} {T} new tallies tally are one = record { each = λ k other there rule. go k other rule (place_of tallies tally k other there) }
   where
-    go : (k : ℕ) (other : T) (rule : Rule) → Place T tallies tally k other → new rule other
+    go : (k : ℕ) (other : T) (rule : R) → Place T tallies tally k other → new rule other
     go k other rule (Earlier within there) = are.each k other there rule
     go k other rule (Last at is) = subst (new rule) is (one rule)
-
-abbrev pub with_channel : StampKind → ℕ → Message → Viewed
-with_channel kind channel = λ (m : Message). (channel, recorded kind m)
-
--- the messages of a packet so far were passed, behind a history, and something is known of all that was passed
-pub record IsPassing (known : List Viewed → Type 0) (kind : StampKind) (channel : ℕ) (all rest : List Message) (history : List Viewed) : Type 0 where
-  pub passed : List Message
-  pub split : passed ++ rest ≡ all
-  pub now : known (viewed_on kind channel passed history)
-
-pub passing-none : (known : List Viewed → Type 0) (kind : StampKind) (channel : ℕ) (all : List Message) (history : List Viewed) → known history → IsPassing known kind channel all all history
-passing-none known kind channel all history is = record { passed = []; split = refl; now = is }
-
-length-history : (kind : StampKind) (channel : ℕ) (passed : List Message) (history : List Viewed) → length (viewed_on kind channel passed history) ≡ length passed + length history
-length-history kind channel passed history =
-    omega (arith, length-append (reverse (map (with_channel kind channel) passed)) history, length-reverse (map (with_channel kind channel) passed), length-map passed (with_channel kind channel))
-
-one_more : (kind : StampKind) (channel : ℕ) (passed : List Message) (m : Message) (history : List Viewed) → viewed_on kind channel (passed ++ m ∷ []) history ≡ (channel, recorded kind m) ∷ viewed_on kind channel passed history
-one_more kind channel passed m history =
-    ap (λ (hs : List Viewed). reverse hs ++ history) (map-append (with_channel kind channel) passed (m ∷ []))
-    ∙ ap (λ (hs : List Viewed). hs ++ history) (reverse-append (map (with_channel kind channel) passed) ((channel, recorded kind m) ∷ []))
-
-pub passing-more : (known next : List Viewed → Type 0) (kind : StampKind) (channel : ℕ) (all rest others : List Message) (m : Message) (history : List Viewed) → IsPassing known kind channel all rest history → rest ≡ m ∷ others
-    → ((hs : List Viewed) → known hs → length hs + length rest ≡ length history + length all → next ((channel, recorded kind m) ∷ hs))
-    → IsPassing next kind channel all others history
-passing-more known next kind channel all rest others m history p is noted = record {
-  passed = p.passed ++ m ∷ [];
-  split = append_assoc p.passed (m ∷ []) others ∙ ap (λ (ms : List Message). p.passed ++ ms) (sym is) ∙ p.split;
-  now = subst next (sym (one_more kind channel p.passed m history))
-      (noted (viewed_on kind channel p.passed history) p.now (omega (arith, length-history kind channel p.passed history, length-append p.passed rest, ap length p.split)));
-}
-
-pub passing-all : (known : List Viewed → Type 0) (kind : StampKind) (channel : ℕ) (all rest : List Message) (history : List Viewed) → IsPassing known kind channel all rest history → rest ≡ [] → known (viewed_on kind channel all history)
-passing-all known kind channel all rest history p none =
-    subst (λ (ms : List Message). known (viewed_on kind channel ms history)) (sym (append-nil p.passed) ∙ ap (λ (ms : List Message). p.passed ++ ms) (sym none) ∙ p.split) p.now
 
 pub take_more : {X : Type 0} (xs : List X) (k : ℕ) (x : X) → slice_get xs k ≡ Some x → take (suc k) xs ≡ take k xs ++ x ∷ []
 take_more [] k x is = absurd cc
 take_more (y ∷ ys) zero x is = let same : y ≡ x = cc in rw same refl
 take_more (y ∷ ys) (suc k) x is = rw (take_more ys k x is) refl
-
-pub length-heard : (ps : List Found) → length (viewed_in ps) ≡ total_in ps
-length-heard [] = refl
-length-heard (p ∷ ps) = omega (arith, length-append (viewed_of p) (viewed_in ps), length-map p.messages (with_channel (kind_of p.header) p.header.channel), length-heard ps)
 
 -- the rules so far have their verdicts
 pub record IsJudging (rules : List Rule) (p : Passed) (verdicts : List RuleVerdict) (place : ℕ) : Type 0 where

@@ -1,5 +1,5 @@
 -- Lines of verdicts, one after the other.
-use Rattle.std.proofs.Common.{◌≡◌, ℕ, suc, ◌+◌, List, [], ◌∷◌, ◌++◌, length, take, refl, ap, sym, ◌∙◌, subst, arith, append_assoc, append-nil, add-one}
+use Rattle.std.proofs.Common.{◌≡◌, ℕ, suc, ◌+◌, List, [], ◌∷◌, ◌++◌, length, take, cond, refl, ap, sym, ◌∙◌, subst, arith, append_assoc, append-nil, add-one}
 use Rattle.std.specs.Prelude.{Bool, true, false, Option, Some, slice_get}
 use Rattle.std.specs.Io.KnownBytes.{Appends}
 use Rattle.std.specs.List.{flat_map}
@@ -8,7 +8,6 @@ use Rattle.ch11_reader.specs.declared.skip.Skip.{Skip}
 use Rattle.ch11_layout.specs.Stamps.{Recorded, time_of}
 use Rattle.bench_dump.proofs.Steps.{appends_both, appends_nothing}
 use Rattle.judge_rules.specs.declared.rules.Rule.{Rule}
-use Rattle.bench_judge.specs.declared.tallies.Tally.{Tally}
 use Rattle.bench_judge.specs.declared.verdicts.Miss.{Miss}
 use Rattle.bench_judge.specs.declared.verdicts.RuleVerdict.{RuleVerdict}
 use Rattle.bench_judge.specs.Selection.{Origins, selects}
@@ -16,7 +15,7 @@ use Rattle.bench_judge.specs.Checks.{meets}
 use Rattle.bench_select.specs.Viewed.{Viewed}
 use Rattle.bench_judge.specs.Verdicts.{latest, misses, miss_of, AreVerdicts, Passed, not_held, rules_not_held, holds}
 use Rattle.bench_judge.specs.Lines.{miss_line, verdict_lines, rules_lines, last_line, verdict_text}
-use Rattle.bench_judge.specs.Tallies.{IsTally, IsWriting, misses_next, miss_lines}
+use Rattle.bench_judge.specs.Tallies.{IsWriting, miss_at, missed_by, misses_next}
 use Rattle.bench_judge.proofs.Moments.{moment, misses-skip, misses-met, misses-more}
 use Rattle.bench_judge.proofs.Tallying.{next-skip, next-met, next-missed}
 use Rattle.bench_judge.proofs.Whole.{take_more}
@@ -38,29 +37,40 @@ misses-grow rule origins h history grows = go (selects rule origins h.0 h.1) ref
     go true is true met = let bad : true ≡ false = grows ∙ sym (next-met rule origins h history is met) in absurd cc
     go true is false met = misses-more rule origins h history is met
 
-pub writing-none : (rule : Rule) (origins : Origins) (got : Option (List ℕ)) (tally : Tally) → IsTally rule origins [] tally → IsWriting rule origins got [] got tally
-writing-none rule origins got tally is = record { tallied = is; written = appends_nothing got }
+-- the messages that miss a rule, one after the other
+pub missed-rule : (rule : Rule) (origins : Origins) (history : List Viewed) → missed_by (misses_next rule origins) history ≡ misses rule origins history
+missed-rule rule origins [] = refl
+missed-rule rule origins (h ∷ history) = go (misses_next rule origins history h) refl (missed-rule rule origins history)
+  where
+    go : (b : Bool) → misses_next rule origins history h ≡ b → missed_by (misses_next rule origins) history ≡ misses rule origins history
+        → cond b (missed_by (misses_next rule origins) history ++ miss_at (length history + 1) h ∷ []) (missed_by (misses_next rule origins) history) ≡ misses rule origins (h ∷ history)
+    go true is same = ap (λ (xs : List Miss). xs ++ miss_at (length history + 1) h ∷ []) same ∙ sym (misses-grow rule origins h history (sym is))
+    go false is same = same ∙ sym (misses-stay rule origins h history (sym is))
 
-pub writing-skip : (rule : Rule) (origins : Origins) (got gets : Option (List ℕ)) (h : Viewed) (history : List Viewed) (tally next : Tally) → IsWriting rule origins got history gets tally → false ≡ misses_next rule origins history h
-    → IsTally rule origins (h ∷ history) next → IsWriting rule origins got (h ∷ history) gets next
-writing-skip rule origins got gets h history tally next w stays is = record {
+-- the lines of those that were passed so far
+pub writing-none : {T : Type 0} (is_tally : List Viewed → T → Type 0) (next : List Viewed → Viewed → Bool) (line : ℕ) (got : Option (List ℕ)) (tally : T) → is_tally [] tally → IsWriting is_tally next line got [] got tally
+writing-none is_tally next line got tally is = record { tallied = is; written = appends_nothing got }
+
+pub writing-skip : {T : Type 0} (is_tally : List Viewed → T → Type 0) (next : List Viewed → Viewed → Bool) (line : ℕ) (got gets : Option (List ℕ)) (h : Viewed) (history : List Viewed) (tally after : T) → IsWriting is_tally next line got history gets tally → false ≡ next history h
+    → is_tally (h ∷ history) after → IsWriting is_tally next line got (h ∷ history) gets after
+writing-skip is_tally next line got gets h history tally after w stays is = record {
   tallied = is;
-  written = subst (λ (xs : List Miss). Appends got gets (flat_map (miss_line rule.line) xs)) (sym (misses-stay rule origins h history stays)) w.written;
+  written = subst (λ (b : Bool). Appends got gets (flat_map (miss_line line) (cond b (missed_by next history ++ miss_at (length history + 1) h ∷ []) (missed_by next history)))) stays w.written;
 }
 
-pub writing-more : (rule : Rule) (origins : Origins) (got mid gets : Option (List ℕ)) (h : Viewed) (history : List Viewed) (tally next : Tally) (miss : Miss) → IsWriting rule origins got history mid tally → true ≡ misses_next rule origins history h
-    → IsTally rule origins (h ∷ history) next → miss ≡ miss_of (moment h history) → Appends mid gets (miss_line rule.line miss) → IsWriting rule origins got (h ∷ history) gets next
-writing-more rule origins got mid gets h history tally next miss w grows is told line = record {
+pub writing-more : {T : Type 0} (is_tally : List Viewed → T → Type 0) (next : List Viewed → Viewed → Bool) (line : ℕ) (got mid gets : Option (List ℕ)) (h : Viewed) (history : List Viewed) (tally after : T) (miss : Miss) → IsWriting is_tally next line got history mid tally
+    → true ≡ next history h → is_tally (h ∷ history) after → miss ≡ miss_at (length history + 1) h → Appends mid gets (miss_line line miss) → IsWriting is_tally next line got (h ∷ history) gets after
+writing-more is_tally next line got mid gets h history tally after miss w grows is told put = record {
   tallied = is;
-  written = subst (Appends got gets) (sym same) (appends_both got mid gets (miss_lines rule origins history) (miss_line rule.line miss) w.written line);
+  written = subst (λ (b : Bool). Appends got gets (flat_map (miss_line line) (cond b (missed_by next history ++ miss_at (length history + 1) h ∷ []) (missed_by next history)))) grows
+      (subst (Appends got gets) (sym same) (appends_both got mid gets (flat_map (miss_line line) (missed_by next history)) (miss_line line miss) w.written put));
 }
   where
-    same : miss_lines rule origins (h ∷ history) ≡ miss_lines rule origins history ++ miss_line rule.line miss
+    same : flat_map (miss_line line) (missed_by next history ++ miss_at (length history + 1) h ∷ []) ≡ flat_map (miss_line line) (missed_by next history) ++ miss_line line miss
     same =
-        ap (flat_map (miss_line rule.line)) (misses-grow rule origins h history grows)
-        ∙ flat_map-append (miss_line rule.line) (misses rule origins history) (miss_of (moment h history) ∷ [])
-        ∙ ap (λ (l : List ℕ). miss_lines rule origins history ++ l) (append-nil (miss_line rule.line (miss_of (moment h history))))
-        ∙ ap (λ (x : Miss). miss_lines rule origins history ++ miss_line rule.line x) (sym told)
+        flat_map-append (miss_line line) (missed_by next history) (miss_at (length history + 1) h ∷ [])
+        ∙ ap (λ (l : List ℕ). flat_map (miss_line line) (missed_by next history) ++ l) (append-nil (miss_line line (miss_at (length history + 1) h)))
+        ∙ ap (λ (x : Miss). flat_map (miss_line line) (missed_by next history) ++ miss_line line x) (sym told)
 
 pub told : (number channel : ℕ) (m : Recorded) (history : List Viewed) → number ≡ length history + 1
     → (let miss : Miss = record { number = number; channel = channel; stamp = time_of m } in miss) ≡ miss_of (moment (channel, m) history)

@@ -1,13 +1,11 @@
 -- What a tally says of the messages that were passed.
-use Rattle.std.specs.Prelude.{◌≡◌, ℕ, Bool, true, false, not, ◌&&◌, ◌-◌, ◌<◌, List, ◌++◌, length, map, reverse}
-use Rattle.std.specs.Prelude.{slice_get, take, Option, None, Some}
+use Rattle.std.specs.Prelude.{◌≡◌, ℕ, Bool, true, false, not, ◌&&◌, ◌+◌, ◌-◌, ◌<◌, if◌then◌else◌}
+use Rattle.std.specs.Prelude.{List, [], ◌∷◌, ◌++◌, length, reverse, slice_get, take, Option, None, Some}
 use Rattle.std.specs.List.{flat_map}
 use Rattle.std.specs.Io.KnownBytes.{Appends}
-use Rattle.ch11_f1.specs.BodyReading.{Message}
 use Rattle.ch11_reader.specs.declared.packet.Packet.{Packet}
 use Rattle.ch11_reader.specs.declared.skip.Skip.{Skip}
-use Rattle.ch11_layout.specs.Stamps.{recorded, time_of}
-use Rattle.ch11_layout.specs.declared.stamps.StampKind.{StampKind}
+use Rattle.ch11_layout.specs.Stamps.{time_of}
 use Rattle.judge_rules.specs.declared.rules.Rule.{Rule}
 use Rattle.bench_judge.specs.declared.verdicts.Miss.{Miss}
 use Rattle.bench_judge.specs.declared.tallies.Tally.{Tally}
@@ -33,17 +31,12 @@ pub record IsTally (rule : Rule) (origins : Origins) (history : List Viewed) (ta
   pub missed : tally.missed ≡ length (missed rule origins history)
   pub latest : IsLatest rule origins history tally
 
--- the messages of a packet of a channel, whose stamps are of this kind, behind a history
-abbrev pub viewed_on : StampKind → ℕ → List Message → List Viewed → List Viewed
-viewed_on kind channel messages history =
-    reverse (map (λ (m : Message). (channel, recorded kind m)) messages) ++ history
-
 -- a tally for each rule, in their order
-pub record AreTallies (rules : List Rule) (origins : Origins) (history : List Viewed) (tallies : List Tally)
-    : Type 0 where
+pub record AreTallies {R T : Type 0} (is_tally : R → Origins → List Viewed → T → Type 0) (rules : List R)
+    (origins : Origins) (history : List Viewed) (tallies : List T) : Type 0 where
   pub many : length tallies ≡ length rules
-  pub each : (place : ℕ) (rule : Rule) (tally : Tally) → slice_get rules place ≡ Some rule
-      → slice_get tallies place ≡ Some tally → IsTally rule origins history tally
+  pub each : (place : ℕ) (rule : R) (tally : T) → slice_get rules place ≡ Some rule
+      → slice_get tallies place ≡ Some tally → is_tally rule origins history tally
 
 -- the next message is selected and misses the rule
 abbrev pub misses_next : Rule → Origins → List Viewed → Viewed → Bool
@@ -63,11 +56,17 @@ IsMissIf misses miss (Some found) = (true ≡ misses) × (found ≡ miss)
 abbrev pub miss_lines : Rule → Origins → List Viewed → List ℕ
 miss_lines rule origins history = flat_map (miss_line rule.line) (misses rule origins history)
 
--- the messages that missed the rule so far were written
-pub record IsWriting (rule : Rule) (origins : Origins) (got : Option (List ℕ)) (history : List Viewed)
-    (gets : Option (List ℕ)) (tally : Tally) : Type 0 where
-  pub tallied : IsTally rule origins history tally
-  pub written : Appends got gets (miss_lines rule origins history)
+-- the messages of a history that miss a rule, in their order, by whether the next one of a history misses it
+abbrev pub missed_by : (List Viewed → Viewed → Bool) → List Viewed → List Miss
+missed_by next [] = []
+missed_by next (h ∷ history) =
+    if next history h then missed_by next history ++ miss_at (length history + 1) h ∷ [] else missed_by next history
+
+-- a tally of the messages so far, and those of them that missed the rule of a line were written
+pub record IsWriting {T : Type 0} (is_tally : List Viewed → T → Type 0) (next : List Viewed → Viewed → Bool) (line : ℕ)
+    (got : Option (List ℕ)) (history : List Viewed) (gets : Option (List ℕ)) (tally : T) : Type 0 where
+  pub tallied : is_tally history tally
+  pub written : Appends got gets (flat_map (miss_line line) (missed_by next history))
 
 -- the first messages that missed the rule so far, at most so many, were told, and so many more will be
 pub record IsTelling (rule : Rule) (origins : Origins) (most : ℕ) (history : List Viewed) (telling : Telling)

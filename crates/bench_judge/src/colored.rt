@@ -6,6 +6,7 @@ ghost use Rattle.std.specs.Prelude.{◌≡◌, ◌++◌, [], OnOk, IfOk, length,
 use crate::names::Names;
 use crate::numbers::put_number;
 use crate::pass_fault::PassFault;
+use crate::passes::Ruled;
 use crate::sought::{Wanted, write_first};
 use crate::told::put_count;
 use crate::verdicts::{Judged, RuleVerdict, not_held};
@@ -122,28 +123,41 @@ fn put_last(text: &mut Vec<u8>, verdicts: &[RuleVerdict]) -> Result<(), AllocErr
     Ok(())
 }
 
+/// A recording whose verdicts are shown.
+#[derive(Drop)]
+struct Colored<'c, S> {
+    /// The recording, which is read anew for what misses a rule.
+    recording: &'c S,
+    /// The names of its channels.
+    channels: ChannelNames<'c>,
+    /// The verdicts.
+    judged: Judged<'c>,
+}
+
 /// The first messages or packets that miss a rule, as they are shown; none where none does.
 fn shown_misses<S: Reopen>(
     alloc: Global,
     line: &mut TextLine,
-    recording: &S,
-    names: ChannelNames<'_>,
+    colored: &Colored<'_, S>,
     rule: &Rule,
-    judged: Judged<'_>,
     missed: u64,
 ) -> Result<Vec<u8>, PassFault>
     ensures { missed ≡ 0 → IfOk result (λ shown. shown.items ≡ []) }
 {
     let mut shown = Vec::new(alloc);
     if missed > 0 {
+        let ruled = Ruled {
+            rule,
+            origins: colored.judged.origins,
+            skips: colored.judged.skips,
+        };
         let wanted = Wanted {
             alloc,
-            rule,
-            origins: judged.origins,
-            skips: judged.skips,
+            ruled,
             most: SHOWN as usize,
         };
-        write_first(recording, wanted, names, line, &mut shown)?;
+        let channels = colored.channels;
+        write_first(colored.recording, wanted, channels, line, &mut shown)?;
     }
     Ok(shown)
 }
@@ -164,11 +178,9 @@ fn write_more<W: Write>(missed: u64, out: &mut W) -> io::Result<()>
 fn write_rule<S: Reopen, W: Write>(
     alloc: Global,
     line: &mut TextLine,
-    recording: &S,
-    channels: ChannelNames<'_>,
+    colored: &Colored<'_, S>,
     name: &[u8],
     rule: &Rule,
-    judged: Judged<'_>,
     verdict: &RuleVerdict,
     out: &mut W,
 ) -> Result<(), PassFault>
@@ -177,8 +189,7 @@ fn write_rule<S: Reopen, W: Write>(
 {
     let mut text = Vec::new(alloc);
     put_rule(&mut text, name, &rule.check, verdict)?;
-    let missed = verdict.missed;
-    let shown = shown_misses(alloc, line, recording, channels, rule, judged, missed)?;
+    let shown = shown_misses(alloc, line, colored, rule, verdict.missed)?;
     out.write_all(text.as_slice())?;
     out.write_all(shown.as_slice())?;
     write_more(verdict.missed, out)?;
@@ -188,28 +199,24 @@ fn write_rule<S: Reopen, W: Write>(
 /// Writes each rule.
 fn write_rules<S: Reopen, W: Write>(
     alloc: Global,
-    recording: &S,
-    channels: ChannelNames<'_>,
-    judged: Judged<'_>,
+    colored: &Colored<'_, S>,
     out: &mut W,
 ) -> Result<(), PassFault>
-    ensures { length judged.entry.rules.now ≡ length judged.entry.verdicts.now
+    ensures { length colored.now.judged.rules.now ≡ length colored.now.judged.verdicts.now
         → OnOk result (spec.AppendsSome
-        (spec.AreShown judged.entry.text.now judged.entry.rules.now judged.entry.verdicts.now)
+        (spec.AreShown colored.now.judged.text.now colored.now.judged.rules.now colored.now.judged.verdicts.now)
         (W.contents out.old) (W.contents out.new)) }
 {
     let mut line = TextLine::new(alloc, Shown::Colored)?;
-    let mut names = Names::of(judged.text);
-    let mut rules = judged.rules;
-    let mut verdicts = judged.verdicts;
+    let mut names = Names::of(colored.judged.text);
+    let mut rules = colored.judged.rules;
+    let mut verdicts = colored.judged.verdicts;
     'rules: while let Some((verdict, others)) = verdicts.split_first() {
         let Some((rule, more)) = rules.split_first() else {
             return Ok(());
         };
         let name = names.at(verdict.line);
-        write_rule(
-            alloc, &mut line, recording, channels, name, rule, judged, verdict, out,
-        )?;
+        write_rule(alloc, &mut line, colored, name, rule, verdict, out)?;
         rules = more;
         verdicts = others;
     }
@@ -233,7 +240,12 @@ pub fn write_colored<S: Reopen, W: Write>(
         (spec.IsColored judged.entry.text.now judged.entry.rules.now judged.entry.verdicts.now)
         (W.contents out.old) (W.contents out.new)) }
 {
-    write_rules(alloc, recording, channels, judged, out)?;
+    let colored = Colored {
+        recording,
+        channels,
+        judged,
+    };
+    write_rules(alloc, &colored, out)?;
     let mut text = Vec::new(alloc);
     put_last(&mut text, judged.verdicts)?;
     out.write_all(text.as_slice())?;

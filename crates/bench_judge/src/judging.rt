@@ -1,16 +1,17 @@
 //! A pass over the messages of a recording, which all rules share.
 ghost use Rattle.bench_judge.specs.Packets.{ArePacketTallies};
 ghost use Rattle.bench_judge.specs.Selection.{Origins};
-ghost use Rattle.bench_judge.specs.Tallies.{AreTallies, viewed_on};
+ghost use Rattle.bench_judge.specs.Tallies.{AreTallies, IsTally};
 ghost use Rattle.bench_judge.specs.Verdicts as spec;
 ghost use Rattle.bench_judge.specs.Verdicts.{AreVerdicts, IsVerdictWith, Passed, passed_in};
-ghost use Rattle.bench_select.specs.Viewed.{Viewed};
+ghost use Rattle.bench_select.specs.Viewed.{Viewed, viewed_behind};
 ghost use Rattle.ch11_layout.specs.Stamps.{kind_of};
 ghost use Rattle.ch11_stream.specs.Folding.{FoldsPackets};
 ghost use Rattle.std.specs.Prelude.{◌≡◌, ◌+◌, ◌<◌, ◌^◌, ◌∷◌, [], ℕ, List, Some, length, IfOk, OnOk};
 
 use crate::checks::is_whole;
 use crate::packets::{PacketTally, no_packets, note_packet};
+use crate::tallied::Tallied;
 use crate::tallies::Tally;
 use crate::verdicts::{RuleVerdict, verdict_of};
 use ch11_f1::Messages;
@@ -62,49 +63,50 @@ pub fn judge<R: Advance + Drop>(
 }
 
 /// A tally for each rule, of no messages.
-fn no_tallies(alloc: Global, rules: &[Rule]) -> Result<Vec<Tally>, AllocError>
-    ensures { IfOk result (λ tallies. (origins : Origins) → AreTallies rules.now origins [] tallies.items) }
+pub fn no_tallies<T: Tallied>(alloc: Global, rules: &[T]) -> Result<Vec<T::Tally>, AllocError>
+    ensures { IfOk result (λ tallies. (origins : Origins)
+        → AreTallies T.is_tally rules.now origins [] tallies.items) }
 {
     let mut tallies = Vec::with_capacity(alloc, rules.len())?;
     'rules: for _rule in rules {
-        tallies.push(Tally::new(alloc))?;
+        tallies.push(T::no_tally(alloc))?;
     }
     Ok(tallies)
 }
 
 /// One more message for each rule; whether it is clean is worked out at most once.
-fn note_message(
-    rules: &[Rule],
+fn note_message<T: Tallied>(
+    rules: &[T],
     origins: &[Option<u64>],
-    tallies: &mut [Tally],
+    tallies: &mut [T::Tally],
     channel: u16,
     view: &View<'_>,
 ) -> Result<(), AllocError>
     requires { length tallies.old ≡ length rules.now }
-    ensures { (history : List Viewed) → AreTallies rules.now origins.now history tallies.old
+    ensures { (history : List Viewed) → AreTallies T.is_tally rules.now origins.now history tallies.old
         → length history + 1 < 2 ^ 64
-        → OnOk result (AreTallies rules.now origins.now ((channel, view.now) ∷ history) tallies.new) }
+        → OnOk result (AreTallies T.is_tally rules.now origins.now ((channel, view.now) ∷ history) tallies.new) }
 {
     let mut known = None;
     'rules: for place in 0..rules.len() {
-        tallies[place].note(&rules[place], origins, channel, view, &mut known)?;
+        rules[place].note(&mut tallies[place], origins, channel, view, &mut known)?;
     }
     Ok(())
 }
 
-/// The messages of a packet with this header.
-fn note_messages(
-    rules: &[Rule],
+/// The messages of a packet with this header for each rule.
+pub fn note_messages<T: Tallied>(
+    rules: &[T],
     origins: &[Option<u64>],
-    tallies: &mut [Tally],
+    tallies: &mut [T::Tally],
     header: &Header,
     messages: Messages<'_>,
 ) -> Result<(), AllocError>
     requires { length tallies.old ≡ length rules.now }
-    ensures { (history : List Viewed) → AreTallies rules.now origins.now history tallies.old
+    ensures { (history : List Viewed) → AreTallies T.is_tally rules.now origins.now history tallies.old
         → length history + length messages.entry < 2 ^ 64
-        → OnOk result (AreTallies rules.now origins.now
-        (viewed_on (kind_of header.now) header.now.channel messages.entry history) tallies.new) }
+        → OnOk result (AreTallies T.is_tally rules.now origins.now
+        (viewed_behind (kind_of header.now) header.now.channel messages.entry history) tallies.new) }
 {
     let channel = header.channel;
     let kind = StampKind::of(header);
@@ -143,7 +145,7 @@ fn verdicts_of(
 ) -> Result<Vec<RuleVerdict>, AllocError>
     requires messages { length tallies.items ≡ length rules.now }
     requires packets { length wholes.items ≡ length rules.now }
-    ensures { (p : Passed) → AreTallies rules.now p.origins p.messages tallies.items
+    ensures { (p : Passed) → AreTallies IsTally rules.now p.origins p.messages tallies.items
         → ArePacketTallies rules.now p.packets wholes.items
         → IfOk result (λ verdicts. AreVerdicts rules.now p verdicts.items) }
 {

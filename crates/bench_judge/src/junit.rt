@@ -10,6 +10,7 @@ use crate::losses::Lost;
 use crate::names::Names;
 use crate::numbers::put_number;
 use crate::pass_fault::PassFault;
+use crate::passes::Ruled;
 use crate::sought::{Wanted, tell_first};
 use crate::told::put_count;
 use crate::verdicts::{Judged, RuleVerdict, not_held};
@@ -137,9 +138,11 @@ fn told_of<S: Reopen>(
         recording,
         Wanted {
             alloc,
-            rule,
-            origins: judged.origins,
-            skips: judged.skips,
+            ruled: Ruled {
+                rule,
+                origins: judged.origins,
+                skips: judged.skips,
+            },
             most: TOLD,
         },
     )
@@ -167,25 +170,7 @@ fn put_case_end<S: Reopen>(
     Ok(put_failure(text, named, &rule.check, verdict, told.as_slice())?)
 }
 
-/// Appends the test case of a rule, named by its text.
-fn put_case<S: Reopen>(
-    text: &mut Vec<u8>,
-    recording: &S,
-    named: Named<'_>,
-    rule: &Rule,
-    judged: Judged<'_>,
-    verdict: &RuleVerdict,
-) -> Result<(), PassFault>
-    ensures { (file : List ℕ) → S.bytes recording.now ≡ Some file
-        → OnOk result (text.new.items ≡ text.old.items ++ (spec.case_head verdict.now named.entry.name.now
-        ++ spec.case_end named.entry.file.now named.entry.name.now rule.now.check verdict.now
-        (spec.told_lines judged.entry.skips.now rule.now verdict.now (passed_of judged.entry.origins.now file)))) }
-{
-    put_case_head(text, named.name, verdict)?;
-    put_case_end(text, recording, named, rule, judged, verdict)
-}
-
-/// Appends the test case of each rule.
+/// Appends the test case of each rule, named by its text.
 fn put_cases<S: Reopen>(
     text: &mut Vec<u8>,
     recording: &S,
@@ -208,7 +193,8 @@ fn put_cases<S: Reopen>(
             file: judged.file,
             name,
         };
-        put_case(text, recording, named, rule, judged, verdict)?;
+        put_case_head(text, name, verdict)?;
+        put_case_end(text, recording, named, rule, judged, verdict)?;
         rules = more;
         verdicts = others;
     }

@@ -29,6 +29,7 @@ mod selection;
 mod shown;
 mod skips;
 mod sought;
+mod tallied;
 mod tallies;
 mod telling;
 mod there;
@@ -37,15 +38,19 @@ mod verdicts;
 
 pub use colored::write_colored;
 pub use fault::PrintFault;
-pub use judging::judge;
+pub use judging::{judge, no_tallies, note_messages};
 pub use junit::{Named, junit_text, put_case_head, put_failure, put_lost, put_suite_head};
 pub use lines::{write_count, write_last, write_miss, write_numbers};
 pub use losses::{Lost, count_lost};
 pub use names::Names;
 pub use pass_fault::PassFault;
-pub use passes::{write_misses, write_packets, write_verdicts};
+pub use passes::{
+    Ruled, write_each_miss, write_missed_of, write_misses, write_packets, write_verdicts,
+};
 pub use selection::selects;
 pub use skips::read_skips;
+pub use sought::{Wanted, tell_first};
+pub use tallied::{Tallied, note_miss};
 pub use tallies::Tally;
 pub use telling::{tell_messages, tell_packets};
 pub use told::{put_miss, put_told_at};

@@ -1,20 +1,19 @@
 //! Verdicts as plain lines, on their way to a writer.
 ghost use Rattle.bench_judge.specs.Lines.{count_lines, last_line, miss_line, packet_line, rule_line};
-ghost use Rattle.bench_judge.specs.Tallies.{IsWriting, viewed_on};
+ghost use Rattle.bench_judge.specs.Tallies.{IsWriting};
 ghost use Rattle.bench_judge.specs.Verdicts as spec;
-ghost use Rattle.bench_select.specs.Viewed.{Viewed};
+ghost use Rattle.bench_select.specs.Viewed.{Viewed, viewed_behind};
 ghost use Rattle.ch11_layout.specs.Stamps.{kind_of};
 ghost use Rattle.std.specs.Io.KnownBytes.{Appends};
 ghost use Rattle.std.specs.Prelude.{◌≡◌, ◌+◌, ◌<◌, ◌^◌, ◌∷◌, List, ℕ, Option, length, OnOk};
 
 use crate::fault::PrintFault;
 use crate::skips::file_place;
-use crate::tallies::Tally;
+use crate::tallied::{Tallied, note_miss};
 use crate::verdicts::{Miss, RuleVerdict, not_held};
 use ch11_f1::Messages;
 use ch11_layout::{StampKind, View};
 use ch11_reader::{Packet, Skip};
-use judge_rules::Rule;
 use std::io;
 use std::io::Write;
 
@@ -36,9 +35,9 @@ pub fn write_miss<W: Write>(out: &mut W, line: u64, miss: &Miss) -> io::Result<(
 }
 
 /// Writes one more message of a channel if it misses the rule.
-fn write_message<W: Write>(
-    tally: &mut Tally,
-    rule: &Rule,
+fn write_message<T: Tallied, W: Write>(
+    tally: &mut T::Tally,
+    rule: &T,
     origins: &[Option<u64>],
     number: u64,
     channel: u16,
@@ -46,20 +45,22 @@ fn write_message<W: Write>(
     out: &mut W,
 ) -> Result<(), PrintFault>
     ensures { (history : List Viewed) → (got : Option (List ℕ))
-        → IsWriting rule.now origins.now got history (W.contents out.old) tally.old → number ≡ length history + 1
-        → OnOk result (IsWriting rule.now origins.now got ((channel, view.now) ∷ history)
-        (W.contents out.new) tally.new) }
+        → IsWriting (T.is_tally rule.now origins.now) (T.misses_next rule.now origins.now) (T.line_of rule.now)
+        got history (W.contents out.old) tally.old
+        → number ≡ length history + 1
+        → OnOk result (IsWriting (T.is_tally rule.now origins.now) (T.misses_next rule.now origins.now)
+        (T.line_of rule.now) got ((channel, view.now) ∷ history) (W.contents out.new) tally.new) }
 {
-    if let Some(miss) = tally.note_miss(rule, origins, number, channel, view)? {
-        write_miss(out, rule.line, &miss)?;
+    if let Some(miss) = note_miss(rule, tally, origins, number, channel, view)? {
+        write_miss(out, rule.line(), &miss)?;
     }
     Ok(())
 }
 
 /// Writes those messages of a packet that miss the rule.
-pub(crate) fn write_messages<W: Write>(
-    tally: &mut Tally,
-    rule: &Rule,
+pub(crate) fn write_messages<T: Tallied, W: Write>(
+    tally: &mut T::Tally,
+    rule: &T,
     origins: &[Option<u64>],
     packet: &Packet,
     messages: Messages<'_>,
@@ -67,10 +68,12 @@ pub(crate) fn write_messages<W: Write>(
 ) -> Result<(), PrintFault>
     requires { packet.now.before + length messages < 2 ^ 64 }
     ensures { (history : List Viewed) → (got : Option (List ℕ))
-        → IsWriting rule.now origins.now got history (W.contents out.old) tally.old
+        → IsWriting (T.is_tally rule.now origins.now) (T.misses_next rule.now origins.now) (T.line_of rule.now)
+        got history (W.contents out.old) tally.old
         → packet.now.before ≡ length history
-        → OnOk result (IsWriting rule.now origins.now got
-        (viewed_on (kind_of packet.now.header) packet.now.header.channel messages.entry history)
+        → OnOk result (IsWriting (T.is_tally rule.now origins.now) (T.misses_next rule.now origins.now)
+        (T.line_of rule.now) got
+        (viewed_behind (kind_of packet.now.header) packet.now.header.channel messages.entry history)
         (W.contents out.new) tally.new) }
 {
     let channel = packet.header.channel;

@@ -1,8 +1,9 @@
 //! Verdicts as plain lines, of a recording that is read anew for each pass.
-ghost use Rattle.bench_judge.specs.Lines.{missed_lines, packet_line, rules_lines, verdict_lines, verdict_text};
+ghost use Rattle.bench_judge.specs.Lines.{miss_line, missed_lines, packet_line, rules_lines, verdict_lines};
+ghost use Rattle.bench_judge.specs.Lines.{verdict_text};
 ghost use Rattle.bench_judge.specs.Packets.{packets_missed};
 ghost use Rattle.bench_judge.specs.Streaming.{WritesLinesOf, passed_of};
-ghost use Rattle.bench_judge.specs.Tallies.{miss_lines};
+ghost use Rattle.bench_judge.specs.Tallies.{miss_lines, missed_by};
 ghost use Rattle.bench_judge.specs.Verdicts as spec;
 ghost use Rattle.bench_judge.specs.Verdicts.{AreVerdicts, IsVerdict};
 ghost use Rattle.ch11_reader.specs.Indexed.{found_in};
@@ -17,7 +18,7 @@ use crate::judging::judge;
 use crate::lines::{write_count, write_last, write_messages, write_numbers, write_packet};
 use crate::packets::misses_packet;
 use crate::pass_fault::PassFault;
-use crate::tallies::Tally;
+use crate::tallied::Tallied;
 use crate::verdicts::RuleVerdict;
 use bench_watch::Reopen;
 use ch11_reader::{Packet, Skip};
@@ -26,6 +27,17 @@ use judge_rules::Rule;
 use std::alloc::Global;
 use std::io;
 use std::io::Write;
+
+/// A rule of which something is said, and what that rests on.
+#[derive(Clone, Copy)]
+pub struct Ruled<'r> {
+    /// The rule.
+    pub rule: &'r Rule,
+    /// The first time of day of each channel of the recording, from which its times count.
+    pub origins: &'r [Option<u64>],
+    /// The bytes of the recording's file that were skipped, as `read_skips` finds them.
+    pub skips: &'r [Skip],
+}
 
 /// Writes the messages that miss a rule, each as a line, of all bytes that a reader has left, as their packets come. A
 /// recording that can't be read is refused with its first fault, K1 to K5, N2 or F1 to F3, and then the writer may have
@@ -42,8 +54,24 @@ pub fn write_misses<R: Advance + Drop, W: Write>(
         → WritesLinesOf (λ p. miss_lines rule.now p.origins p.messages) origins.now result file
         (W.contents out.old) (W.contents out.new) }
 {
+    write_each_miss(alloc, input, rule, origins, out)
+}
+
+/// Writes the messages that miss a rule of any kind, in the same way.
+pub fn write_each_miss<T: Tallied, R: Advance + Drop, W: Write>(
+    alloc: Global,
+    input: R,
+    rule: &T,
+    origins: &[Option<u64>],
+    out: &mut W,
+) -> Result<(), PassFault>
+    ensures { (file : List ℕ) → R.remaining input ≡ Some file
+        → WritesLinesOf (λ p. flat_map (miss_line (T.line_of rule.now))
+        (missed_by (T.misses_next rule.now p.origins) p.messages)) origins.now result file
+        (W.contents out.old) (W.contents out.new) }
+{
     let mut packets = Packets::over(alloc, input)?;
-    let mut tally = Tally::new(alloc);
+    let mut tally = T::no_tally(alloc);
     'packets: for _made in 0..u64::MAX {
         match packets.next() {
             Ok(Some(packet)) => {
@@ -99,19 +127,18 @@ pub fn write_packets<R: Advance + Drop, W: Write>(
     Err(PassFault::Recording(StreamFault::Device))
 }
 
-/// Writes the messages that miss a rule, or the packets, of all bytes that a reader has left.
-fn write_all<R: Advance + Drop, W: Write>(
+/// Writes the messages that miss a rule, or the packets where it is about these, of all bytes that a reader has left.
+pub fn write_missed_of<R: Advance + Drop, W: Write>(
     alloc: Global,
     input: R,
-    rule: &Rule,
-    origins: &[Option<u64>],
-    skips: &[Skip],
+    ruled: Ruled<'_>,
     out: &mut W,
 ) -> Result<(), PassFault>
     ensures { (file : List ℕ) → R.remaining input ≡ Some file
-        → WritesLinesOf (missed_lines skips.now rule.now) origins.now result file (W.contents out.old)
-        (W.contents out.new) }
+        → WritesLinesOf (missed_lines ruled.entry.skips.now ruled.entry.rule.now) ruled.entry.origins.now result file
+        (W.contents out.old) (W.contents out.new) }
 {
+    let (rule, origins, skips) = (ruled.rule, ruled.origins, ruled.skips);
     if is_whole(&rule.check) {
         return write_packets(alloc, input, rule, origins, skips, out);
     }
@@ -122,17 +149,15 @@ fn write_all<R: Advance + Drop, W: Write>(
 fn write_each<S: Reopen, W: Write>(
     alloc: Global,
     recording: &S,
-    rule: &Rule,
-    origins: &[Option<u64>],
-    skips: &[Skip],
+    ruled: Ruled<'_>,
     out: &mut W,
 ) -> Result<(), PassFault>
     ensures { (file : List ℕ) → S.bytes recording.now ≡ Some file
-        → WritesLinesOf (missed_lines skips.now rule.now) origins.now result file (W.contents out.old)
-        (W.contents out.new) }
+        → WritesLinesOf (missed_lines ruled.entry.skips.now ruled.entry.rule.now) ruled.entry.origins.now result file
+        (W.contents out.old) (W.contents out.new) }
 {
     match recording.reopen() {
-        Ok(input) => write_all(alloc, input, rule, origins, skips, out),
+        Ok(input) => write_missed_of(alloc, input, ruled, out),
         Err(error) => Err(PassFault::Opening(error)),
     }
 }
@@ -142,42 +167,38 @@ fn write_each<S: Reopen, W: Write>(
 fn write_missed<S: Reopen, W: Write>(
     alloc: Global,
     recording: &S,
-    rule: &Rule,
-    origins: &[Option<u64>],
-    skips: &[Skip],
+    ruled: Ruled<'_>,
     missed: u64,
     out: &mut W,
 ) -> Result<(), PassFault>
     ensures { (file : List ℕ) → S.bytes recording.now ≡ Some file → packets_in file ≡ Ok (found_in file)
-        → missed ≡ spec.missed_count rule.now (passed_of origins.now file)
-        → WritesLinesOf (missed_lines skips.now rule.now) origins.now result file (W.contents out.old)
-        (W.contents out.new) }
+        → missed ≡ spec.missed_count ruled.entry.rule.now (passed_of ruled.entry.origins.now file)
+        → WritesLinesOf (missed_lines ruled.entry.skips.now ruled.entry.rule.now) ruled.entry.origins.now result file
+        (W.contents out.old) (W.contents out.new) }
 {
     if missed == 0 {
         return Ok(());
     }
-    write_each(alloc, recording, rule, origins, skips, out)
+    write_each(alloc, recording, ruled, out)
 }
 
 /// Writes the lines of a rule, of which this is the verdict.
 fn write_rule<S: Reopen, W: Write>(
     alloc: Global,
     recording: &S,
-    rule: &Rule,
-    origins: &[Option<u64>],
-    skips: &[Skip],
+    ruled: Ruled<'_>,
     verdict: &RuleVerdict,
     out: &mut W,
 ) -> Result<(), PassFault>
     ensures { (file : List ℕ) → S.bytes recording.now ≡ Some file → packets_in file ≡ Ok (found_in file)
-        → IsVerdict rule.now (passed_of origins.now file) verdict.now
-        → WritesLinesOf (verdict_lines skips.now rule.now) origins.now result file (W.contents out.old)
-        (W.contents out.new) }
+        → IsVerdict ruled.entry.rule.now (passed_of ruled.entry.origins.now file) verdict.now
+        → WritesLinesOf (verdict_lines ruled.entry.skips.now ruled.entry.rule.now) ruled.entry.origins.now result file
+        (W.contents out.old) (W.contents out.new) }
 {
     if verdict.miscounted {
         return Ok(write_count(out, verdict)?);
     }
-    write_missed(alloc, recording, rule, origins, skips, verdict.missed, out)?;
+    write_missed(alloc, recording, ruled, verdict.missed, out)?;
     Ok(write_numbers(out, verdict)?)
 }
 
@@ -201,9 +222,11 @@ fn write_rules<S: Reopen, W: Write>(
         write_rule(
             alloc,
             recording,
-            &rules[place],
-            origins,
-            skips,
+            Ruled {
+                rule: &rules[place],
+                origins,
+                skips,
+            },
             &verdicts[place],
             out,
         )?;

@@ -17,35 +17,6 @@ use std::io::Write;
 /// What stands in front of what is told below a message.
 const BELOW: &[u8] = b"      ";
 
-/// A pass that writes the first messages that miss a rule, so many of which are still to come at most.
-#[derive(Drop)]
-struct Showing {
-    tally: Tally,
-    numbers: Numbers,
-    left: usize,
-    /// The channel of the message before, if one was written.
-    channel: Option<u16>,
-}
-
-/// Writes the number of a channel and its name on a line, if it has one and the message before was of another. The text
-/// that waits is handed on first.
-fn name_channel<W: Write>(
-    showing: &mut Showing,
-    line: &mut TextLine,
-    names: ChannelNames<'_>,
-    channel: u16,
-    out: &mut W,
-) -> io::Result<()> {
-    if showing.channel != Some(channel) {
-        showing.channel = Some(channel);
-        if let Some(name) = names.name(channel) {
-            line.finish(out)?;
-            writeln!(out, "      channel {channel} {name}")?;
-        }
-    }
-    Ok(())
-}
-
 /// Writes what was there of a message and what was expected, below the message.
 fn show_told<W: Write>(
     wanted: Wanted<'_>,
@@ -55,65 +26,83 @@ fn show_told<W: Write>(
 ) -> Result<(), PassFault> {
     let mut text = Vec::new(wanted.alloc);
     text.extend_from_slice(BELOW)?;
-    put_told(&mut text, &wanted.rule.check, before, view)?;
+    put_told(&mut text, &wanted.ruled.rule.check, before, view)?;
     text.extend_from_slice(b"\n")?;
     out.write_all(text.as_slice())?;
     Ok(())
 }
 
-/// Writes a message if it is one of those.
-fn show_message<W: Write>(
-    showing: &mut Showing,
-    line: &mut TextLine,
-    wanted: Wanted<'_>,
-    names: ChannelNames<'_>,
-    place: &Place,
-    view: &View<'_>,
-    out: &mut W,
-) -> Result<(), PassFault> {
-    let mut known = None;
-    let channel = place.channel;
-    let before = showing.tally.before(channel);
-    let (rule, origins) = (wanted.rule, wanted.origins);
-    let missed = showing
-        .tally
-        .note(rule, origins, channel, view, &mut known)?;
-    if missed && showing.left > 0 {
-        showing.left -= 1;
-        name_channel(showing, line, names, place.channel, out)?;
-        write_message(line, out, place, view)?;
-        line.finish(out)?;
-        show_told(wanted, before, view, out)?;
-    }
-    Ok(())
+/// A pass that writes the first messages that miss a rule, so many of which are still to come at most.
+#[derive(Drop)]
+struct Showing<'r> {
+    wanted: Wanted<'r>,
+    names: ChannelNames<'r>,
+    tally: Tally,
+    numbers: Numbers,
+    left: usize,
+    /// The channel of the message before, if one was written.
+    channel: Option<u16>,
 }
 
-/// Writes those of a packet's messages.
-fn show_messages<W: Write>(
-    showing: &mut Showing,
-    line: &mut TextLine,
-    wanted: Wanted<'_>,
-    names: ChannelNames<'_>,
-    packet: &Packet,
-    messages: Messages<'_>,
-    out: &mut W,
-) -> Result<(), PassFault> {
-    let (channel, kind) = (packet.header.channel, StampKind::of(&packet.header));
-    let mut number = packet.before;
-    for seen in messages {
-        number = number.saturating_add(1);
-        let place = showing.numbers.place(number, channel);
-        show_message(
-            showing,
-            line,
-            wanted,
-            names,
-            &place,
-            &View::of(kind, &seen),
-            out,
-        )?;
+impl Showing<'_> {
+    /// Writes the number of a channel and its name on a line, if it has one and the message before was of another. The
+    /// text that waits is handed on first.
+    fn name_channel<W: Write>(
+        &mut self,
+        line: &mut TextLine,
+        channel: u16,
+        out: &mut W,
+    ) -> io::Result<()> {
+        if self.channel != Some(channel) {
+            self.channel = Some(channel);
+            if let Some(name) = self.names.name(channel) {
+                line.finish(out)?;
+                writeln!(out, "      channel {channel} {name}")?;
+            }
+        }
+        Ok(())
     }
-    Ok(())
+
+    /// Writes a message if it is one of those.
+    fn show_message<W: Write>(
+        &mut self,
+        line: &mut TextLine,
+        place: &Place,
+        view: &View<'_>,
+        out: &mut W,
+    ) -> Result<(), PassFault> {
+        let mut known = None;
+        let channel = place.channel;
+        let before = self.tally.before(channel);
+        let (rule, origins) = (self.wanted.ruled.rule, self.wanted.ruled.origins);
+        let missed = self.tally.note(rule, origins, channel, view, &mut known)?;
+        if missed && self.left > 0 {
+            self.left -= 1;
+            self.name_channel(line, channel, out)?;
+            write_message(line, out, place, view)?;
+            line.finish(out)?;
+            show_told(self.wanted, before, view, out)?;
+        }
+        Ok(())
+    }
+
+    /// Writes those of a packet's messages.
+    fn show_messages<W: Write>(
+        &mut self,
+        line: &mut TextLine,
+        packet: &Packet,
+        messages: Messages<'_>,
+        out: &mut W,
+    ) -> Result<(), PassFault> {
+        let (channel, kind) = (packet.header.channel, StampKind::of(&packet.header));
+        let mut number = packet.before;
+        for seen in messages {
+            number = number.saturating_add(1);
+            let place = self.numbers.place(number, channel);
+            self.show_message(line, &place, &View::of(kind, &seen), out)?;
+        }
+        Ok(())
+    }
 }
 
 /// Writes the messages that are wanted, of the bytes that a reader has left, as their packets come, and reads no
@@ -128,6 +117,8 @@ pub(crate) fn write_shown<R: Advance + Drop, W: Write>(
     let alloc = wanted.alloc;
     let mut packets = Packets::over(alloc, input)?;
     let mut showing = Showing {
+        wanted,
+        names,
         tally: Tally::new(alloc),
         numbers: Numbers::new(alloc)?,
         left: wanted.most,
@@ -135,10 +126,7 @@ pub(crate) fn write_shown<R: Advance + Drop, W: Write>(
     };
     'packets: for _made in 0..u64::MAX {
         match packets.next() {
-            Ok(Some(packet)) => {
-                let messages = packets.messages();
-                show_messages(&mut showing, line, wanted, names, &packet, messages, out)?
-            }
+            Ok(Some(packet)) => showing.show_messages(line, &packet, packets.messages(), out)?,
             Ok(None) => break,
             Err(fault) => return Err(PassFault::Recording(fault)),
         }
@@ -157,7 +145,7 @@ fn show_packet<W: Write>(
     out: &mut W,
 ) -> Result<(), PassFault> {
     let mut text = Vec::new(wanted.alloc);
-    put_packet(&mut text, b"      packet ", packet, wanted.skips)?;
+    put_packet(&mut text, b"      packet ", packet, wanted.ruled.skips)?;
     text.extend_from_slice(b"\n")?;
     out.write_all(text.as_slice())?;
     Ok(())
@@ -174,7 +162,7 @@ pub(crate) fn write_shown_packets<R: Advance + Drop, W: Write>(
     'packets: for _made in 0..u64::MAX {
         match packets.next() {
             Ok(Some(packet)) => {
-                if left > 0 && misses_packet(wanted.rule, &packet) {
+                if left > 0 && misses_packet(wanted.ruled.rule, &packet) {
                     left -= 1;
                     show_packet(wanted, &packet, out)?;
                 }

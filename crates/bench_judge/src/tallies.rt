@@ -2,7 +2,7 @@
 ghost use Rattle.bench_judge.specs.Checks.{meets as spec_meets};
 ghost use Rattle.bench_judge.specs.Clean.{IsKnown};
 ghost use Rattle.bench_judge.specs.Selection.{Origins, selects as selects_message};
-ghost use Rattle.bench_judge.specs.Tallies.{IsLatest, IsMissIf, IsTally, miss_at, misses_next};
+ghost use Rattle.bench_judge.specs.Tallies.{IsLatest, IsTally, misses_next};
 ghost use Rattle.bench_judge.specs.Verdicts.{latest};
 ghost use Rattle.bench_select.specs.Viewed.{Viewed};
 ghost use Rattle.std.specs.Prelude.{◌≡◌, ◌+◌, ◌∷◌, ◌<◌, ◌^◌, [], true, List, length, OnOk, IfOk, if◌then◌else◌};
@@ -10,7 +10,6 @@ ghost use Rattle.std.specs.Prelude.{◌≡◌, ◌+◌, ◌∷◌, ◌<◌, ◌^
 use crate::checks::{compared, is_counted, meets};
 use crate::kept::Kept;
 use crate::selection::selects;
-use crate::verdicts::Miss;
 use ch11_layout::View;
 use judge_rules::{Check, Rule};
 use std::alloc::{AllocError, Global};
@@ -59,32 +58,6 @@ impl Tally {
             → IsLatest rule origins history self.now → result ≡ latest rule origins channel history }
     {
         self.latest.at(channel)
-    }
-
-    /// Whether a selected message meets a check. What it has is compared with the next one of its channel from now on.
-    #[inline(always)]
-    fn meets(
-        &mut self,
-        check: &Check,
-        channel: u16,
-        view: &View<'_>,
-        known: &mut Option<bool>,
-    ) -> Result<bool, AllocError>
-        requires { IsKnown known.old view.now }
-        ensures known { IsKnown known.new view.now }
-        ensures selected { self.new.selected ≡ self.old.selected }
-        ensures counted { self.new.counted ≡ self.old.counted }
-        ensures missed { self.new.missed ≡ self.old.missed }
-        ensures met { (rule : Rule) → (origins : Origins) → (history : List Viewed) → rule.check ≡ check.now
-            → IsLatest rule origins history self.old
-            → IfOk result (λ met. met
-            ≡ spec_meets check.now (latest rule origins channel history) view.now) }
-        ensures latest { (rule : Rule) → (origins : Origins) → (history : List Viewed) → rule.check ≡ check.now
-            → selects_message rule origins channel view.now ≡ true → IsLatest rule origins history self.old
-            → OnOk result (IsLatest rule origins ((channel, view.now) ∷ history) self.new) }
-    {
-        let before = self.renew(check, channel, view)?;
-        Ok(meets(check, before, view, known))
     }
 
     /// What a selected message is compared with, if it is compared with anything. What it has is compared with the next
@@ -137,38 +110,11 @@ impl Tally {
         if !selects(rule, origins, channel, view) {
             return Ok(false);
         }
-        let met = self.meets(&rule.check, channel, view, known)?;
+        let before = self.renew(&rule.check, channel, view)?;
+        let met = meets(&rule.check, before, view, known);
         self.selected = one_if(self.selected, true);
         self.counted = one_if(self.counted, is_counted(&rule.check, view, known));
         self.missed = one_if(self.missed, !met);
         Ok(!met)
-    }
-
-    /// One more message of a channel, of this number in the file. Answers it if it misses the rule.
-    pub(crate) fn note_miss(
-        &mut self,
-        rule: &Rule,
-        origins: &[Option<u64>],
-        number: u64,
-        channel: u16,
-        view: &View<'_>,
-    ) -> Result<Option<Miss>, AllocError>
-        ensures told { (history : List Viewed) → IsTally rule.now origins.now history self.old
-            → IfOk result (IsMissIf (misses_next rule.now origins.now history (channel, view.now))
-            (miss_at number (channel, view.now))) }
-        ensures noted { (history : List Viewed) → IsTally rule.now origins.now history self.old
-            → length history + 1 < 2 ^ 64
-            → OnOk result (IsTally rule.now origins.now ((channel, view.now) ∷ history) self.new) }
-    {
-        let mut known = None;
-        let stamp = view.time();
-        if self.note(rule, origins, channel, view, &mut known)? {
-            return Ok(Some(Miss {
-                number,
-                channel,
-                stamp,
-            }));
-        }
-        Ok(None)
     }
 }

@@ -1,10 +1,10 @@
 //! What is told of the first messages or packets that miss a rule.
 ghost use Rattle.bench_judge.specs.Packets.{packets_missed};
 ghost use Rattle.bench_judge.specs.Selection.{Origins};
-ghost use Rattle.bench_judge.specs.Tallies.{IsPacketTelling, IsPut, IsTelling, viewed_on};
+ghost use Rattle.bench_judge.specs.Tallies.{IsPacketTelling, IsPut, IsTelling};
 ghost use Rattle.bench_judge.specs.Told.{told_at, told_moment, told_packet};
 ghost use Rattle.bench_judge.specs.Verdicts.{missed};
-ghost use Rattle.bench_select.specs.Viewed.{viewed_in, Viewed};
+ghost use Rattle.bench_select.specs.Viewed.{Viewed, viewed_behind, viewed_in};
 ghost use Rattle.ch11_layout.specs.Stamps.{kind_of};
 ghost use Rattle.ch11_reader.specs.Listing.{listing};
 ghost use Rattle.ch11_reader.specs.declared.packet.Packet.{Packet as PacketValue};
@@ -14,6 +14,7 @@ ghost use Rattle.std.specs.Prelude.{◌≡◌, ◌+◌, ◌<◌, ◌^◌, ◌∷
 ghost use Rattle.std.specs.Prelude.{IfOk, OnOk};
 
 use crate::packets::misses_packet;
+use crate::tallied::note_miss;
 use crate::tallies::Tally;
 use crate::told::{put_packet, put_told_at};
 use crate::verdicts::Miss;
@@ -60,7 +61,7 @@ impl Telling {
             → OnOk result (IsTelling rule.now origins.now most ((channel, view.now) ∷ history) self.new) }
     {
         let last = self.tally.before(channel);
-        if let Some(miss) = self.tally.note_miss(rule, origins, number, channel, view)? {
+        if let Some(miss) = note_miss(rule, &mut self.tally, origins, number, channel, view)? {
             self.put(&miss, &rule.check, last, view)?;
         }
         Ok(())
@@ -96,7 +97,7 @@ impl Telling {
         ensures { (history : List Viewed) → (most : ℕ) → IsTelling rule.now origins.now most history self.old
             → packet.now.before ≡ length history
             → OnOk result (IsTelling rule.now origins.now most
-            (viewed_on (kind_of packet.now.header) packet.now.header.channel messages.entry history) self.new) }
+            (viewed_behind (kind_of packet.now.header) packet.now.header.channel messages.entry history) self.new) }
     {
         let channel = packet.header.channel;
         let kind = StampKind::of(&packet.header);

@@ -1,8 +1,8 @@
 //! Why a line of a dictionary of signals is refused.
 
 use crate::fault::RuleFault;
-use crate::lines::{Found, find, found_in, reason_of};
-use crate::places::{Place, line_of};
+use crate::lines::{Found, find, found_in, reason_or_more};
+use crate::places::line_of;
 use crate::reason::Reason;
 use crate::slips::Slip;
 use crate::symbols::Symbol;
@@ -30,10 +30,8 @@ pub fn dictionary_reason(
             .or(numbered_twice(line))
             .or(named_twice(text, number, line)),
     };
-    if found.is_none() && fault == RuleFault::Range {
-        return Ok(Some(one_signal_more(number, line)));
-    }
-    Ok(reason_of(number, found))
+    let more = one_signal_more(number, line);
+    Ok(reason_or_more(number, fault, found, more))
 }
 
 /// What is left of a line behind the first of its words that is this one, from its third word on.
@@ -168,12 +166,9 @@ fn named_twice<'a>(text: &[u8], number: u64, line: &'a [u8]) -> Option<Found<'a>
 
 /// The first signal of a text that has too many.
 fn one_signal_more(number: u64, line: &[u8]) -> Reason {
-    Reason::at(
-        Place {
-            line: number,
-            column: 1,
-        },
-        line.len(),
+    Reason::of_line(
+        number,
+        line,
         "this is the ten-thousand-and-first signal",
         "share the signals out over several texts",
     )

@@ -1,6 +1,6 @@
 //! Why a line of a job is refused.
 
-use crate::fault::LineFault;
+use crate::fault::{LineFault, RuleFault};
 use crate::inserted::inserted_reason;
 use crate::kinds::Kind;
 use crate::places::{Place, line_of};
@@ -162,6 +162,20 @@ pub(crate) fn reason_of(number: u64, found: Option<Found<'_>>) -> Option<Reason>
     Some(Reason::at(place, found.word.len(), found.why, found.remedy))
 }
 
+/// The reason of what was found in a line of rules or of a dictionary that is refused so. Where it has no number out of
+/// its range though it is refused for one, it is one line too many, for which this is the reason.
+pub(crate) fn reason_or_more(
+    number: u64,
+    fault: RuleFault,
+    found: Option<Found<'_>>,
+    more: Reason,
+) -> Option<Reason> {
+    if found.is_none() && fault == RuleFault::Range {
+        return Some(more);
+    }
+    reason_of(number, found)
+}
+
 /// Why a line is refused for a slip of one of its words, or for the message that it inserts.
 fn slip_reason(
     alloc: Global,
@@ -209,12 +223,9 @@ pub fn line_reason(
         ),
         LineFault::Order => Ok(Some(order_reason(text, number))),
         LineFault::Terminal => Ok(terminal_reason(text, number)),
-        LineFault::FaultCount => Ok(Some(Reason::at(
-            Place {
-                line: number,
-                column: 1,
-            },
-            line_of(text, number).len(),
+        LineFault::FaultCount => Ok(Some(Reason::of_line(
+            number,
+            line_of(text, number),
             "this is the fifth fault of its message",
             "a message has at most four",
         ))),

@@ -40,6 +40,20 @@ impl Reason {
         }
     }
 
+    /// A reason of a whole line, which has this number.
+    pub(crate) fn of_line(
+        number: u64,
+        line: &[u8],
+        why: &'static str,
+        remedy: &'static str,
+    ) -> Reason {
+        let place = Place {
+            line: number,
+            column: 1,
+        };
+        Reason::at(place, line.len(), why, remedy)
+    }
+
     /// The reason of a text of one line, where that is the line of this number of a text.
     pub fn in_line(self, number: u64) -> Reason {
         let place = |place: Place| Place {

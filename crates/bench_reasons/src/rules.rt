@@ -1,8 +1,8 @@
 //! Why a line of rules is refused.
 
 use crate::fault::RuleFault;
-use crate::lines::{Found, column_at, find, reason_of};
-use crate::places::{Place, line_of};
+use crate::lines::{Found, find, found_in, reason_or_more};
+use crate::places::line_of;
 use crate::reason::Reason;
 use crate::rule_symbols::behind_check_word;
 use crate::slips::{Slip, word_slip};
@@ -33,10 +33,8 @@ pub fn rule_reason(
             .or(turned_times(line))
             .or(too_many(line)),
     };
-    if found.is_none() && fault == RuleFault::Range {
-        return Ok(Some(one_rule_more(number, line)));
-    }
-    Ok(reason_of(number, found))
+    let more = one_rule_more(number, line);
+    Ok(reason_or_more(number, fault, found, more))
 }
 
 /// The word of a line that may not stand there, is left over, or is missing. Where a selector has a number less than it
@@ -71,12 +69,9 @@ fn word_at_fault(alloc: Global, line: &[u8]) -> Result<Option<Found<'_>>, AllocE
 /// The check `whole`, where it stands behind more than a channel and `any`.
 fn whole_not_alone(line: &[u8]) -> Option<Found<'_>> {
     let behind = behind_one_of(line, &["whole"])?;
-    Some(Found {
-        word: b"whole".as_slice(),
-        column: column_at(line, 5usize.saturating_add(behind.len())),
-        why: "whole is about packets, and stands behind any alone",
-        remedy: "write expect any whole, or expect channel N any whole, without line, from and to",
-    })
+    let why = "whole is about packets, and stands behind any alone";
+    let remedy = "write expect any whole, or expect channel N any whole, without line, from and to";
+    Some(found_in(line, b"whole".as_slice(), behind, why, remedy))
 }
 
 /// What is left of a line behind the first of its words that is one of these.
@@ -100,22 +95,15 @@ pub(crate) fn turned(line: &[u8]) -> Option<Found<'_>> {
     if spelled(10, 1, 7, low)? <= spelled(10, 1, 7, high)? {
         return None;
     }
-    Some(Found {
-        word: high,
-        column: column_at(line, high.len().saturating_add(rest.len())),
-        why: "the greatest number is below the least",
-        remedy: "write the least, and the greatest behind it, as in count 1 20",
-    })
+    let why = "the greatest number is below the least";
+    let remedy = "write the least, and the greatest behind it, as in count 1 20";
+    Some(found_in(line, high, rest, why, remedy))
 }
 
 /// A word that is below the one in front of it, of which so many bytes are left behind it.
 fn below<'a>(line: &'a [u8], word: &'a [u8], behind: &[u8], remedy: &'static str) -> Found<'a> {
-    Found {
-        word,
-        column: column_at(line, word.len().saturating_add(behind.len())),
-        why: "the greatest is below the least",
-        remedy,
-    }
+    let why = "the greatest is below the least";
+    found_in(line, word, behind, why, remedy)
 }
 
 /// The greatest value of a data word, where it is below the least.
@@ -163,22 +151,16 @@ pub(crate) fn too_many(line: &[u8]) -> Option<Found<'_>> {
         rest = behind;
     }
     let (word, behind) = next_word(rest)?;
-    Some(Found {
-        word,
-        column: column_at(line, word.len().saturating_add(behind.len())),
-        why: "this is the thirty-third data word",
-        remedy: "a message has 1 to 32 data words",
-    })
+    let why = "this is the thirty-third data word";
+    let remedy = "a message has 1 to 32 data words";
+    Some(found_in(line, word, behind, why, remedy))
 }
 
 /// The first rule of a text that has too many.
 fn one_rule_more(number: u64, line: &[u8]) -> Reason {
-    Reason::at(
-        Place {
-            line: number,
-            column: 1,
-        },
-        line.len(),
+    Reason::of_line(
+        number,
+        line,
         "this is the ten-thousand-and-first rule",
         "share the rules out over several texts",
     )

@@ -41,12 +41,9 @@ pub fn count_of_actions(text: &[u8], number: u64) -> Option<Reason> {
     if text_of(split_word(line).0) != "series" {
         return None;
     }
-    Some(Reason::at(
-        Place {
-            line: number,
-            column: 1,
-        },
-        line.len(),
+    Some(Reason::of_line(
+        number,
+        line,
         "with this line the series of the job place more than 1000000 actions",
         "end a series earlier, or take a longer step",
     ))

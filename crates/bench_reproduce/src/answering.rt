@@ -43,6 +43,7 @@ fn note_replies(answered: &mut [bool; 32], view: &View<'_>) {
         let sender = note(answered, view.word(1), view.word(2));
         let receiver = note(answered, view.word(0), view.word(last));
         if !sender && !receiver {
+            // (a command has the address of the terminal that it calls)
             let _ = note(answered, view.word(1), view.word(1));
         }
         return;
@@ -52,8 +53,10 @@ fn note_replies(answered: &mut [bool; 32], view: &View<'_>) {
         return;
     }
     for place in 0..last.min(MOST_SENT) {
+        // Whichever of them it is, the next ones are looked at too.
         let _ = note(answered, view.word(place), view.word(last));
     }
+    // (a command has the address of the terminal that it calls)
     let _ = note(answered, own, own);
 }
 

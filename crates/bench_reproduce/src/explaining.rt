@@ -173,6 +173,7 @@ impl<'a> Explainer<'a> {
         match guess_at(wanted, best.guess) {
             Some(guess) => {
                 if last != (best.guess, best.style) {
+                    // How much of it is missed is known.
                     let _ = self.try_style(wanted, &guess, best.style, next)?;
                 }
                 Ok(())
@@ -180,6 +181,7 @@ impl<'a> Explainer<'a> {
             None => {
                 self.explanation
                     .begin(Message::default(), self.due.as_slice())?;
+                // There is no better one, however much of it is missed.
                 let _ = self.scene.attempt(wanted, &self.explanation)?;
                 Ok(())
             }

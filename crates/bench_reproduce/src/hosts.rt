@@ -150,6 +150,7 @@ fn put_up(sub: u8, held: &[u16], words: &[u16]) -> Option<Action> {
         let _ = all.try_push(*word);
     }
     for place in words.len()..held.len() {
+        // At most 32 are taken.
         let _ = all.try_push(held[place]);
     }
     if all.as_slice().is_empty() || sub == 0 || sub > HIGHEST_PUT_UP {

@@ -50,7 +50,7 @@ pub(crate) fn mend_controller(explanation: &mut Explanation, case: &Case<'_>) {
     let wanted = case.wanted.part(0, case.guess.sent);
     let mut alteration = alteration_of(case, 0);
     let words = given.as_slice();
-    // Where the faults are not enough, the record comes out another.
+    // Where the faults are not enough, in each of these, the record comes out another.
     if case.guess.is_headless {
         let _ = explanation.plan(Fault::Drop { run: 0, index: 0 });
         alteration.front = 1;
@@ -92,7 +92,7 @@ pub(crate) fn mark_controller(explanation: &mut Explanation, case: &Case<'_>) {
         last
     };
     let unsound = case.wanted.has(BlockBits::INVALID_WORD_ERROR) && !masks(explanation);
-    // A mark that finds no room leaves the record another.
+    // A mark that finds no room, here and below, leaves the record another.
     if unsound {
         let _ = spoil(explanation, 0, place);
     }

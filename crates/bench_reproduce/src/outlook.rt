@@ -152,6 +152,7 @@ impl<'a> Outlook<'a> {
             let own = first.address() == address && first.subaddress() == WRAPAROUND;
             if own && !view.is_transfer() {
                 if first.is_transmit() && !view.has_error() && view.word_count() > 2 {
+                    // What finds no room is not foreseen.
                     let _ = self.shown.try_push(Shown {
                         address,
                         status: None,

@@ -56,6 +56,7 @@ fn exchange(bus: &mut Bus, wanted: &Wanted, explanation: &Explanation) -> Option
         Gap::of(LEAST_GAP),
         explanation.faults.as_slice(),
     );
+    // The tick that this gives back is the message's own.
     let _ = bus.hold(before);
     Some(talk)
 }

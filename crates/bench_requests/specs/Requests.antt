@@ -16,15 +16,16 @@ IsRefusedJob texts (fault.Job why) = (why ≢ error.Memory) × ((index : ℕ) ×
 IsRefusedJob texts fault.Memory = Unit {0}
 IsRefusedJob texts _ = ⊥
 
-abbrev with_fault : RuleError → RuleFault → CommandFault
-with_fault e rule.Memory = fault.Memory
-with_fault e rule.Word = fault.Rules e
-with_fault e rule.Number = fault.Rules e
-with_fault e rule.Range = fault.Rules e
+-- what a text comes to whose reader tells of this fault: want of memory, or that it is refused so
+abbrev pub unless_memory : RuleFault → CommandFault → CommandFault
+unless_memory rule.Memory refused = fault.Memory
+unless_memory rule.Word refused = refused
+unless_memory rule.Number refused = refused
+unless_memory rule.Range refused = refused
 
 -- the fault of rules that were refused
 abbrev pub fault_of_rules : RuleError → CommandFault
-fault_of_rules e = with_fault e e.fault
+fault_of_rules e = unless_memory e.fault (fault.Rules e)
 
 -- the first fault of a text of rules, or want of memory where it has none
 abbrev pub IsRefusedText : AllRules → CommandFault → Type 0

@@ -5,7 +5,7 @@ ghost use Rattle.signal_dictionary.specs.Parts.{parts_of};
 ghost use Rattle.std.specs.Prelude.{◌≡◌, Ok, IfOk, IfErr, map};
 
 use crate::fault::CommandFault;
-use judge_rules::RuleFault;
+use crate::rules::unless_memory;
 use signal_dictionary::{DictionaryError, Signal, read_dictionary};
 use std::alloc::Global;
 
@@ -13,10 +13,7 @@ use std::alloc::Global;
 fn fault_of<'a>(error: DictionaryError) -> CommandFault<'a>
     ensures { result ≡ fault_of_dictionary error }
 {
-    match error.fault {
-        RuleFault::Memory => CommandFault::Memory,
-        RuleFault::Word | RuleFault::Number | RuleFault::Range => CommandFault::Dictionary(error),
-    }
+    unless_memory(error.fault, CommandFault::Dictionary(error))
 }
 
 /// The signals that a text spells, or its first fault, or want of memory.

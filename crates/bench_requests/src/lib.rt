@@ -33,6 +33,6 @@ pub use jobs::jobs_of;
 pub use judging::{junit_of, recording_first, rules_asked, rules_text, verdict_on};
 pub use listing::{Listing, unless_gone};
 pub use losses::tells_of_loss;
-pub use rules::rules_of;
+pub use rules::{fault_of_rules, rules_of};
 pub use run_files::RunFiles;
 pub use settings::{RunRequest, settings_of};

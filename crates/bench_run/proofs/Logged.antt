@@ -15,15 +15,15 @@ use Rattle.bench_run.specs.Entries.{index_of, item_of}
 use Rattle.bench_run.specs.Writer.{item_with, records_at, FitsRecording, IsLogged, IsTakenBy}
 use Rattle.bench_run.proofs.Channels.{item_is, records_are}
 
-lane_at : (g : ℕ → Held) (channels : List ℕ) (i : ℕ) → i < length channels → slice_get (map g channels) i ≡ Some (g (slice_index channels i))
-lane_at g [] i low = absurd (omega (arith, low))
-lane_at g (c ∷ channels) zero low = refl
-lane_at g (c ∷ channels) (suc i) low = lane_at g channels i (omega (arith, low))
+held_at : (g : ℕ → Held) (channels : List ℕ) (i : ℕ) → i < length channels → slice_get (map g channels) i ≡ Some (g (slice_index channels i))
+held_at g [] i low = absurd (omega (arith, low))
+held_at g (c ∷ channels) zero low = refl
+held_at g (c ∷ channels) (suc i) low = held_at g channels i (omega (arith, low))
 
-pub has_place : (lanes : List Held) (i : ℕ) (h : Held) → slice_get lanes i ≡ Some h → i < length lanes
+pub has_place : (held : List Held) (i : ℕ) (h : Held) → slice_get held i ≡ Some h → i < length held
 has_place [] i h at = absurd cc
-has_place (k ∷ lanes) zero h at = omega arith
-has_place (k ∷ lanes) (suc i) h at = let low = has_place lanes i h at in omega (arith, low)
+has_place (k ∷ held) zero h at = omega arith
+has_place (k ∷ held) (suc i) h at = let low = has_place held i h at in omega (arith, low)
 
 channel_at : (channels : List ℕ) (i : ℕ) → i < length channels → slice_get channels i ≡ Some (slice_index channels i)
 channel_at channels i low = slice_get-get_or channels i 0 low
@@ -37,21 +37,21 @@ module _ {S : Type 0} (taken : S → Option (List ℕ)) (failures : S → ℕ) (
   abbrev pub holding : ℕ → List Entry → Held
   holding t got = held_in f (slice_index channels t) (map (item_of channels) got)
 
-  lane_is : (got : List Entry) (r : Recording S) (t : ℕ) → IsLogged taken failures f prologue before channels got r true → t < length channels → slice_get r.lanes t ≡ Some (holding t got)
-  lane_is got r t is low =
-      ap (λ (lanes : List Held). slice_get lanes t) is.recording.lanes
-      ∙ lane_at (λ channel. held_in f channel is.items) channels t low
+  held_is : (got : List Entry) (r : Recording S) (t : ℕ) → IsLogged taken failures f prologue before channels got r true → t < length channels → slice_get r.held t ≡ Some (holding t got)
+  held_is got r t is low =
+      ap (λ (held : List Held). slice_get held t) is.recording.held
+      ∙ held_at (λ channel. held_in f channel is.items) channels t low
       ∙ ap (λ (items : List Item). Some (held_in f (slice_index channels t) items)) (is.all refl)
 
   -- an entry that fits is taken
   pub fitting : LatestIsLast → AreDistinct channels → (got : List Entry) (r : Recording S) (x : Entry) → IsLogged taken failures f prologue before channels got r true → FitsRecording channels got x
-      → IsTakenBy r.lanes x (holding (index_of x) got)
-  fitting latest distinct got r (entry.End index) is fits = lane_is got r index is fits
+      → IsTakenBy r.held x (holding (index_of x) got)
+  fitting latest distinct got r (entry.End index) is fits = held_is got r index is fits
   fitting latest distinct got r (entry.Message index number message) is fits =
       let last : latest_number (holding index got) ≡ last_number (records_at index got) =
       latest f (slice_index channels index) (map (item_of channels) got) ∙ ap last_number (records_are channels index got distinct fits.index_low (is.indices refl)) in
       record {
-        lane = lane_is got r index is fits.index_low;
+        there = held_is got r index is fits.index_low;
         next = record { above = subst (λ n. n < number) (sym last) fits.next.above; stamp = fits.next.stamp };
       }
 
@@ -131,7 +131,7 @@ module _ {S : Type 0} (taken : S → Option (List ℕ)) (failures : S → ℕ) (
   -- one that the recorder was given
   pub one_more : LatestIsLast → AreDistinct channels → (got : List Entry) (r s : Recording S) (x : Entry) (whole result : Bool) → whole ≡ true
       → (result ≡ true → GoesOn taken (index_of x) (item_with x) r s) → (result ≡ true → index_of x < length channels) → (result ≡ false → s ≡ r)
-      → ((h : Held) → index_of x < length channels → IsTakenBy r.lanes x h → result ≡ true)
+      → ((h : Held) → index_of x < length channels → IsTakenBy r.held x h → result ≡ true)
       → s.writing.finished ≡ false → s.writing.taken ≤ r.writing.taken + 524288
       → failures s.writing.sink ≡ cond (r.writing.failed || not s.writing.failed) (failures r.writing.sink) (failures r.writing.sink + 1)
       → IsLogged taken failures f prologue before channels got r whole → IsLogged taken failures f prologue before channels (got ++ x ∷ []) s result

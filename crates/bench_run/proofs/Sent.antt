@@ -19,6 +19,8 @@ use Rattle.bc_machine.specs.contracts.agenda.Agenda as agenda
 use Rattle.bc_machine.specs.contracts.agenda.Agenda.TheInside as agenda_inside
 use Rattle.bc_machine.specs.contracts.actions.Actions as actions
 use Rattle.bc_machine.specs.contracts.action_rows.Row as row
+use Rattle.bc_machine.specs.contracts.beside.Beside as beside
+use Rattle.bc_machine.specs.contracts.beside.Beside.TheInside as beside_inside
 use Rattle.bc_machine.specs.contracts.schedule.Schedule as schedule
 use Rattle.bc_machine.specs.contracts.schedule.Schedule.TheInside as schedule_inside
 use Rattle.bc_machine.specs.contracts.stack.Stack as stack
@@ -81,8 +83,11 @@ sources_send = search (sendable, crosses) depth 40 fits 10000
 row_send : IsSend row.the_row
 row_send = search (sendable, crosses) depth 40 fits 10000
 
+beside_send : IsSend beside.the_row
+beside_send = view_send beside_inside.the_row _ _ _ _ (declared_send beside_inside.the_type ((search (sendable, crosses) depth 40 fits 20000), ((search (sendable, crosses) depth 40 fits 20000), ((search (sendable, crosses) depth 40 fits 20000), ((search (host_action_send, sendable, crosses) depth 40 fits 20000), tt)))))
+
 schedule_send : IsSend schedule.the_row
-schedule_send = view_send schedule_inside.the_row _ _ _ _ (declared_send schedule_inside.the_type ((search (row_send, sendable, crosses) depth 40 fits 20000), ((search (host_action_send, sendable, crosses) depth 40 fits 20000), ((search (row_send, sendable, crosses) depth 40 fits 20000), ((search (sendable, crosses) depth 40 fits 20000), ((search (sendable, crosses) depth 40 fits 20000), ((search (sendable, crosses) depth 40 fits 20000), ((search (sources_send, sendable, crosses) depth 40 fits 20000), tt))))))))
+schedule_send = view_send schedule_inside.the_row _ _ _ _ (declared_send schedule_inside.the_type ((search (row_send, sendable, crosses) depth 40 fits 20000), ((search (beside_send, sendable, crosses) depth 40 fits 20000), ((search (row_send, sendable, crosses) depth 40 fits 20000), ((search (sendable, crosses) depth 40 fits 20000), ((search (sendable, crosses) depth 40 fits 20000), ((search (sendable, crosses) depth 40 fits 20000), ((search (sources_send, sendable, crosses) depth 40 fits 20000), tt))))))))
 
 agenda_send : IsSend agenda.the_row
 agenda_send = view_send agenda_inside.the_row _ _ _ _ (declared_send agenda_inside.the_type ((search (schedule_send, sendable, crosses) depth 40 fits 20000), ((search (schedule_send, sendable, crosses) depth 40 fits 20000), ((search (sendable, crosses) depth 40 fits 20000), ((search (sendable, crosses) depth 40 fits 20000), ((search (sendable, crosses) depth 40 fits 20000), ((search (sendable, crosses) depth 40 fits 20000), tt)))))))
@@ -109,7 +114,7 @@ due_send : IsSend due.the_row
 due_send = declared_send due.the_type (search (sendable, crosses) depth 40 fits 10000, (host_action_send, tt))
 
 waiting_send : IsSend (waiting.the_row due.the_row)
-waiting_send = search (due_send, sendable, crosses) depth 40 fits 20000
+waiting_send = search (due_send, sendable, crosses) depth 40 fits 40000
 
 occasions_send : IsSend occasions.the_row
 occasions_send = search (sendable, crosses) depth 40 fits 20000
@@ -132,8 +137,11 @@ sources_sync = search (sendable, crosses) depth 40 fits 10000
 row_sync : IsSync row.the_row
 row_sync = search (sendable, crosses) depth 40 fits 10000
 
+beside_sync : IsSync beside.the_row
+beside_sync = view_sync beside_inside.the_row _ _ _ _ (declared_sync beside_inside.the_type ((search (sendable, crosses) depth 40 fits 20000), ((search (sendable, crosses) depth 40 fits 20000), ((search (sendable, crosses) depth 40 fits 20000), ((search (host_action_sync, sendable, crosses) depth 40 fits 20000), tt)))))
+
 schedule_sync : IsSync schedule.the_row
-schedule_sync = view_sync schedule_inside.the_row _ _ _ _ (declared_sync schedule_inside.the_type ((search (row_sync, sendable, crosses) depth 40 fits 20000), ((search (host_action_sync, sendable, crosses) depth 40 fits 20000), ((search (row_sync, sendable, crosses) depth 40 fits 20000), ((search (sendable, crosses) depth 40 fits 20000), ((search (sendable, crosses) depth 40 fits 20000), ((search (sendable, crosses) depth 40 fits 20000), ((search (sources_sync, sendable, crosses) depth 40 fits 20000), tt))))))))
+schedule_sync = view_sync schedule_inside.the_row _ _ _ _ (declared_sync schedule_inside.the_type ((search (row_sync, sendable, crosses) depth 40 fits 20000), ((search (beside_sync, sendable, crosses) depth 40 fits 20000), ((search (row_sync, sendable, crosses) depth 40 fits 20000), ((search (sendable, crosses) depth 40 fits 20000), ((search (sendable, crosses) depth 40 fits 20000), ((search (sendable, crosses) depth 40 fits 20000), ((search (sources_sync, sendable, crosses) depth 40 fits 20000), tt))))))))
 
 actions_sync : IsSync actions.the_row
 actions_sync = search (schedule_sync, sendable, crosses) depth 40 fits 10000

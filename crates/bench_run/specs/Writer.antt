@@ -88,15 +88,15 @@ Records taken failures channels got old old_whole got' new new_whole =
     (f : Format) (prologue : List ℕ) (before : _) → IsLogged taken failures f prologue before channels got old old_whole
     → IsLogged taken failures f prologue before channels got' new new_whole
 
--- a lane that takes a message
-pub record TakesMessage (lanes : List Held) (index number : ℕ) (message : Record) (h : Held) : Type 0 where
-  pub lane : slice_get lanes index ≡ Some h
+-- a channel that takes a message
+pub record TakesMessage (held : List Held) (index number : ℕ) (message : Record) (h : Held) : Type 0 where
+  pub there : slice_get held index ≡ Some h
   pub next : IsNextNumber (latest_number h) number message
 
--- a lane that takes the entry
+-- a channel that takes the entry
 abbrev pub IsTakenBy : List Held → Entry → Held → Type 0
-IsTakenBy lanes (entry.Message index number message) h = TakesMessage lanes index number message h
-IsTakenBy lanes (entry.End index) h = slice_get lanes index ≡ Some h
+IsTakenBy held (entry.Message index number message) h = TakesMessage held index number message h
+IsTakenBy held (entry.End index) h = slice_get held index ≡ Some h
 
 -- numbers that rise from above `low` on, and stamps below 2^48
 abbrev pub AreOrdered : ℕ → List Numbered → Type 0

@@ -36,6 +36,7 @@ pub(crate) struct Before<'s, S> {
 fn version_fits(settings: &Settings)
     ensures { settings.now.version < 2 ^ 8 }
 {
+    // (its range is known once it is read)
     let _version = settings.version;
 }
 
@@ -82,6 +83,7 @@ pub(crate) fn stopped<S: Sink>(alloc: Global, before: &Before<'_, S>, log: Log<S
     requires logged { HasBegun S.taken S.failures before.now.settings.now before.now.sink.value log.recorder log.whole }
     ensures { AnswersRun S.taken S.failures before.now (Err result) }
 {
+    // (what stands behind a reference is known once it is read)
     let _before = before;
     let Log { recorder, whole: _ } = log;
     LiveError {

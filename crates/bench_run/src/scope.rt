@@ -37,6 +37,7 @@ pub(crate) fn begin<S: Sink>(
     ensures { IsRunLogged S.taken S.failures settings.now before.now.value channels.now [] result.recorder
         result.whole }
 {
+    // (what stands behind a reference is known once it is read)
     let _places = channels.len();
     let _before = before;
     let mut recorder = recorder;

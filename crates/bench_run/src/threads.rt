@@ -322,6 +322,7 @@ pub(crate) fn join_all<R: Threads, S>(
         before.now.most before.now.boxes.now before.now.inboxes.value.items result.items }
     ensures unsent { (t : ℕ) → vec_len handles.entry ≤ t → with_tag index_of t (sent rest.new) ≡ [] }
 {
+    // (what stands behind a reference is known once it is read)
     let _before = before;
     for handle in handles {
         joined.push_reserved(join_one(rt, trunk, handle, rest));

@@ -48,7 +48,7 @@ impl<S: Sink> Log<S> {
             → GoesOn S.taken (index_of entry.now) (item_with entry.now) self.old.recorder self.new.recorder }
         ensures index { IsTrue result → index_of entry.now < channels }
         ensures refused { IsFalse result → self.new.recorder ≡ self.old.recorder }
-        ensures when { (h : Held) → index_of entry.now < channels → IsTakenBy self.old.recorder.lanes entry.now h
+        ensures when { (h : Held) → index_of entry.now < channels → IsTakenBy self.old.recorder.held entry.now h
             → result ≡ true }
         ensures unfinished { self.new.recorder.writing.finished ≡ false }
         ensures few { self.new.recorder.writing.taken ≤ self.old.recorder.writing.taken + 524288 }

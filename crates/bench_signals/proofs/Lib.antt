@@ -4,4 +4,5 @@ mod Keeping
 mod Listed
 mod Noted
 mod Parts
+mod Printed
 mod Written

@@ -1,4 +1,5 @@
 pub mod Counting
+pub mod FigureText
 pub mod Figures
 pub mod Latest
 pub mod Sheets

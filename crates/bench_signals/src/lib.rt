@@ -1,5 +1,5 @@
 //! The command `bench signals`: the values of signals in a recording as comma-separated values, a row a value or a row
-//! a message; and the figures of signals.
+//! a message; and the figures of signals, as a value and as text.
 //!
 //! It may know: dictionaries of signals and their values, bodies, layouts, the reader, the packets of a stream,
 //! selections, the dump, times, words of a text, `bench_export`. Its tests: `command_tests`. Its wrong bodies:

@@ -310,6 +310,7 @@ impl Room {
     {
         self.begin(sheet, clock, place, view)?;
         self.push_frame(is_prefixed(sheet.table.columns), view)?;
+        // A frame has its row whether it has a value or not.
         let _any = self.push_cells(sheet, place.channel, view)?;
         write_row(writer, &self.row)
     }

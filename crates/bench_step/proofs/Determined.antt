@@ -174,10 +174,7 @@ to_state s d reply.Unknown h = absurd h
 
 to_show : (s : ReplayState) (r : Reply) → Replies s show r → is_memory r ≡ false → Is (HasMessageNumbered s s.place) (reply.Message s.place) (IsAbsent s s.place) (reply.Refused error.Past) r
 to_show s (reply.At n) h m = absurd h
-to_show s (reply.Refused (error.Mismatch c k)) h m = absurd h
-to_show s (reply.Refused error.Past) h m = inr (h, refl)
-to_show s (reply.Refused error.Start) h m = absurd h
-to_show s (reply.Refused error.Memory) h m = cc
+to_show s (reply.Refused e) h m = inr (h.0, ap reply.Refused h.1)
 to_show s (reply.Message n) h m = inl (h.0, ap reply.Message h.1)
 to_show s (reply.Shown detail) h m = absurd h
 to_show s reply.Help h m = absurd h
@@ -186,10 +183,7 @@ to_show s reply.Unknown h m = absurd h
 
 to_show_at : (s : ReplayState) (n : ℕ) (r : Reply) → Replies s (show_at n) r → is_memory r ≡ false → Is (HasMessageNumbered s n) (reply.Message n) (IsAbsent s n) (reply.Refused error.Past) r
 to_show_at s n (reply.At k) h m = absurd h
-to_show_at s n (reply.Refused (error.Mismatch c k)) h m = absurd h
-to_show_at s n (reply.Refused error.Past) h m = inr (h, refl)
-to_show_at s n (reply.Refused error.Start) h m = absurd h
-to_show_at s n (reply.Refused error.Memory) h m = cc
+to_show_at s n (reply.Refused e) h m = inr (h.0, ap reply.Refused h.1)
 to_show_at s n (reply.Message k) h m = inl (h.0, ap reply.Message h.1)
 to_show_at s n (reply.Shown detail) h m = absurd h
 to_show_at s n reply.Help h m = absurd h

@@ -1,5 +1,5 @@
 -- A session goes on line by line.
-use Rattle.std.proofs.Common.{◌≡◌, ℕ, ◌<◌, List, [], ◌∷◌, ◌++◌, length, Option, None, Some, IfSome, refl, sym, ap, ◌∙◌, subst, append_assoc, append-nil}
+use Rattle.std.proofs.Common.{◌≡◌, ℕ, ◌<◌, List, [], ◌∷◌, ◌++◌, length, Option, None, Some, IfSome, inl, refl, sym, ap, ◌∙◌, subst, append_assoc, append-nil}
 use Rattle.std.specs.Prelude.{Bool, true, false, ◌||◌}
 use Rattle.std.proofs.KnownBytes.{Appends-trans, Appends-nil}
 use Rattle.std.specs.List.{before_first}
@@ -13,8 +13,8 @@ use Rattle.text_lines.specs.Lines.{is_line_end, text_lines}
 use Rattle.text_lines.proofs.LineLemmas.{text_lines-none}
 use Rattle.replay.specs.Moves.{ReplayState}
 use Rattle.bench_step.specs.Commands.{asked}
-use Rattle.bench_step.specs.Session.{Replies, after_reply, reply_text, is_memory, MayTell, AreReplies, after_replies, AreMessagesTold, session_text, any_memory}
-use Rattle.bench_step.specs.Answering.{IsLineAnswered, IsSession, IsAllRead, MayBeDebugged, IsThrough, IsEnded, IsReaders, IsCutShort, IsBegun, is_quit, up_to_quit, any_quit, opened_on}
+use Rattle.bench_step.specs.Session.{Replies, after_reply, answer_text, is_memory, AreReplies, after_replies, session_text, any_memory}
+use Rattle.bench_step.specs.Answering.{IsLineAnswered, IsSession, IsAllRead, MayBeDebugged, IsThrough, IsEnded, IsReaders, IsCutShort, IsBegun, Ends, is_quit, up_to_quit, any_quit, opened_on}
 use Rattle.bench_step.specs.declared.manners.Manner.{Manner}
 use Rattle.bench_step.specs.declared.replies.Reply.{Reply}
 use Rattle.bench_step.proofs.Ending.{end_is, one_more_quit, last_quits, all_to_quit, none_quits}
@@ -34,21 +34,12 @@ one_more_after : (s : ReplayState) (replies : List Reply) (r : Reply) → after_
 one_more_after s [] r = refl
 one_more_after s (q ∷ qs) r = one_more_after (after_reply q s) qs r
 
-one_more_told : (manner : Manner) (replies : List Reply) (ts : List Text) (r : Reply) (t : Text) → AreMessagesTold manner replies ts → MayTell manner r t
-    → AreMessagesTold manner (replies ++ r ∷ []) (ts ++ t ∷ [])
-one_more_told manner [] [] r t are this = (this, tt)
-one_more_told manner [] (u ∷ us) r t are this = absurd are
-one_more_told manner (q ∷ qs) [] r t are this = absurd are
-one_more_told manner (q ∷ qs) (u ∷ us) r t are this = (are.0, one_more_told manner qs us r t are.1 this)
-
-one_more_text : (manner : Manner) (s : ReplayState) (replies : List Reply) (ts : List Text) (r : Reply) (t : Text) → AreMessagesTold manner replies ts
-    → session_text (replies ++ r ∷ []) (ts ++ t ∷ []) s ≡ session_text replies ts s ++ (reply_text r (after_reply r (after_replies replies s)) ++ t)
-one_more_text manner s [] [] r t are = append-nil (reply_text r (after_reply r s) ++ t)
-one_more_text manner s [] (u ∷ us) r t are = absurd are
-one_more_text manner s (q ∷ qs) [] r t are = absurd are
-one_more_text manner s (q ∷ qs) (u ∷ us) r t are =
-    ap (λ (l : Text). (reply_text q (after_reply q s) ++ u) ++ l) (one_more_text manner (after_reply q s) qs us r t are.1)
-    ∙ sym (append_assoc (reply_text q (after_reply q s) ++ u) (session_text qs us (after_reply q s)) (reply_text r (after_reply r (after_replies qs (after_reply q s))) ++ t))
+one_more_text : (manner : Manner) (s : ReplayState) (replies : List Reply) (r : Reply)
+    → session_text manner (replies ++ r ∷ []) s ≡ session_text manner replies s ++ answer_text manner r (after_reply r (after_replies replies s))
+one_more_text manner s [] r = append-nil (answer_text manner r (after_reply r s))
+one_more_text manner s (q ∷ qs) r =
+    ap (λ (l : Text). answer_text manner q (after_reply q s) ++ l) (one_more_text manner (after_reply q s) qs r)
+    ∙ sym (append_assoc (answer_text manner q (after_reply q s)) (session_text manner qs (after_reply q s)) (answer_text manner r (after_reply r (after_replies qs (after_reply q s)))))
 
 one_more_memory : (replies : List Reply) (r : Reply) → any_memory (replies ++ r ∷ []) ≡ (any_memory replies || is_memory r)
 one_more_memory [] r = or_false (is_memory r)
@@ -70,7 +61,7 @@ pub record IsGoingOn (manner : Manner) (s new : ReplayState) (left leaves got ge
 -- no line was read yet
 pub begins : (manner : Manner) (s : ReplayState) (left got : Option (List ℕ)) → IsGoingOn manner s s left left got got false
 begins manner s left got = record {
-  session = record { lines = []; replies = []; told = []; read = known left; lawful = tt; after = refl; tells = tt; printed = Appends-nil got; memory = refl };
+  session = record { lines = []; replies = []; read = known left; lawful = tt; after = refl; printed = Appends-nil got; memory = refl };
   on = refl;
 }
   where
@@ -104,12 +95,10 @@ goes_on : (manner : Manner) (s mid new : ReplayState) (left leaves then got gets
 goes_on manner s mid new left leaves then got gets last line bytes before this after ends h some is gave drops a both = record {
   lines = h.lines ++ line ∷ [];
   replies = h.replies ++ a.reply ∷ [];
-  told = h.told ++ a.told ∷ [];
   read = more_read left leaves then h.lines line bytes some is gave drops h.read;
   lawful = one_more_reply manner s h.lines h.replies line a.reply h.lawful (rw (← h.after) a.lawful);
   after = a.after ∙ (rw h.after (sym (one_more_after s h.replies a.reply)));
-  tells = one_more_told manner h.replies h.told a.reply a.told h.tells a.tells;
-  printed = rw (one_more_text manner s h.replies h.told a.reply a.told h.tells, ← h.after, ← a.after) (Appends-trans got gets last (session_text h.replies h.told s) (reply_text a.reply new ++ a.told) h.printed a.printed);
+  printed = rw (one_more_text manner s h.replies a.reply, ← h.after, ← a.after) (Appends-trans got gets last (session_text manner h.replies s) (answer_text manner a.reply new) h.printed a.printed);
   memory = both ∙ (rw (h.memory, a.memory) (sym (one_more_memory h.replies a.reply)));
 }
 
@@ -156,7 +145,7 @@ quits manner s mid new left leaves then got gets last line bytes before this aft
 ends : (manner : Manner) (s mid : ReplayState) (left leaves then got gets : Option (List ℕ)) (refused : Bool) → (h : IsSession manner s mid left leaves got gets refused) → IsAtEnd leaves → DropsThrough leaves then 10
     → (t : IsSession manner s mid left then got gets refused) × (t.lines ≡ h.lines) × IsEnded left then
 ends manner s mid None leaves then got gets refused h end drops =
-    (record { lines = h.lines; replies = h.replies; told = h.told; read = tt; lawful = h.lawful; after = h.after; tells = h.tells; printed = h.printed; memory = h.memory }, refl, tt)
+    (record { lines = h.lines; replies = h.replies; read = tt; lawful = h.lawful; after = h.after; printed = h.printed; memory = h.memory }, refl, tt)
 ends manner s mid (Some text) None then got gets refused h end drops = let wrong = h.read.1 in cc
 ends manner s mid (Some text) (Some xs) then got gets refused h end drops =
     let none : then ≡ Some [] = drops ∙ (rw end refl) in
@@ -164,11 +153,9 @@ ends manner s mid (Some text) (Some xs) then got gets refused h end drops =
       record {
         lines = h.lines;
         replies = h.replies;
-        told = h.told;
         read = ([], none, h.read.2 ∙ (rw same refl));
         lawful = h.lawful;
         after = h.after;
-        tells = h.tells;
         printed = h.printed;
         memory = h.memory;
       },
@@ -227,3 +214,8 @@ begun manner known_manner jobs parts recording s left got gets f accepted is sam
   subst (λ (m : Manner). IsCutShort m (opened_on jobs parts recording) left got gets f) same
       (subst (λ (at : ReplayState). IsCutShort known_manner at left got gets f) is h),
 )
+
+-- memory was refused before a line was read
+pub no_line : (manner : Manner) (jobs shown : List JobState) (parts : List ChannelPart) (recording : List ℕ) (left got : Option (List ℕ)) → MayBeDebugged shown parts recording
+    → Ends manner jobs parts recording left left got got fault.Memory
+no_line manner jobs shown parts recording left got accepted = inl (accepted.readable, record { reader = refl; writer = refl })

@@ -17,8 +17,8 @@ use Rattle.replay.specs.Accord.{Agrees}
 use Rattle.replay.specs.Differences.{IsFirstDifference}
 use Rattle.replay.specs.Moves.{ReplayState}
 use Rattle.bench_step.specs.Commands.{Asked, quit, asked}
-use Rattle.bench_step.specs.Session.{Replies, after_reply, reply_text, is_memory, is_end, MayTell, AreReplies}
-use Rattle.bench_step.specs.Session.{after_replies, AreMessagesTold, session_text, any_memory}
+use Rattle.bench_step.specs.Session.{Replies, after_reply, answer_text, is_memory, is_end, AreReplies}
+use Rattle.bench_step.specs.Session.{after_replies, session_text, any_memory}
 use Rattle.bench_step.specs.Shown.{IsShown, jobs_under}
 use Rattle.bench_step.specs.declared.manners.Manner.{Manner}
 use Rattle.bench_step.specs.declared.replies.Reply.{Reply}
@@ -30,11 +30,9 @@ use Rattle.bench_step.specs.declared.fault.StepFault.TheVariants as fault
 pub record IsLineAnswered (manner : Manner) (old new : ReplayState) (line : Text) (got gets : Option (List ℕ))
     (refused ends : Bool) : Type 0 where
   pub reply : Reply
-  pub told : Text
   pub lawful : Replies old (asked manner line) reply
   pub after : new ≡ after_reply reply old
-  pub tells : MayTell manner reply told
-  pub printed : Appends got gets (reply_text reply new ++ told)
+  pub printed : Appends got gets (answer_text manner reply new)
   pub memory : refused ≡ is_memory reply
   pub end : ends ≡ is_end reply
 
@@ -44,12 +42,10 @@ pub record IsSession (manner : Manner) (s new : ReplayState) (left leaves got ge
     (refused : Bool) : Type 0 where
   pub lines : List Text
   pub replies : List Reply
-  pub told : List Text
   pub read : IfSome left (λ text. (rest : List ℕ) × (leaves ≡ Some rest) × (text_lines text ≡ lines ++ text_lines rest))
   pub lawful : AreReplies manner s lines replies
   pub after : new ≡ after_replies replies s
-  pub tells : AreMessagesTold manner replies told
-  pub printed : Appends got gets (session_text replies told s)
+  pub printed : Appends got gets (session_text manner replies s)
   pub memory : refused ≡ any_memory replies
 
 -- a line that ends the session

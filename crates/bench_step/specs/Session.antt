@@ -1,7 +1,6 @@
 -- A session (own choice): lines, and what is replied to each of them, from the state that those before it left.
-use Rattle.std.specs.Prelude.{◌≡◌, ◌≢◌, ℕ, ◌+◌, ◌-◌, ◌<◌, ◌≤◌, ◌==◌, ◌⊎◌, Bool, true, false, not, List, [], ◌∷◌, ◌++◌}
-use Rattle.std.specs.Prelude.{length}
-use Rattle.std.specs.Prelude.{Option, None, Some, codes, decimal}
+use Rattle.std.specs.Prelude.{◌≡◌, ◌≢◌, ℕ, ◌+◌, ◌-◌, ◌<◌, ◌≤◌, ◌⊎◌, Bool, true, false, List, [], ◌∷◌, ◌++◌}
+use Rattle.std.specs.Prelude.{length, Option, None, Some, codes, decimal}
 use Rattle.std.specs.List.{flat_map, zip, list_any}
 use Rattle.text_lines.specs.Words.{Text}
 use Rattle.job_file.specs.Jobs.{JobState, job_in}
@@ -15,9 +14,13 @@ use Rattle.replay.specs.Codes.{error_text}
 use Rattle.replay.specs.Places.{latest_kept_number}
 use Rattle.replay.specs.Moves.{ReplayState, at_place, total_of, IsNextMet, IsNowhere, IsLatestMet, IsNowhereBefore}
 use Rattle.replay.specs.Moves.{PastWhere, StartWhere, IsMemory}
+use Rattle.bench_select.specs.Viewed.{Viewed, viewed_in}
+use Rattle.bench_decode.specs.declared.line.Shown.TheVariants.{Plain}
+use Rattle.bench_decode.specs.declared.messages.Place.{Place}
+use Rattle.bench_decode.specs.MessageText.{message_line}
 use Rattle.bench_state.specs.declared.details.Detail.{Detail}
 use Rattle.bench_state.specs.StateText.{channel_text}
-use Rattle.bench_places.specs.Places.{latest_of, place_before, place_of}
+use Rattle.bench_places.specs.Places.{count_to, latest_of, message_of_number, place_before, place_of}
 use Rattle.bench_places.specs.declared.sought.Sought.TheVariants.{Later, Commands}
 use Rattle.bench_step.specs.Commands.{Asked, forward, back, go, go_time, seek, find, find_back, select, select_back}
 use Rattle.bench_step.specs.Commands.{state, show, show_at, help, quit, no_condition, unknown, asked}
@@ -41,6 +44,20 @@ job_text detail s job part =
 -- the lines of all channels, in the order of the jobs
 unfoldable pub state_text : Detail → ReplayState → Text
 state_text detail s = flat_map (λ (p : JobState × ChannelPart). job_text detail s p.0 p.1) (zip s.jobs s.parts)
+
+-- ---- the text of a message
+
+-- where the message of a number stands that is of a channel
+abbrev pub place_in : List Found → ℕ → ℕ → Place
+place_in found n channel = record { number = n; channel = channel; in_channel = count_to channel n found }
+
+abbrev pub line_of : List Found → ℕ → Option Viewed → Text
+line_of found n None = []
+line_of found n (Some h) = message_line Plain (place_in found n h.0) h.1
+
+-- the line of the message of a number; none where the file has no such message, as at place 0
+unfoldable pub message_text : ℕ → List Found → Text
+message_text n found = line_of found n (message_of_number n (viewed_in found))
 
 -- ---- one line
 
@@ -73,9 +90,9 @@ RepliesPlaceFound place (reply.At n) = place ≡ Some n
 RepliesPlaceFound place (reply.Refused e) = PastWhere (place ≡ None) e ⊎ IsMemory e
 RepliesPlaceFound place _ = ⊥
 
--- What may be replied in a state to a line that asks this. Memory may be refused for a move that can be made, for a
--- message that is there, and for what stands behind `find`, before it is known whether that is a condition that some
--- message meets, or a selector that is about one.
+-- What may be replied in a state to a line that asks this. Memory may be refused for a move that can be made, and for
+-- what stands behind `find`, before it is known whether that is a condition that some message meets, or a selector that
+-- is about one.
 abbrev pub Replies : ReplayState → Asked → Reply → Type 0
 Replies s (forward k) (reply.At n) = (s.place + k ≤ total_of s) × (n ≡ s.place + k)
 Replies s (forward k) (reply.Refused e) = PastWhere (total_of s < s.place + k) e
@@ -94,9 +111,9 @@ Replies s (select selector) r = RepliesPlaceFound (place_of (Commands selector) 
 Replies s (select_back selector) r = RepliesPlaceFound (latest_of (Commands selector) s.place s.found) r
 Replies s (state detail) (reply.Shown shown) = shown ≡ detail
 Replies s show (reply.Message n) = HasMessageNumbered s s.place × (n ≡ s.place)
-Replies s show (reply.Refused e) = PastWhere (IsAbsent s s.place) e
+Replies s show (reply.Refused e) = IsAbsent s s.place × (e ≡ error.Past)
 Replies s (show_at n) (reply.Message m) = HasMessageNumbered s n × (m ≡ n)
-Replies s (show_at n) (reply.Refused e) = PastWhere (IsAbsent s n) e
+Replies s (show_at n) (reply.Refused e) = IsAbsent s n × (e ≡ error.Past)
 Replies s help reply.Help = Unit {0}
 Replies s quit reply.Quit = Unit {0}
 Replies s no_condition reply.Unknown = Unit {0}
@@ -109,7 +126,7 @@ abbrev pub after_reply : Reply → ReplayState → ReplayState
 after_reply (reply.At n) s = at_place n s
 after_reply _ s = s
 
--- what is printed in that state, except the message as people read it
+-- what is printed in that state, except a message
 abbrev pub reply_text : Reply → ReplayState → Text
 reply_text (reply.At n) s = codes "at " ++ (decimal n ++ codes "\n")
 reply_text (reply.Refused e) s = error_text e ++ codes "\n"
@@ -119,18 +136,16 @@ reply_text reply.Help s = help_text
 reply_text reply.Quit s = []
 reply_text reply.Unknown s = codes "unknown\n"
 
--- whether the message of a number is shown as people read it: where that is asked, and behind each move where lines are
--- typed
-abbrev pub tells_message : Manner → Reply → Bool
-tells_message manner (reply.Message n) = true
-tells_message Typed (reply.At n) = not (n == 0)
-tells_message manner _ = false
+-- the message that is shown behind it: the one that was asked for and, where lines are typed, the one at the place that
+-- a move ended at
+abbrev pub told_text : Manner → Reply → List Found → Text
+told_text manner (reply.Message n) found = message_text n found
+told_text Typed (reply.At n) found = message_text n found
+told_text manner _ found = []
 
--- The text of a message is that of a decoder, of which is said here that there is some where the message was asked for;
--- behind a move it may be left out, for want of memory. There is none where no message is shown.
-abbrev pub MayTell : Manner → Reply → Text → Type 0
-MayTell manner (reply.Message n) told = 0 < length told
-MayTell manner r told = tells_message manner r ≡ false → told ≡ []
+-- all that is printed in that state
+abbrev pub answer_text : Manner → Reply → ReplayState → Text
+answer_text manner r s = reply_text r s ++ told_text manner r s.found
 
 -- memory was refused
 abbrev pub is_memory : Reply → Bool
@@ -157,18 +172,10 @@ abbrev pub after_replies : List Reply → ReplayState → ReplayState
 after_replies [] s = s
 after_replies (r ∷ rs) s = after_replies rs (after_reply r s)
 
--- to each reply the text of the message that is shown behind it, if one is
-abbrev pub AreMessagesTold : Manner → List Reply → List Text → Type 0
-AreMessagesTold manner [] [] = Unit {0}
-AreMessagesTold manner [] (t ∷ ts) = ⊥
-AreMessagesTold manner (r ∷ rs) [] = ⊥
-AreMessagesTold manner (r ∷ rs) (t ∷ ts) = MayTell manner r t × AreMessagesTold manner rs ts
-
 -- all that is printed
-abbrev pub session_text : List Reply → List Text → ReplayState → Text
-session_text [] ts s = []
-session_text (r ∷ rs) [] s = []
-session_text (r ∷ rs) (t ∷ ts) s = (reply_text r (after_reply r s) ++ t) ++ session_text rs ts (after_reply r s)
+abbrev pub session_text : Manner → List Reply → ReplayState → Text
+session_text manner [] s = []
+session_text manner (r ∷ rs) s = answer_text manner r (after_reply r s) ++ session_text manner rs (after_reply r s)
 
 -- memory was refused at some line
 abbrev pub any_memory : List Reply → Bool
@@ -180,3 +187,7 @@ RepliesAreDetermined =
     (manner : Manner) (s : ReplayState) (lines : List Text) (replies others : List Reply)
     → AreReplies manner s lines replies → AreReplies manner s lines others
     → any_memory replies ≡ false → any_memory others ≡ false → replies ≡ others
+
+-- a message that the file has is shown by some text
+abbrev pub MessagesHaveText : Type 0
+MessagesHaveText = (s : ReplayState) (n : ℕ) → HasMessageNumbered s n → 0 < length (message_text n s.found)

@@ -22,7 +22,7 @@ mod shown;
 pub use commands::Command;
 pub use console::Prompted;
 pub use fault::StepFault;
-pub use laws::{own_faults_are_shown, replies_are_determined};
+pub use laws::{messages_have_text, own_faults_are_shown, replies_are_determined};
 pub use manners::Manner;
 pub use replies::Reply;
 pub use sessions::step;

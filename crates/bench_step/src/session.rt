@@ -1,18 +1,21 @@
 //! A recording under the debugger, and the answer to a line.
+ghost use Rattle.bench_decode.specs.Waiting.{no_lines};
+ghost use Rattle.bench_decode.specs.declared.line.Shown.TheVariants.{Plain};
 ghost use Rattle.bench_step.specs.Answering.{MayBeDebugged, IsLineAnswered, IsRefusal, opened_on};
 ghost use Rattle.bench_step.specs.Commands.{asked, asked_of, show_at};
-ghost use Rattle.bench_step.specs.Session.{Replies, after_reply, reply_text};
+ghost use Rattle.bench_step.specs.Session.{Replies, after_reply, answer_text};
 ghost use Rattle.bench_step.specs.Shown.{IsShown};
 ghost use Rattle.std.specs.Io.KnownBytes.{Appends};
-ghost use Rattle.std.specs.Prelude.{◌≡◌, ◌++◌, IfOk, IfErr, OnOk};
+ghost use Rattle.std.specs.Prelude.{◌≡◌, IfOk, IfErr, OnOk};
 
 use crate::commands::{Command, Way, read_command};
-use crate::decoding::Decoder;
+use crate::decoding::print_told;
 use crate::fault::StepFault;
 use crate::manners::Manner;
 use crate::moves::{find_back, find_on, go_back, go_on, go_time, go_to, seek, select};
 use crate::opening::open_replay;
 use crate::replies::Reply;
+use bench_decode::TextLine;
 use bench_report::Report;
 use job_file::Job;
 use replay::{Replay, ReplayError};
@@ -27,7 +30,6 @@ pub(crate) struct Session<'a> {
     replay: Replay<'a>,
     report: &'a Report,
     manner: Manner,
-    decoder: Decoder,
 }
 
 impl<'a> Model for Session<'a> {
@@ -52,21 +54,23 @@ pub(crate) struct Answered {
     pub(crate) ends: bool,
 }
 
-/// Prints a reply in the state that the line left, and behind it the text of the message that it shows, and flushes the
-/// writer.
+/// Prints a reply in the state that the line left, and behind it the message that it shows, and flushes the writer.
 fn print_answer<W: Write>(
     out: &mut W,
+    decoded: &mut TextLine,
+    manner: Manner,
     reply: &Reply,
     replay: &Replay<'_>,
     report: &Report,
-    told: &[u8],
 ) -> io::Result<()>
-    requires { report.now.channels ≡ replay.now.state.parts }
-    ensures { OnOk result (Appends (W.contents out.old) (W.contents out.new)
-        (reply_text reply.now replay.now.state ++ told.now)) }
+    requires parts { report.now.channels ≡ replay.now.state.parts }
+    requires waits { decoded.old ≡ no_lines Plain }
+    ensures printed { OnOk result (Appends (W.contents out.old) (W.contents out.new)
+        (answer_text manner reply.now replay.now.state)) }
+    ensures waits { OnOk result (decoded.new ≡ no_lines Plain) }
 {
     reply.print(out, replay, report)?;
-    out.write_all(told)?;
+    print_told(out, decoded, manner, reply, replay.index())?;
     out.flush()
 }
 
@@ -89,30 +93,22 @@ impl<'a> Session<'a> {
         ensures refused { IfErr result (IsRefusal jobs.items report.now.channels recording.now) }
     {
         let replay = open_replay(alloc, jobs, report, recording)?;
-        match Decoder::make(alloc) {
-            Ok(decoder) => Ok(Session {
-                replay,
-                report,
-                manner,
-                decoder,
-            }),
-            Err(_) => Err(StepFault::Memory),
-        }
+        Ok(Session {
+            replay,
+            report,
+            manner,
+        })
     }
 
-    /// The message of a number, as people read it.
-    fn show(&mut self, number: u64) -> Reply
-        ensures lawful { Replies self.old.debugger (show_at number) result }
-        ensures after { self.new.debugger ≡ after_reply result self.old.debugger }
-        ensures manner { self.new.manner ≡ self.old.manner }
+    /// The message of a number.
+    fn show(&self, number: u64) -> Reply
+        ensures lawful { Replies self.now.debugger (show_at number) result }
+        ensures stays { self.now.debugger ≡ after_reply result self.now.debugger }
     {
         if self.replay.index().message(number).is_none() {
             return Reply::Refused(ReplayError::Past);
         }
-        match self.decoder.decode(self.replay.index(), number) {
-            Ok(()) => Reply::Message(number),
-            Err(_) => Reply::Refused(ReplayError::Memory),
-        }
+        Reply::Message(number)
     }
 
     /// Does what a command asks.
@@ -133,10 +129,7 @@ impl<'a> Session<'a> {
             Command::Select(selector) => select(&mut self.replay, Way::On, *selector),
             Command::SelectBack(selector) => select(&mut self.replay, Way::Back, *selector),
             Command::State(detail) => Reply::Shown(*detail),
-            Command::Show => {
-                let place = self.replay.place();
-                self.show(place)
-            }
+            Command::Show => self.show(self.replay.place()),
             Command::ShowAt(number) => self.show(*number),
             Command::Help => Reply::Help,
             Command::Quit => Reply::Quit,
@@ -158,20 +151,23 @@ impl<'a> Session<'a> {
     }
 
     /// Answers a line at once: moves the debugger, prints the answer and flushes the writer. Where memory is refused
-    /// for what the line asks, `memory` is printed, and the debugger stands where it stood. A fault is the writer's.
+    /// for what the line asks, `memory` is printed, and the debugger stands where it stood. A fault is the writer's. No
+    /// line that was decoded waits, before it and behind it.
     pub(crate) fn answer<W: Write>(
         &mut self,
         alloc: Global,
         line: &[u8],
+        decoded: &mut TextLine,
         out: &mut W,
     ) -> io::Result<Answered>
+        requires { decoded.old ≡ no_lines Plain }
         ensures answered { IfOk result (λ a. IsLineAnswered self.old.manner self.old.debugger self.new.debugger line.now
             (W.contents out.old) (W.contents out.new) a.refused a.ends) }
         ensures manner { self.new.manner ≡ self.old.manner }
+        ensures waits { OnOk result (decoded.new ≡ no_lines Plain) }
     {
         let reply = self.reply_to(alloc, line);
-        let reply = self.decoder.tell(self.manner, self.replay.index(), reply);
-        print_answer(out, &reply, &self.replay, self.report, &self.decoder.text)?;
+        print_answer(out, decoded, self.manner, &reply, &self.replay, self.report)?;
         Ok(Answered {
             refused: reply.is_memory(),
             ends: reply.is_end(),

@@ -29,20 +29,20 @@ others_of : (d c : ℕ) (channels : List ℕ) → d ≡ c → AllByRecursion (λ
 others_of d c channels here all = rw (← here) all
 
 -- what each channel holds, where one of them changes
-lanes_go : (g k : ℕ → Held) (channels : List ℕ) (i c : ℕ) (v : Held) → AreDistinct channels → slice_get channels i ≡ Some c → k c ≡ v → ((d : ℕ) → d ≢ c → k d ≡ g d)
+held_go : (g k : ℕ → Held) (channels : List ℕ) (i c : ℕ) (v : Held) → AreDistinct channels → slice_get channels i ≡ Some c → k c ≡ v → ((d : ℕ) → d ≢ c → k d ≡ g d)
     → slice_set (map g channels) i v ≡ map k channels
-lanes_go g k [] i c v distinct at is same = absurd cc
-lanes_go g k (d ∷ channels) zero c v distinct at is same =
+held_go g k [] i c v distinct at is same = absurd cc
+held_go g k (d ∷ channels) zero c v distinct at is same =
     let here : d ≡ c = cc in
     rw (here, is, all_others g k c channels (others_of d c channels here distinct.0) same) refl
-lanes_go g k (d ∷ channels) (suc i) c v distinct at is same =
+held_go g k (d ∷ channels) (suc i) c v distinct at is same =
     let other : c ≢ d = stands (λ (x : ℕ). x ≢ d) channels i c distinct.0 at in
-    rw (same d (λ (e : d ≡ c). other (sym e)), lanes_go g k channels i c v distinct.1 at is same) refl
+    rw (same d (λ (e : d ≡ c). other (sym e)), held_go g k channels i c v distinct.1 at is same) refl
 
-lane_at : (g : ℕ → Held) (channels : List ℕ) (i c : ℕ) (d : Held) → slice_get channels i ≡ Some c → slice_index_or (map g channels) i d ≡ g c
-lane_at g [] i c d at = absurd cc
-lane_at g (x ∷ channels) zero c d at = let same : x ≡ c = cc in ap g same
-lane_at g (x ∷ channels) (suc i) c d at = lane_at g channels i c d at
+held_at : (g : ℕ → Held) (channels : List ℕ) (i c : ℕ) (d : Held) → slice_get channels i ≡ Some c → slice_index_or (map g channels) i d ≡ g c
+held_at g [] i c d at = absurd cc
+held_at g (x ∷ channels) zero c d at = let same : x ≡ c = cc in ap g same
+held_at g (x ∷ channels) (suc i) c d at = held_at g channels i c d at
 
 own : (f : Format) (channel : ℕ) (items : List Item) → (held_in f channel items).channel.channel ≡ channel
 own f channel items = ap (λ (c : Channel). c.channel) (items_channel (fresh (channel_in f channel)) items)
@@ -72,22 +72,22 @@ counts_on taken f prologue before items qs old new all written is counts =
 
 -- the item is one of the channel that the builder has
 pub goes_on : {S : Type 0} (taken : S → Option (List ℕ)) → PacketHasItsLength → (item : ℕ → Item) (f : Format) (prologue : List ℕ) (before : Option (List ℕ)) (channels : List ℕ) (i channel : ℕ)
-    (items : List Item) (lanes : List Held) (old new : Counting S) (d h k : Held)
+    (items : List Item) (held : List Held) (old new : Counting S) (d h k : Held)
     → ((c : ℕ) → channel_of (item c) ≡ c) → AreDistinct channels → slice_get channels i ≡ Some channel
-    → IsRecordingOf taken f prologue before channels items (record { lanes = lanes; writing = old.writing; packets = old.packets })
-    → h ≡ slice_index_or lanes i d → k ≡ met h (item h.channel.channel) → Puts (closing h (item h.channel.channel)) (progress_of taken old.writing) (progress_of taken new.writing)
+    → IsRecordingOf taken f prologue before channels items (record { held = held; writing = old.writing; packets = old.packets })
+    → h ≡ slice_index_or held i d → k ≡ met h (item h.channel.channel) → Puts (closing h (item h.channel.channel)) (progress_of taken old.writing) (progress_of taken new.writing)
     → Counts (closed_by h (item h.channel.channel)) old new
-    → IsRecordingOf taken f prologue before channels (items ++ item channel ∷ []) (record { lanes = slice_set lanes i k; writing = new.writing; packets = new.packets })
-goes_on taken size item f prologue before channels i channel items lanes old new d h k of distinct at is from next puts counts =
+    → IsRecordingOf taken f prologue before channels (items ++ item channel ∷ []) (record { held = slice_set held i k; writing = new.writing; packets = new.packets })
+goes_on taken size item f prologue before channels i channel items held old new d h k of distinct at is from next puts counts =
     let g : ℕ → Held = λ (c : ℕ). held_in f c items in
     let x : Item = item channel in
-    let here : h ≡ g channel = from ∙ ap (λ (ls : List Held). slice_index_or ls i d) is.lanes ∙ lane_at g channels i channel d at in
+    let here : h ≡ g channel = from ∙ ap (λ (ls : List Held). slice_index_or ls i d) is.held ∙ held_at g channels i channel d at in
     let number : h.channel.channel ≡ channel = ap (λ (l : Held). l.channel.channel) here ∙ own f channel items in
     let same_item : item h.channel.channel ≡ x = ap item number in
     let of_channel : channel_of x ≡ channel = of channel in
     record {
-      lanes = ap (λ (ls : List Held). slice_set ls i k) is.lanes
-          ∙ lanes_go g (λ (c : ℕ). held_in f c (items ++ x ∷ [])) channels i channel k distinct at
+      held = ap (λ (ls : List Held). slice_set ls i k) is.held
+          ∙ held_go g (λ (c : ℕ). held_in f c (items ++ x ∷ [])) channels i channel k distinct at
           (held_more f items x channel of_channel ∙ ap (λ (l : Held). met l x) (sym here) ∙ ap (met h) (sym same_item) ∙ sym next)
           (λ c other. held_same f items x channel c of_channel other);
       written =
@@ -112,12 +112,12 @@ pub file_of_none : (f : Format) (prologue : List ℕ) → written_file f prologu
 unfolding written_file
 file_of_none f prologue = append-nil prologue
 
-pub begun : {S : Type 0} (taken : S → Option (List ℕ)) (f : Format) (before : Option (List ℕ)) (channels bytes : List ℕ) (lanes : List Held) (old new : Counting S)
-    → IsRecordingOf taken f [] before channels [] (record { lanes = lanes; writing = old.writing; packets = old.packets })
+pub begun : {S : Type 0} (taken : S → Option (List ℕ)) (f : Format) (before : Option (List ℕ)) (channels bytes : List ℕ) (held : List Held) (old new : Counting S)
+    → IsRecordingOf taken f [] before channels [] (record { held = held; writing = old.writing; packets = old.packets })
     → Puts bytes (progress_of taken old.writing) (progress_of taken new.writing) → new.packets ≡ old.packets
-    → IsRecordingOf taken f bytes before channels [] (record { lanes = lanes; writing = new.writing; packets = new.packets })
-begun taken f before channels bytes lanes old new is puts same = record {
-  lanes = is.lanes;
+    → IsRecordingOf taken f bytes before channels [] (record { held = held; writing = new.writing; packets = new.packets })
+begun taken f before channels bytes held old new is puts same = record {
+  held = is.held;
   written =
       let nothing : IsWritten [] before (progress_of taken old.writing) = rw (← file_of_none f []) is.written in
       rw (file_of_none f bytes) (puts [] before nothing);
@@ -125,17 +125,17 @@ begun taken f before channels bytes lanes old new is puts same = record {
 }
 
 -- the end is no packet
-pub told : {S : Type 0} (taken : S → Option (List ℕ)) (f : Format) (prologue : List ℕ) (before : Option (List ℕ)) (channels : List ℕ) (items : List Item) (lanes : List Held) (old new : Counting S)
-    → IsRecordingOf taken f prologue before channels items (record { lanes = lanes; writing = old.writing; packets = old.packets })
+pub told : {S : Type 0} (taken : S → Option (List ℕ)) (f : Format) (prologue : List ℕ) (before : Option (List ℕ)) (channels : List ℕ) (items : List Item) (held : List Held) (old new : Counting S)
+    → IsRecordingOf taken f prologue before channels items (record { held = held; writing = old.writing; packets = old.packets })
     → PutsNone (progress_of taken old.writing) (progress_of taken new.writing) → new.writing.taken ≡ old.writing.taken → new.packets ≡ old.packets
-    → IsRecordingOf taken f prologue before channels items (record { lanes = lanes; writing = new.writing; packets = new.packets })
-told taken f prologue before channels items lanes old new is puts count same = record {
-  lanes = is.lanes;
+    → IsRecordingOf taken f prologue before channels items (record { held = held; writing = new.writing; packets = new.packets })
+told taken f prologue before channels items held old new is puts count same = record {
+  held = is.held;
   written = puts (written_file f prologue items) before is.written;
   packets = same ∙ is.packets ∙ ap (λ (n : ℕ). whole_packets (n - length prologue) (closed_packets f items)) (sym count);
 }
 
-pub lane_got : (lanes : List Held) (i : ℕ) (h d : Held) → slice_get lanes i ≡ Some h → slice_index_or lanes i d ≡ h
-lane_got [] i h d at = absurd cc
-lane_got (x ∷ lanes) zero h d at = cc
-lane_got (x ∷ lanes) (suc i) h d at = lane_got lanes i h d at
+pub held_got : (held : List Held) (i : ℕ) (h d : Held) → slice_get held i ≡ Some h → slice_index_or held i d ≡ h
+held_got [] i h d at = absurd cc
+held_got (x ∷ held) zero h d at = cc
+held_got (x ∷ held) (suc i) h d at = held_got held i h d at

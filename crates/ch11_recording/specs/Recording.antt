@@ -9,7 +9,7 @@ use Rattle.ch11_recording.specs.WrittenFile.{Format, held_in, written_file, clos
 
 -- what each channel holds, the writer, and how many packets the sink took whole
 pub record Recording (S : Type 0) : Type 0 where
-  pub lanes : List Held
+  pub held : List Held
   pub writing : Writing S
   pub packets : ℕ
 
@@ -22,7 +22,7 @@ IsLimit limit = (256 ≤ limit) × (limit ≤ 524288)
 -- recording began, and `taken` shows what a sink has taken.
 pub record IsRecordingOf {S : Type 0} (taken : S → Option (List ℕ)) (f : Format) (prologue : List ℕ)
     (before : Option (List ℕ)) (channels : List ℕ) (items : List Item) (r : Recording S) : Type 0 where
-  pub lanes : r.lanes ≡ map (λ channel. held_in f channel items) channels
+  pub held : r.held ≡ map (λ channel. held_in f channel items) channels
   pub written : IsWritten (written_file f prologue items) before (progress_of taken r.writing)
   pub packets : r.packets ≡ whole_packets (r.writing.taken - length prologue) (closed_packets f items)
 

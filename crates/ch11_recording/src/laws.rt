@@ -48,6 +48,7 @@ pub fn record_fits(message: &Record)
     requires { message.now.stamp < 2 ^ 48 }
     ensures { (number : ℕ) → IsRecorded (numbered number message.now) }
 {
+    // (their ranges are known once they are read)
     let _block = message.block;
     let _gaps = message.gaps;
     let _words = message.words.as_slice();

@@ -6,8 +6,8 @@
 #![tactic(auto)]
 
 mod item;
-mod lane;
 mod laws;
+mod open_channel;
 mod packet_writer;
 mod recorder;
 

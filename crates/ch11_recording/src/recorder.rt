@@ -8,7 +8,7 @@ ghost use Rattle.std.specs.Prelude.{IsTrue, IsFalse};
 ghost use Rattle.std.specs.Prelude.{length, map, is_ok, slice_get, Some, if◌then◌else◌, IfOk, IfErr, IsOk, OnOk};
 ghost use Rattle.std.specs.Prelude.{ℕ, List, Option, true, ◌≡◌, ◌<◌, ◌≤◌, ◌^◌, ◌+◌, ◌-◌, ◌↔◌, ◌||◌, not, [], false};
 
-use crate::lane::Lane;
+use crate::open_channel::OpenChannel;
 use crate::packet_writer::PacketWriter;
 use ch11_builder::{BuilderError, packet_is_read_again};
 use ch11_f1::Record;
@@ -20,7 +20,7 @@ use std::marker::Model;
 /// channel, and takes no memory once it is made.
 #[derive(Drop)]
 pub struct Recorder<S: Sink> {
-    lanes: Vec<Lane>,
+    channels: Vec<OpenChannel>,
     writer: PacketWriter<S>,
 }
 
@@ -29,27 +29,27 @@ impl<S: Sink> Model for Recorder<S> {
 
     ghost Value = { Recording S };
 
-    ghost view = { λ r. record { lanes = r.lanes.items; writing = r.writer.writing; packets = r.writer.packets } };
+    ghost view = { λ r. record { held = r.channels.items; writing = r.writer.writing; packets = r.writer.packets } };
 }
 
-/// A lane for each channel. It fails for want of memory, where the limit is in its range.
-fn lanes_of(
+/// An open channel of each number. It fails for want of memory, where the limit is in its range.
+fn open_channels(
     alloc: Global,
     version: u8,
     limit: u32,
     channels: &[u16],
-) -> Result<Vec<Lane>, BuilderError>
-    ensures { IfOk result (λ ls. ls.items
+) -> Result<Vec<OpenChannel>, BuilderError>
+    ensures { IfOk result (λ opened. opened.items
         ≡ map (λ c. fresh (channel_in (record { version = version; limit = limit }) c)) channels.now) }
 {
-    let mut lanes = Vec::new(alloc);
+    let mut opened = Vec::new(alloc);
     for channel in channels {
-        let lane = Lane::make(alloc, *channel, version, limit)?;
-        if lanes.push(lane).is_err() {
+        let one = OpenChannel::make(alloc, *channel, version, limit)?;
+        if opened.push(one).is_err() {
             return Err(BuilderError::Memory);
         }
     }
-    Ok(lanes)
+    Ok(opened)
 }
 
 impl<S: Sink> Recorder<S> {
@@ -75,9 +75,9 @@ impl<S: Sink> Recorder<S> {
         if !(256..=524_288).contains(&limit) {
             return Err((BuilderError::Limit, sink));
         }
-        match lanes_of(alloc, version, limit, channels) {
-            Ok(lanes) => Ok(Recorder {
-                lanes,
+        match open_channels(alloc, version, limit, channels) {
+            Ok(opened) => Ok(Recorder {
+                channels: opened,
                 writer: PacketWriter::make(sink),
             }),
             Err(_) => Err((BuilderError::Memory, sink)),
@@ -93,19 +93,19 @@ impl<S: Sink> Recorder<S> {
         ensures goes_on { IsTrue result
             → GoesOn S.taken index (λ channel. item.Message channel number message.now) self.old self.new }
         ensures refused { IsFalse result → self.new ≡ self.old }
-        ensures when { (h : Held) → slice_get self.old.lanes index ≡ Some h → latest_number h < number
+        ensures when { (h : Held) → slice_get self.old.held index ≡ Some h → latest_number h < number
             → message.now.stamp < 2 ^ 48 → result ≡ true }
         ensures unfinished { self.new.writing.finished ≡ false }
         ensures few { self.new.writing.taken ≤ self.old.writing.taken + 524288 }
         ensures failures { S.failures self.new.writing.sink ≡ (if self.old.writing.failed || not self.new.writing.failed
             then S.failures self.old.writing.sink else S.failures self.old.writing.sink + 1) }
     {
-        if index >= self.lanes.len() {
+        if index >= self.channels.len() {
             return false;
         }
         packet_is_read_again();
-        let lane = &mut self.lanes[index];
-        lane.keep(&mut self.writer, number, message)
+        let channel = &mut self.channels[index];
+        channel.keep(&mut self.writer, number, message)
     }
 
     /// Ends the channel at an index: writes its open packet, where there is a record in it. False, and nothing done,
@@ -115,18 +115,18 @@ impl<S: Sink> Recorder<S> {
         requires few { self.old.writing.taken + 524288 < 2 ^ 64 }
         ensures goes_on { IsTrue result → GoesOn S.taken index (λ channel. item.End channel) self.old self.new }
         ensures refused { IsFalse result → self.new ≡ self.old }
-        ensures when { index < length self.old.lanes → result ≡ true }
+        ensures when { index < length self.old.held → result ≡ true }
         ensures unfinished { self.new.writing.finished ≡ false }
         ensures few { self.new.writing.taken ≤ self.old.writing.taken + 524288 }
         ensures failures { S.failures self.new.writing.sink ≡ (if self.old.writing.failed || not self.new.writing.failed
             then S.failures self.old.writing.sink else S.failures self.old.writing.sink + 1) }
     {
-        if index >= self.lanes.len() {
+        if index >= self.channels.len() {
             return false;
         }
         packet_is_read_again();
-        let lane = &mut self.lanes[index];
-        lane.end(&mut self.writer);
+        let channel = &mut self.channels[index];
+        channel.end(&mut self.writer);
         true
     }
 
@@ -173,7 +173,10 @@ impl<S: Sink> Recorder<S> {
     pub fn into_sink(self) -> S
         ensures { result ≡ self.writing.sink }
     {
-        let Recorder { lanes: _, writer } = self;
+        let Recorder {
+            channels: _,
+            writer,
+        } = self;
         writer.into_sink()
     }
 }

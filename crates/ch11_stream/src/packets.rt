@@ -75,18 +75,14 @@ impl<R: Advance> Packets<R> {
         if let Some(fault) = self.at.fault {
             return Err(fault);
         }
-        let held = self.at.held();
-        self.at.last = None;
-        match take_next(&mut self.at.buffer, &mut self.input, held, self.at.offset) {
+        self.at.let_go();
+        match take_next(&mut self.at.buffer, &mut self.input, self.at.offset) {
             Ok(Some(checked)) => {
                 let last = kept_of(checked.header);
                 Ok(Some(self.at.enter(checked, last)?))
             }
             Ok(None) => Ok(None),
-            Err(fault) => {
-                self.at.fault = Some(fault);
-                Err(fault)
-            }
+            Err(fault) => Err(self.at.fail(fault)),
         }
     }
 

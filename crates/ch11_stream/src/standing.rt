@@ -7,7 +7,8 @@ ghost use Rattle.ch11_reader.specs.Recording.{packet_messages};
 ghost use Rattle.ch11_stream.specs.Holding.{given_of, held_of};
 ghost use Rattle.ch11_stream.specs.Listed.{found_at};
 ghost use Rattle.ch11_stream.specs.declared.fault.StreamFault.TheVariants.{Memory};
-ghost use Rattle.std.specs.Prelude.{◌≡◌, ◌+◌, ◌<◌, ◌≤◌, ◌^◌, [], ◌∷◌, length, take, None, Some, IfOk, IfErr, OnOk};
+ghost use Rattle.std.specs.Prelude.{◌≡◌, ◌+◌, ◌<◌, ◌≤◌, ◌^◌, [], ◌∷◌, length, take, drop};
+ghost use Rattle.std.specs.Prelude.{None, Some, IfOk, IfErr, OnOk};
 
 use crate::buffer::Buffer;
 use crate::fault::StreamFault;
@@ -80,15 +81,35 @@ impl Standing {
                 self.last = last;
                 Ok(packet)
             }
-            Err(_) => {
-                self.fault = Some(StreamFault::Memory);
-                Err(StreamFault::Memory)
-            }
+            Err(_) => Err(self.fail(StreamFault::Memory)),
         }
     }
 
+    /// Keeps a fault, which is what is answered from then on.
+    pub(crate) fn fail(&mut self, fault: StreamFault) -> StreamFault
+        ensures kept { self.new ≡ record self.old { fault = Some fault } }
+        ensures same { result ≡ fault }
+    {
+        self.fault = Some(fault);
+        fault
+    }
+
+    /// Lets the bytes of the last packet go: no packet is the last one then. Condition: they are ready.
+    pub(crate) fn let_go(&mut self)
+        requires { held_of self.old.last ≤ length self.old.buffer.ready }
+        ensures ready { self.new.buffer.ready ≡ drop (held_of self.old.last) self.old.buffer.ready }
+        ensures listed { self.new.listed ≡ self.old.listed }
+        ensures last { self.new.last ≡ None }
+        ensures offset { self.new.offset ≡ self.old.offset }
+        ensures fault { self.new.fault ≡ self.old.fault }
+    {
+        let held = self.held();
+        self.buffer.pass(held);
+        self.last = None;
+    }
+
     /// How many of the bytes that are ready are the last packet's.
-    pub(crate) fn held(&self) -> usize
+    fn held(&self) -> usize
         ensures { result ≡ held_of self.now.last }
     {
         match &self.last {

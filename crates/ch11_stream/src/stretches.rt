@@ -9,7 +9,7 @@ use crate::fault::StreamFault;
 use crate::looking::{Coming, look, pass_skip};
 use crate::standing::Standing;
 use crate::stretch::Stretch;
-use crate::taking::is_kept_by;
+use crate::taking::{check_end, is_kept_by};
 use ch11_f1::Messages;
 use ch11_reader::{Checked, Skip};
 use std::alloc::{AllocError, Global};
@@ -67,20 +67,18 @@ fn take_stretch<R: Read>(
 {
     match look(buffer, input)? {
         Coming::End => Ok(Taken::End),
-        Coming::Sound(checked) => match offset.checked_add(checked.header.packet_length as usize) {
-            Some(_) => Ok(Taken::Sound(checked)),
-            None => Err(StreamFault::Device),
-        },
+        Coming::Sound(checked) => {
+            check_end(offset, checked.header.packet_length as usize)?;
+            Ok(Taken::Sound(checked))
+        }
         Coming::Faulty(fault) => {
             let length = pass_skip(buffer, input)?;
-            match offset.checked_add(length) {
-                Some(_) => Ok(Taken::Skipped(Skip {
-                    offset,
-                    length,
-                    fault,
-                })),
-                None => Err(StreamFault::Device),
-            }
+            check_end(offset, length)?;
+            Ok(Taken::Skipped(Skip {
+                offset,
+                length,
+                fault,
+            }))
         }
     }
 }
@@ -105,9 +103,7 @@ impl<R: Read> Stretches<R> {
         if let Some(fault) = self.at.fault {
             return Err(fault);
         }
-        let held = self.at.held();
-        self.at.buffer.pass(held);
-        self.at.last = None;
+        self.at.let_go();
         match take_stretch(&mut self.at.buffer, &mut self.input, self.at.offset) {
             Ok(Taken::Sound(checked)) => {
                 let packet = self.at.enter(checked, Some(checked.header))?;
@@ -118,10 +114,7 @@ impl<R: Read> Stretches<R> {
                 Ok(Some(Stretch::Skipped(skip)))
             }
             Ok(Taken::End) => Ok(None),
-            Err(fault) => {
-                self.at.fault = Some(fault);
-                Err(fault)
-            }
+            Err(fault) => Err(self.at.fail(fault)),
         }
     }
 

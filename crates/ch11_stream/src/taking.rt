@@ -2,7 +2,7 @@
 ghost use Rattle.ch11_stream.specs.Holding.{is_kept};
 ghost use Rattle.ch11_stream.specs.Taking.{Heads, IsNextHeader, Nexts, TakesPacket};
 ghost use Rattle.std.specs.Io.KnownBytes.{prepend_known};
-ghost use Rattle.std.specs.Prelude.{◌≡◌, ◌≤◌, length, drop, false, true};
+ghost use Rattle.std.specs.Prelude.{◌≡◌, ◌+◌, ◌<◌, ◌^◌, false, true, OnOk, IfErr};
 
 use crate::advance::Advance;
 use crate::buffer::Buffer;
@@ -104,24 +104,30 @@ pub(crate) fn take_packet<R: Advance>(
     }
 }
 
-/// Lets the bytes of the last packet go and takes the next one, which stands at an offset. None at the reader's end.
+/// A fault of the reader, where so many bytes at an offset end behind byte 2^64 - 2.
+pub(crate) fn check_end(offset: usize, length: usize) -> Result<(), StreamFault>
+    ensures within { OnOk result (offset + length < 2 ^ 64) }
+    ensures device { IfErr result (λ e. e ≡ StreamFault.Device) }
+{
+    match offset.checked_add(length) {
+        Some(_) => Ok(()),
+        None => Err(StreamFault::Device),
+    }
+}
+
+/// Takes the packet that begins the bytes to come, which stand at an offset. None at the reader's end.
 pub(crate) fn take_next<R: Advance>(
     buffer: &mut Buffer,
     input: &mut R,
-    held: usize,
     offset: usize,
 ) -> Result<Option<Checked>, StreamFault>
-    requires { held ≤ length buffer.old.ready }
-    ensures { Nexts result offset (prepend_known (drop held buffer.old.ready) (R.remaining input.old))
+    ensures { Nexts result offset (prepend_known buffer.old.ready (R.remaining input.old))
         (R.remaining input.new) buffer.new.ready }
 {
-    buffer.pass(held);
     let Some(header) = next_header(buffer, input, offset)? else {
         return Ok(None);
     };
     let checked = take_packet(buffer, input, offset, header)?;
-    match offset.checked_add(checked.header.packet_length as usize) {
-        Some(_) => Ok(Some(checked)),
-        None => Err(StreamFault::Device),
-    }
+    check_end(offset, checked.header.packet_length as usize)?;
+    Ok(Some(checked))
 }

@@ -8,6 +8,7 @@ use crate::buffer::Buffer;
 use crate::fault::StreamFault;
 use crate::looking::{Coming, look};
 use crate::standing::Standing;
+use crate::taking::check_end;
 use ch11_f1::Messages;
 use ch11_reader::{Checked, Packet, Refusal};
 use std::alloc::{AllocError, Global};
@@ -58,10 +59,10 @@ fn take_whole<R: Read>(
 {
     match look(buffer, input)? {
         Coming::End => Ok(None),
-        Coming::Sound(checked) => match offset.checked_add(checked.header.packet_length as usize) {
-            Some(_) => Ok(Some(checked)),
-            None => Err(StreamFault::Device),
-        },
+        Coming::Sound(checked) => {
+            check_end(offset, checked.header.packet_length as usize)?;
+            Ok(Some(checked))
+        }
         Coming::Faulty(fault) => Err(StreamFault::Refused(Refusal { offset, fault })),
     }
 }
@@ -87,16 +88,11 @@ impl<R: Read> WholePackets<R> {
         if let Some(fault) = self.at.fault {
             return Err(fault);
         }
-        let held = self.at.held();
-        self.at.buffer.pass(held);
-        self.at.last = None;
+        self.at.let_go();
         match take_whole(&mut self.at.buffer, &mut self.input, self.at.offset) {
             Ok(Some(checked)) => Ok(Some(self.at.enter(checked, Some(checked.header))?)),
             Ok(None) => Ok(None),
-            Err(fault) => {
-                self.at.fault = Some(fault);
-                Err(fault)
-            }
+            Err(fault) => Err(self.at.fail(fault)),
         }
     }
 

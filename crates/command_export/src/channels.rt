@@ -1,12 +1,11 @@
 //! The channels of a recording, for a setup record that describes them.
 
 use bench_names::{Described, Holds, setup_text};
-use bench_watch::Reopen;
 use ch11_header::Header;
 use ch11_header::kinds::{BUS_MESSAGES, RECORDING_INDEX, TIME_DATA};
 use ch11_reader::CHANNELS;
 use ch11_stream::{Advance, Packets, StreamFault};
-use command_parts::recordings::{Recording, fault_of_reading};
+use command_parts::recordings::Recording;
 use command_parts::requests::CommandFault;
 use std::alloc::{AllocError, Global};
 use std::io::IsTerminal;
@@ -17,19 +16,15 @@ use std::rt::{Clock, Files};
 /// told where it is completed.
 pub(crate) fn described<'a, R: Files + AllocGlobal + Clock, E: Eprint + IsTerminal>(
     recording: &Recording<'_, 'a, R, E>,
-    name: &'a str,
     times: Option<u16>,
 ) -> Result<Vec<u8>, CommandFault<'a>> {
     let alloc = recording.alloc();
     let mut found = vec![in alloc; None; CHANNELS]?;
-    let bytes = match recording.reopen() {
-        Ok(bytes) => bytes,
-        Err(error) => return Err(CommandFault::of_stream(name, &error)),
-    };
+    let bytes = recording.begin_anew()?;
     match note_packets(alloc, found.as_mut_slice(), bytes) {
         Ok(()) => {}
         Err(StreamFault::Refused(_)) => found = vec![in alloc; None; CHANNELS]?,
-        Err(fault) => return Err(fault_of_reading(name, fault)),
+        Err(fault) => return recording.answer(Err(fault)),
     }
     if let Some(channel) = times {
         note(found.as_mut_slice(), channel, Holds::Times);

@@ -123,7 +123,7 @@ fn complete_recording<'a, R: Files<File: Hold> + AllocGlobal + Clock, E: Eprint 
 ) -> Result<(), CommandFault<'a>> {
     let text = if request.auto_setup {
         let times = start.map(|_| request.time_channel);
-        described(recording, request.recording, times)?
+        described(recording, times)?
     } else {
         setup_text(rt, request.setup)?
     };

@@ -1,16 +1,16 @@
 //! `bench draw`: the messages of a recording as a picture.
 
-use bench_draw::{Asked, By, DrawFault, Drawing, draw};
+use bench_draw::{Asked, By, DrawFault, draw};
 use bench_files::{Hold, Kind};
 use bench_names::ChannelNames;
 use clap::{ArgMatches, Command};
 use command_parts::extracting::extract_options;
-use command_parts::looking::{tell_of_unknown, tell_of_unread};
+use command_parts::opening::ChosenMessages;
 use command_parts::options::{choice, command_of};
-use command_parts::recordings::{Recording, Source, fault_of_reading};
+use command_parts::recordings::{Recording, fault_of_reading};
 use command_parts::requests::CommandFault;
 use command_parts::selecting::selection_options;
-use command_parts::showing::{Showing, showing_options};
+use command_parts::showing::{Known, Showing, ShownText, Shows, showing_options};
 use std::alloc::{AllocError, Global};
 use std::io::IsTerminal;
 use std::rt::{Clock, Files};
@@ -78,64 +78,44 @@ pub fn request_in<'a>(given: &ArgMatches<'a>) -> Request<'a> {
     }
 }
 
-/// The fault of a recording with this name that was not drawn.
-fn fault_of_drawing<'a>(name: &'a str, fault: DrawFault) -> CommandFault<'a> {
-    match fault {
-        DrawFault::Opening(error) => CommandFault::of_stream(name, &error),
-        DrawFault::Recording(fault) => fault_of_reading(name, fault),
-    }
-}
-
-/// Writes the messages of a recording, or those that were selected, as a picture. The out file takes the place of what
-/// is there once it is whole; it may not be the recording itself. Where a selection has no message, nothing is written,
-/// and that is said.
+/// Writes the messages of a recording, or those that were selected, as a picture.
 pub fn run<'a, R: Files<File: Hold> + AllocGlobal + Clock, E: Eprint + IsTerminal>(
     rt: &R,
     errors: &E,
     request: &Request<'a>,
 ) -> Result<(), CommandFault<'a>> {
-    let (showing, name) = (&request.showing, request.showing.extract.recording);
-    let signals = showing.judge(rt, Kind::Picture)?;
-    let selection = showing.selection(signals.as_slice())?;
-    let source = Source::of(rt, errors, name)?;
-    let recording = source.recording(false, false);
-    let stamps = recording.stamps(true)?;
-    let asked = Asked {
-        selection: selection.counting_from(stamps.origins.as_slice()),
-        signals: signals.as_slice(),
-        by: request.by,
-    };
-    let drawn = draw_recording(&recording, showing, &asked);
-    source.end();
-    tell_of_unknown(errors, name, &stamps);
-    let drawn = drawn?;
-    let drawing = &drawn.drawing;
-    showing.put(rt, Kind::Picture, drawing.messages, drawing.text.as_slice())?;
-    tell_of_unread(errors, name, drawn.unread);
+    let _shown = request.showing.run(rt, errors, Kind::Picture, request)?;
     Ok(())
 }
 
-/// A picture of a recording.
-#[derive(Drop)]
-struct Drawn {
-    drawing: Drawing,
-    /// Whether the recording has time packets of which none can be read.
-    unread: bool,
+impl Shows for Request<'_> {
+    fn show<'a, R: Files + AllocGlobal + Clock, E: Eprint + IsTerminal>(
+        &self,
+        recording: &Recording<'_, 'a, R, E>,
+        chosen: ChosenMessages<'_>,
+        known: &Known,
+    ) -> Result<ShownText, CommandFault<'a>> {
+        let names = ChannelNames::of(known.front.as_slice());
+        let asked = Asked {
+            selection: chosen.selection,
+            signals: chosen.signals,
+            by: self.by,
+        };
+        match draw(recording.alloc(), recording, &asked, &known.clock, &names) {
+            Ok(drawing) => Ok(ShownText {
+                text: drawing.text,
+                chosen: drawing.messages,
+                shown: drawing.messages,
+            }),
+            Err(fault) => Err(fault_of_drawing(recording.name(), fault)),
+        }
+    }
 }
 
-/// Draws what is asked of a recording: a pass for its clock, and those of the picture.
-fn draw_recording<'a, R: Files + AllocGlobal + Clock, E: Eprint + IsTerminal>(
-    recording: &Recording<'_, 'a, R, E>,
-    showing: &Showing<'a>,
-    asked: &Asked<'_>,
-) -> Result<Drawn, CommandFault<'a>> {
-    let known = showing.known(recording)?;
-    let names = ChannelNames::of(known.front.as_slice());
-    match draw(recording.alloc(), recording, asked, &known.clock, &names) {
-        Ok(drawing) => Ok(Drawn {
-            drawing,
-            unread: known.unread,
-        }),
-        Err(fault) => Err(fault_of_drawing(showing.extract.recording, fault)),
+/// The fault of a recording with this name that was not drawn.
+fn fault_of_drawing<'a>(name: &'a str, fault: DrawFault) -> CommandFault<'a> {
+    match fault {
+        DrawFault::Opening(error) => CommandFault::of_stream(name, &error),
+        DrawFault::Recording(fault) => fault_of_reading(name, fault),
     }
 }

@@ -5,9 +5,8 @@ use bench_judge::RuleVerdict;
 use ch11_reader::Skip;
 use command_parts::hosts::System;
 use command_parts::recordings::Recording;
-use command_parts::requests::CommandFault;
+use command_parts::requests::{CommandFault, fault_of_rules};
 use command_parts::streams::{listing, on_stream};
-use judge_rules::{RuleError, RuleFault};
 use signal_dictionary::Signal;
 use signal_judge::{AllRules, read_all_rules, write_all_verdicts};
 use std::alloc::Global;
@@ -24,14 +23,6 @@ pub struct AllSpelled<'r, 'd> {
     pub origins: &'r [Option<u64>],
     /// The bytes of the recording's file that are skipped, where it is damaged and packets are told.
     pub skips: &'r [Skip],
-}
-
-/// The fault of rules that were refused.
-fn fault_of_rules<'a>(error: RuleError) -> CommandFault<'a> {
-    match error.fault {
-        RuleFault::Memory => CommandFault::Memory,
-        RuleFault::Word | RuleFault::Number | RuleFault::Range => CommandFault::Rules(error),
-    }
 }
 
 /// The rules that a text spells, which may name these signals, or their first fault.

@@ -1,6 +1,6 @@
 //! `bench judge`: whether a recording is what rules expect.
 
-use crate::signal_judging::run_with;
+use crate::signal_judging::judge_among;
 use bench_files::{Hold, Kind};
 use bench_json::{JsonLines, JsonSource};
 use bench_judge::{
@@ -9,6 +9,7 @@ use bench_judge::{
 use bench_watch::Reopen;
 use ch11_reader::Skip;
 use clap::{ArgMatches, Command};
+use command_finishing::signal_verdicts::{AllSpelled, print_all_verdicts};
 use command_finishing::verdicts::{Spelled, fault_of_pass, print_verdicts};
 use command_parts::dictionaries::dictionary_in;
 use command_parts::hosts::System;
@@ -22,8 +23,9 @@ use command_parts::requests::{
 };
 use command_parts::streams::{listing, on_stream};
 use judge_rules::{Check, Rule};
+use signal_judge::{AllJudged, junit_of_all, write_all_verdicts};
 use std::alloc::{AllocError, Global};
-use std::io::{BufWriter, IsTerminal};
+use std::io::{BufWriter, IsTerminal, Write};
 use std::rt::{Clock, Files};
 
 /// What the help of `bench judge` ends with.
@@ -107,8 +109,76 @@ pub fn request_in<'a>(given: &ArgMatches<'a>) -> Request<'a> {
 /// What the rules are named by where there is no file of them.
 pub(crate) const STANDARD: &str = "standard rule";
 
+/// What a recording is judged by.
+#[derive(Clone, Copy)]
+pub(crate) enum Judging<'f, 'r, 'd> {
+    /// Rules about messages alone.
+    Plain(Spelled<'r>),
+    /// The name of a file, and its rules, which may name signals.
+    All(&'f str, AllSpelled<'r, 'd>),
+}
+
+impl Judging<'_, '_, '_> {
+    /// Judges the recording with this name by them and prints the verdicts.
+    fn print<'a, R: System, E: Eprint + IsTerminal>(
+        &self,
+        rt: &R,
+        name: &'a str,
+        recording: &Recording<'_, 'a, R, E>,
+    ) -> Result<Vec<RuleVerdict>, CommandFault<'a>> {
+        match self {
+            Judging::Plain(spelled) => print_verdicts(rt, name, recording, *spelled),
+            Judging::All(_, spelled) => print_all_verdicts(rt, name, recording, *spelled),
+        }
+    }
+
+    /// Judges a recording by them and writes the verdicts as plain lines.
+    fn write<S: Reopen, W: Write>(
+        &self,
+        alloc: Global,
+        recording: &S,
+        out: &mut W,
+    ) -> Result<Vec<RuleVerdict>, PassFault> {
+        match self {
+            Judging::Plain(spelled) => {
+                let (rules, origins, skips) = (spelled.rules, spelled.origins, spelled.skips);
+                write_verdicts(alloc, recording, rules, origins, skips, out)
+            }
+            Judging::All(_, spelled) => {
+                let (rules, origins, skips) = (spelled.rules, spelled.origins, spelled.skips);
+                let verdicts = write_all_verdicts(alloc, recording, rules, origins, skips, out)?;
+                Ok(verdicts.in_order(alloc)?)
+            }
+        }
+    }
+
+    /// The JUnit file of these verdicts on a recording of which so many packets say that messages are missing.
+    fn junit<S: Reopen>(
+        &self,
+        alloc: Global,
+        recording: &S,
+        verdicts: &[RuleVerdict],
+        lost: Lost,
+    ) -> Result<Vec<u8>, PassFault> {
+        match self {
+            Judging::Plain(spelled) => junit_text(alloc, recording, spelled.judged(verdicts), lost),
+            Judging::All(file, spelled) => {
+                let judged = AllJudged {
+                    file: file.as_bytes(),
+                    text: spelled.text,
+                    rules: spelled.rules,
+                    origins: spelled.origins,
+                    skips: spelled.skips,
+                    verdicts,
+                };
+                junit_of_all(alloc, recording, judged, lost)
+            }
+        }
+    }
+}
+
 /// Says that messages are missing from a recording, and how many packets say so, where any do.
-pub(crate) fn tell_lost<E: Eprint>(errors: &E, lost: &Lost) {
+fn tell_lost<E: Eprint>(errors: &E, lost: &Lost) {
     if lost.is_any() {
         // Nothing else is lost where standard error takes no more.
         let _ = eprintln!(errors; "messages are missing from this recording: {lost}");
@@ -132,20 +202,24 @@ pub fn run<'a, R: System, E: Eprint + IsTerminal>(
             &[request.recording, rules],
         )?;
     }
-    if let Some(dictionary) = request.signals {
-        let signals = dictionary_in(rt, dictionary)?;
-        return run_with(rt, errors, request, signals.as_slice());
-    }
+    let signals = match request.signals {
+        Some(dictionary) => Some(dictionary_in(rt, dictionary)?),
+        None => None,
+    };
     let source = Source::of(rt, errors, request.recording)?;
     let given = given_rules(rt, request)?;
+    let text = lent(&given);
     let recording = source.recording(request.skip, true);
-    let judged = judge_recording(rt, errors, request, &recording, lent(&given));
+    let judged = match &signals {
+        Some(signals) => judge_among(rt, errors, request, &recording, text, signals.as_slice()),
+        None => judge_recording(rt, errors, request, &recording, text),
+    };
     source.end();
     judged
 }
 
 /// The text of the file of rules, if there is one.
-pub(crate) fn given_rules<'a, R: Files + AllocGlobal>(
+fn given_rules<'a, R: Files + AllocGlobal>(
     rt: &R,
     request: &Request<'a>,
 ) -> Result<Option<Vec<u8>>, CommandFault<'a>> {
@@ -156,7 +230,7 @@ pub(crate) fn given_rules<'a, R: Files + AllocGlobal>(
 }
 
 /// A text, if there is one.
-pub(crate) fn lent(given: &Option<Vec<u8>>) -> Option<&[u8]> {
+fn lent(given: &Option<Vec<u8>>) -> Option<&[u8]> {
     match given {
         Some(text) => Some(text.as_slice()),
         None => None,
@@ -189,7 +263,7 @@ fn judge_recording<'a, R: System, E: Eprint + IsTerminal>(
         origins: stamps.origins.as_slice(),
         skips: skips.as_slice(),
     };
-    judge_by(rt, errors, request, recording, spelled)
+    judge_by(rt, errors, request, recording, Judging::Plain(spelled))
 }
 
 /// Whether packets may be told that miss one of these rules.
@@ -215,17 +289,17 @@ pub(crate) fn skips_of<'a, R: Files + AllocGlobal + Clock, E: Eprint + IsTermina
 }
 
 /// Judges by these rules, prints the verdicts, tells of messages that are missing and writes the JUnit file.
-fn judge_by<'a, R: System, E: Eprint + IsTerminal>(
+pub(crate) fn judge_by<'a, R: System, E: Eprint + IsTerminal>(
     rt: &R,
     errors: &E,
     request: &Request<'a>,
     recording: &Recording<'_, 'a, R, E>,
-    spelled: Spelled<'_>,
+    judging: Judging<'_, '_, '_>,
 ) -> Result<(), CommandFault<'a>> {
     let printed = if request.json {
-        print_json(rt, request.recording, recording, spelled)
+        print_json(rt, request.recording, recording, judging)
     } else {
-        print_verdicts(rt, request.recording, recording, spelled)
+        judging.print(rt, request.recording, recording)
     };
     let junit = junit_of(request.junit, &printed);
     let verdicts = printed?;
@@ -238,15 +312,14 @@ fn judge_by<'a, R: System, E: Eprint + IsTerminal>(
         tell_lost(errors, &lost);
     }
     if let Some(junit) = junit {
-        let judged = spelled.judged(verdicts.as_slice());
-        let made = junit_text(rt.alloc(), recording, judged, lost);
+        let made = judging.junit(rt.alloc(), recording, verdicts.as_slice(), lost);
         write_report(rt, request, junit, made)?;
     }
     verdict_on(verdicts.as_slice())
 }
 
 /// What the packets of the recording with this name say of messages that are missing: a pass.
-pub(crate) fn lost_of<'a, R: Files + AllocGlobal + Clock, E: Eprint + IsTerminal>(
+fn lost_of<'a, R: Files + AllocGlobal + Clock, E: Eprint + IsTerminal>(
     name: &'a str,
     recording: &Recording<'_, 'a, R, E>,
 ) -> Result<Lost, CommandFault<'a>> {
@@ -261,20 +334,19 @@ fn print_json<'a, R: System, E: Eprint + IsTerminal>(
     rt: &R,
     name: &'a str,
     recording: &Recording<'_, 'a, R, E>,
-    spelled: Spelled<'_>,
+    judging: Judging<'_, '_, '_>,
 ) -> Result<Vec<RuleVerdict>, CommandFault<'a>> {
     let alloc = rt.alloc();
     let lines = JsonLines::over(alloc, JsonSource::Lines, listing(rt));
     let mut out = on_stream("-", BufWriter::new(alloc, lines))?;
-    let (rules, origins, skips) = (spelled.rules, spelled.origins, spelled.skips);
-    match write_verdicts(alloc, recording, rules, origins, skips, &mut out) {
+    match judging.write(alloc, recording, &mut out) {
         Ok(verdicts) => Ok(verdicts),
         Err(fault) => Err(fault_of_pass(name, fault)),
     }
 }
 
 /// Writes the JUnit file if it could be made.
-pub(crate) fn write_report<'a, R: Files<File: Hold> + AllocGlobal>(
+fn write_report<'a, R: Files<File: Hold> + AllocGlobal>(
     rt: &R,
     request: &Request<'a>,
     junit: &'a str,

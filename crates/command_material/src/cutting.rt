@@ -1,18 +1,17 @@
 //! `bench cut`: some of the messages of a recording as a recording of their own.
 
+use bench_clock::Clock as RecordingClock;
 use bench_cut::{CutFault, cut};
 use bench_files::{Hold, Kind};
-use bench_select::Selection;
-use bench_watch::Reopen;
 use clap::{ArgMatches, Command};
 use command_parts::extracting::{Extract, extract_options};
-use command_parts::looking::tell_of_unknown;
+use command_parts::opening::{OpenWay, Opened};
 use command_parts::options::{command_of, flag};
-use command_parts::recordings::{Recording, Source, fault_of_reading};
-use command_parts::replacing::{begin_to_write, is_replaced, put_or_give_up};
+use command_parts::recordings::Times;
 use command_parts::requests::CommandFault;
-use command_parts::selecting::{selection_in, selection_options};
+use command_parts::selecting::selection_options;
 use command_parts::streams::on_stream;
+use command_parts::writing::{WriteEnd, Writes, write_chosen};
 use std::alloc::{AllocError, Global};
 use std::io::{self, BufWriter, IsTerminal, Write};
 use std::rt::{Clock, Files};
@@ -58,107 +57,69 @@ pub fn request_in<'a>(given: &ArgMatches<'a>) -> Request<'a> {
     }
 }
 
-/// Writes the messages of a recording that were chosen as a recording of their own. The out file takes the place of
-/// what is there once it is whole; it may not be the recording itself. Where a selection has no message, nothing is
-/// written. The faults of the recording come before those of the out file.
+impl<'a> Request<'a> {
+    /// How the recording is opened.
+    fn opening(&self) -> OpenWay<'a> {
+        OpenWay {
+            kind: Kind::Recording,
+            dictionary: None,
+            times: Times {
+                asked: false,
+                channel: None,
+            },
+            stamped: false,
+            skip: self.skip,
+        }
+    }
+}
+
+/// Writes the messages of a recording that were chosen as a recording of their own.
 pub fn run<'a, R: Files<File: Hold> + AllocGlobal + Clock, E: Eprint + IsTerminal>(
     rt: &R,
     errors: &E,
     request: &Request<'a>,
 ) -> Result<(), CommandFault<'a>> {
-    let _no_signals = request.extract.judge(rt, Kind::Recording, None)?;
-    let selection = selection_in(&request.extract.selection)?;
-    let source = Source::of(rt, errors, request.extract.recording)?;
-    let recording = source.recording(request.skip, false);
-    let stamps = recording.stamps(selection.is_timed())?;
-    let selection = selection.counting_from(stamps.origins.as_slice());
-    let written = cut_recording(rt, &recording, request, &selection);
-    source.end();
-    tell_of_unknown(errors, request.extract.recording, &stamps);
-    written
+    write_chosen(rt, errors, &request.extract, request.opening(), request)
 }
 
-/// Cuts a recording. Where the out file takes its place once it is whole, the pass that writes is also the one that
-/// tells whether the recording can be read and has a message of the selection; else a pass before it does, and so does
-/// one where the out file cannot be begun or written.
-fn cut_recording<'a, R: Files<File: Hold> + AllocGlobal + Clock, E: Eprint + IsTerminal>(
-    rt: &R,
-    recording: &Recording<'_, 'a, R, E>,
-    request: &Request<'a>,
-    selection: &Selection,
-) -> Result<(), CommandFault<'a>> {
-    let (out, force) = (request.extract.out, request.extract.force);
-    if !is_replaced(rt, out) {
-        some_selected(recording, request, selection)?;
+impl Writes for Request<'_> {
+    fn selects<'a, R: Files + AllocGlobal + Clock, E: Eprint + IsTerminal>(
+        &self,
+        opened: &Opened<'_, 'a, R, E>,
+    ) -> Result<bool, CommandFault<'a>> {
+        // What goes nowhere never fails.
+        Ok(cut_into(opened, &mut io::sink())?.unwrap_or(true))
     }
-    let (file, writer) = match begin_to_write(rt, out, Kind::Recording, force) {
-        Ok(begun) => begun,
-        Err(fault) => {
-            some_selected(recording, request, selection)?;
-            return Err(fault);
-        }
-    };
-    let written = write_messages(recording, request, selection, writer);
-    put_or_give_up(rt, out, file, written)
-}
 
-/// The fault of a recording that cannot be read, or whose selection has no message: a pass.
-fn some_selected<'a, R: Files + AllocGlobal + Clock, E: Eprint + IsTerminal>(
-    recording: &Recording<'_, 'a, R, E>,
-    request: &Request<'a>,
-    selection: &Selection,
-) -> Result<(), CommandFault<'a>> {
-    match cut_into(recording, request, selection, &mut io::sink())? {
-        Some(selected) => judge_selected(request, selected),
-        None => Ok(()),
-    }
-}
-
-/// The fault of a selection that has no message.
-fn judge_selected<'a>(request: &Request<'a>, selected: bool) -> Result<(), CommandFault<'a>> {
-    if selected || request.extract.selection.is_empty() {
-        Ok(())
-    } else {
-        Err(CommandFault::NoneSelected)
-    }
-}
-
-/// Writes the messages of a recording that were chosen to where the bytes of the out file go.
-fn write_messages<'a, R: Files + AllocGlobal + Clock, E: Eprint + IsTerminal, W: Write + Drop>(
-    recording: &Recording<'_, 'a, R, E>,
-    request: &Request<'a>,
-    selection: &Selection,
-    writer: W,
-) -> Result<(), CommandFault<'a>> {
-    let out = request.extract.out;
-    let mut buffer = on_stream(out, BufWriter::new(recording.alloc(), writer))?;
-    match cut_into(recording, request, selection, &mut buffer)? {
-        Some(selected) => {
-            judge_selected(request, selected)?;
-            on_stream(out, buffer.flush())
-        }
-        None => {
-            some_selected(recording, request, selection)?;
-            Err(CommandFault::Device(out))
+    fn write<'a, R: Files + AllocGlobal + Clock, E: Eprint + IsTerminal, W: Write + Drop>(
+        &self,
+        opened: &Opened<'_, 'a, R, E>,
+        _clock: &RecordingClock,
+        writer: W,
+    ) -> Result<WriteEnd<'a>, CommandFault<'a>> {
+        let out = opened.out();
+        let mut buffer = on_stream(out, BufWriter::new(opened.recording().alloc(), writer))?;
+        match cut_into(opened, &mut buffer)? {
+            Some(selected) => match on_stream(out, buffer.flush()) {
+                Ok(()) => Ok(WriteEnd::Written(selected)),
+                Err(fault) => Ok(WriteEnd::Failed(fault)),
+            },
+            None => Ok(WriteEnd::Failed(CommandFault::Device(out))),
         }
     }
 }
 
 /// Writes the messages of a recording that were chosen; answers whether any was, and None where the writer failed.
 fn cut_into<'a, R: Files + AllocGlobal + Clock, E: Eprint + IsTerminal, W: Write>(
-    recording: &Recording<'_, 'a, R, E>,
-    request: &Request<'a>,
-    selection: &Selection,
+    opened: &Opened<'_, 'a, R, E>,
     out: &mut W,
 ) -> Result<Option<bool>, CommandFault<'a>> {
-    let name = request.extract.recording;
-    let input = match recording.reopen() {
-        Ok(input) => input,
-        Err(error) => return Err(CommandFault::of_stream(name, &error)),
-    };
-    match cut(recording.alloc(), input, selection, out) {
+    let recording = opened.recording();
+    let chosen = opened.chosen()?;
+    let input = recording.begin_anew()?;
+    match cut(recording.alloc(), input, &chosen.selection, out) {
         Ok(selected) => Ok(Some(selected)),
-        Err(CutFault::Reading(fault)) => Err(fault_of_reading(name, fault)),
+        Err(CutFault::Reading(fault)) => recording.answer(Err(fault)),
         Err(CutFault::Writing) => Ok(None),
     }
 }

@@ -47,7 +47,7 @@ impl<'a> Extract<'a> {
     /// The signals of the dictionary in this file, none where none is named. A usage fault of the selection, and that
     /// of an out file that is not to be replaced by one of this kind, or is one of those that are read, come before its
     /// own.
-    pub fn judge<R: Files + AllocGlobal>(
+    pub(crate) fn judge<R: Files + AllocGlobal>(
         &self,
         rt: &R,
         kind: Kind,
@@ -57,5 +57,14 @@ impl<'a> Extract<'a> {
         let read = [self.recording, dictionary.unwrap_or(self.recording)];
         may_write(rt, self.out, kind, self.force, &read)?;
         signals_in(rt, dictionary)
+    }
+
+    /// The fault of a selection that has no message; without one a file may have none.
+    pub(crate) fn judge_selected(&self, selected: bool) -> Result<(), CommandFault<'a>> {
+        if selected || self.selection.is_empty() {
+            Ok(())
+        } else {
+            Err(CommandFault::NoneSelected)
+        }
     }
 }

@@ -121,13 +121,7 @@ impl<'f, 'a, R: Files + AllocGlobal + Clock, E: Eprint + IsTerminal> Source<'f, 
         errors: &'f E,
         name: &'a str,
     ) -> Result<Source<'f, 'a, R, E>, CommandFault<'a>> {
-        let kept = kept_of(rt, name)?;
-        Ok(Source {
-            rt,
-            name,
-            watch: Watch::begin(rt, errors, name),
-            kept,
-        })
+        Ok(Source::over(rt, errors, name, kept_of(rt, name)?))
     }
 
     /// The same, and its bytes are kept in any case.
@@ -136,13 +130,22 @@ impl<'f, 'a, R: Files + AllocGlobal + Clock, E: Eprint + IsTerminal> Source<'f, 
         errors: &'f E,
         name: &'a str,
     ) -> Result<Source<'f, 'a, R, E>, CommandFault<'a>> {
-        let kept = read_whole(rt, name)?;
-        Ok(Source {
+        Ok(Source::over(rt, errors, name, Some(read_whole(rt, name)?)))
+    }
+
+    /// The recording with this name, of which these bytes are kept, if any.
+    fn over(
+        rt: &'f R,
+        errors: &'f E,
+        name: &'a str,
+        kept: Option<Vec<u8>>,
+    ) -> Source<'f, 'a, R, E> {
+        Source {
             rt,
             name,
             watch: Watch::begin(rt, errors, name),
-            kept: Some(kept),
-        })
+            kept,
+        }
     }
 
     /// The recording for passes over it, or with `skip` for passes over what is sound of it.
@@ -208,6 +211,11 @@ impl<'f, 'a, R: Files + AllocGlobal + Clock, E: Eprint + IsTerminal> Recording<'
         self.rt.alloc()
     }
 
+    /// Its name as given.
+    pub fn name(&self) -> &'a str {
+        self.name
+    }
+
     /// Its bytes, where they are kept.
     pub fn bytes(&self) -> Option<&'f [u8]> {
         self.kept
@@ -228,6 +236,17 @@ impl<'f, 'a, R: Files + AllocGlobal + Clock, E: Eprint + IsTerminal> Recording<'
         &self,
     ) -> Result<Bytes<'f, SystemFile<R::File>, R, E>, CommandFault<'a>> {
         self.begin(false)
+    }
+
+    /// All its bytes, or what is sound of it, as `reopen` gives them, where one that cannot be opened is a device fault
+    /// with its name.
+    pub fn begin_anew(
+        &self,
+    ) -> Result<Pass<Bytes<'f, SystemFile<R::File>, R, E>>, CommandFault<'a>> {
+        match self.reopen() {
+            Ok(pass) => Ok(pass),
+            Err(error) => Err(CommandFault::of_stream(self.name, &error)),
+        }
     }
 
     /// Whether it can be read to its end, or its first fault.

@@ -1,15 +1,14 @@
 //! Messages of a recording that are shown with their signals, as `bench draw` and `bench view` do.
 
-use crate::dictionaries::selection_by;
 use crate::extracting::Extract;
+use crate::looking::tell_of_unread;
+use crate::opening::{ChosenMessages, OpenWay, Opened};
 use crate::options::{Row, file, time_channel};
 use crate::recordings::{Recording, Times};
 use bench_clock::Clock as RecordingClock;
 use bench_files::{Hold, Kind};
 use bench_requests::{CommandFault, write_new};
-use bench_select::Selection;
 use clap::ArgMatches;
-use signal_dictionary::Signal;
 use std::io::IsTerminal;
 use std::rt::{Clock, Files};
 
@@ -29,10 +28,32 @@ pub struct Showing<'a> {
 pub struct Known {
     /// Its clock.
     pub clock: RecordingClock,
-    /// Whether it has time packets of which none can be read.
-    pub unread: bool,
     /// Its first bytes, with the names of its channels.
     pub front: Vec<u8>,
+    /// Whether it has time packets of which none can be read.
+    unread: bool,
+}
+
+/// Messages that are shown in one text.
+#[derive(Drop)]
+pub struct ShownText {
+    /// The text.
+    pub text: Vec<u8>,
+    /// How many messages are chosen.
+    pub chosen: u64,
+    /// How many of them the text has.
+    pub shown: u64,
+}
+
+/// How messages of a recording are shown.
+pub trait Shows {
+    /// Shows the messages that are chosen of a recording of which this is known.
+    fn show<'a, R: Files + AllocGlobal + Clock, E: Eprint + IsTerminal>(
+        &self,
+        recording: &Recording<'_, 'a, R, E>,
+        chosen: ChosenMessages<'_>,
+        known: &Known,
+    ) -> Result<ShownText, CommandFault<'a>>;
 }
 
 /// The options that say with which signals, as the help describes their dictionary, and by which time packets.
@@ -50,51 +71,59 @@ impl<'a> Showing<'a> {
         }
     }
 
-    /// The signals of its dictionary, none where none is named; the faults of the command line and of an out file of
-    /// this kind come before the dictionary's.
-    pub fn judge<R: Files + AllocGlobal>(
+    /// Shows the messages of a recording, or those that were selected, in a file of this kind. It takes the place of
+    /// what is there once it is whole; it may be none of the files that are read. Where a selection has no message,
+    /// nothing is written, and that is said.
+    pub fn run<R: Files<File: Hold> + AllocGlobal + Clock, E: Eprint + IsTerminal, M: Shows>(
         &self,
         rt: &R,
+        errors: &E,
         kind: Kind,
-    ) -> Result<Vec<Signal>, CommandFault<'a>> {
-        self.extract.judge(rt, kind, self.signals)
+        manner: &M,
+    ) -> Result<ShownText, CommandFault<'a>> {
+        let extract = &self.extract;
+        let opened = extract.open(rt, errors, self.opening(kind))?;
+        let shown = shown_of(&opened, manner);
+        opened.end(errors);
+        let (shown, unread) = shown?;
+        extract.judge_selected(shown.chosen > 0)?;
+        write_new(rt, extract.out, kind, extract.force, shown.text.as_slice())?;
+        tell_of_unread(errors, extract.recording, unread);
+        Ok(shown)
     }
 
-    /// The selection that it asks for, by these signals too.
-    pub fn selection<'s>(&self, signals: &'s [Signal]) -> Result<Selection<'s>, CommandFault<'a>> {
-        selection_by(&self.extract.selection, self.signals, signals)
-    }
-
-    /// What is known of a recording: a pass for its clock, and its first bytes.
-    pub fn known<R: Files + AllocGlobal + Clock, E: Eprint + IsTerminal>(
-        &self,
-        recording: &Recording<'_, 'a, R, E>,
-    ) -> Result<Known, CommandFault<'a>> {
-        let read = recording.clock(Times {
+    /// How its recording is opened for a file of this kind.
+    fn opening(&self, kind: Kind) -> OpenWay<'a> {
+        let times = Times {
             asked: true,
             channel: self.time_channel,
-        })?;
-        let front = recording.front()?;
-        Ok(Known {
-            clock: read.clock,
-            unread: read.unread,
-            front,
-        })
+        };
+        OpenWay::stamped(kind, self.signals, times)
     }
+}
 
-    /// Puts into the out file what was made of so many messages. What has no message is none where messages were
-    /// chosen.
-    pub fn put<R: Files<File: Hold> + AllocGlobal>(
-        &self,
-        rt: &R,
-        kind: Kind,
-        messages: u64,
-        text: &[u8],
-    ) -> Result<(), CommandFault<'a>> {
-        let extract = &self.extract;
-        if messages == 0 && !extract.selection.is_empty() {
-            return Err(CommandFault::NoneSelected);
-        }
-        write_new(rt, extract.out, kind, extract.force, text)
-    }
+/// Shows the messages that are chosen, once their recording's clock, in a pass, and its first bytes are known; and
+/// answers whether the recording has time packets of which none can be read.
+fn shown_of<'a, R: Files + AllocGlobal + Clock, E: Eprint + IsTerminal, M: Shows>(
+    opened: &Opened<'_, 'a, R, E>,
+    manner: &M,
+) -> Result<(ShownText, bool), CommandFault<'a>> {
+    let recording = opened.recording();
+    let known = known_of(&recording, opened.opening.times)?;
+    let shown = manner.show(&recording, opened.chosen()?, &known)?;
+    Ok((shown, known.unread))
+}
+
+/// What is known of a recording: a pass for its clock, and its first bytes.
+fn known_of<'a, R: Files + AllocGlobal + Clock, E: Eprint + IsTerminal>(
+    recording: &Recording<'_, 'a, R, E>,
+    times: Times,
+) -> Result<Known, CommandFault<'a>> {
+    let read = recording.clock(times)?;
+    let front = recording.front()?;
+    Ok(Known {
+        clock: read.clock,
+        front,
+        unread: read.unread,
+    })
 }

@@ -16,17 +16,13 @@ const BEGINNING: usize = 4096;
 /// What files of a bench have in them.
 #[derive(Clone, Copy, Debug, PartialEq, Eq)]
 pub(crate) enum Content {
-    Recording,
-    Report,
-    Image,
-    Rows,
-    Picture,
-    Verdicts,
-    Waves,
-    Page,
-    Job,
+    /// What a command writes; of a job, also one that somebody wrote.
+    Written(Kind),
+    /// A text of rules.
     Rules,
+    /// A dictionary of signals.
     Dictionary,
+    /// A script.
     Script,
 }
 
@@ -34,15 +30,7 @@ impl Content {
     /// What a file is that has it, and which commands take one.
     fn told(self) -> &'static str {
         match self {
-            Content::Recording => "a recording; bench dump and bench stat show what is in it",
-            Content::Report => "a report of bench run; bench step reads it beside its recording",
-            Content::Image => "an image, which bench assemble wrote",
-            Content::Rows => "a table of messages, which bench export wrote",
-            Content::Picture => "a picture, which bench draw wrote",
-            Content::Verdicts => "a JUnit report, which bench judge wrote",
-            Content::Waves => "a value change dump, which bench export wrote",
-            Content::Page => "a page, which bench view wrote; a browser shows it",
-            Content::Job => "a job; bench check tries it, and bench run records it",
+            Content::Written(kind) => told_of(kind),
             Content::Rules => "a text of rules; bench judge reads it beside a recording",
             Content::Dictionary => {
                 "a dictionary of signals; bench signals reads it beside a recording"
@@ -54,25 +42,40 @@ impl Content {
     }
 }
 
-/// What a file has in it that begins so: by its first bytes, or in a text by the first word behind comments. None where
-/// neither tells.
+/// What a file of this kind is, and which commands take one or wrote it.
+fn told_of(kind: Kind) -> &'static str {
+    match kind {
+        Kind::Recording => "a recording; bench dump and bench stat show what is in it",
+        Kind::Report => "a report of bench run; bench step reads it beside its recording",
+        Kind::Image => "an image, which bench assemble wrote",
+        Kind::Rows => "a table of messages, which bench export wrote",
+        Kind::Picture => "a picture, which bench draw wrote",
+        Kind::Verdicts => "a JUnit report, which bench judge wrote",
+        Kind::Waves => "a value change dump, which bench export wrote",
+        Kind::Page => "a page, which bench view wrote; a browser shows it",
+        Kind::Job => "a job; bench check tries it, and bench run records it",
+    }
+}
+
+/// What a file has in it that begins so: by its first bytes, or in a text by the first word behind comments, as in a
+/// job whoever wrote it. None where neither tells.
 fn content_of(text: &[u8]) -> Option<Content> {
     if text.is_empty() {
         return None;
     }
     let kinds = [
-        (Kind::Recording, Content::Recording),
-        (Kind::Report, Content::Report),
-        (Kind::Image, Content::Image),
-        (Kind::Rows, Content::Rows),
-        (Kind::Picture, Content::Picture),
-        (Kind::Verdicts, Content::Verdicts),
-        (Kind::Waves, Content::Waves),
-        (Kind::Page, Content::Page),
+        Kind::Recording,
+        Kind::Report,
+        Kind::Image,
+        Kind::Rows,
+        Kind::Picture,
+        Kind::Verdicts,
+        Kind::Waves,
+        Kind::Page,
     ];
-    for (kind, content) in kinds {
+    for kind in kinds {
         if is_of_kind(kind, text) {
-            return Some(content);
+            return Some(Content::Written(kind));
         }
     }
     content_behind(first_word(text))
@@ -106,7 +109,7 @@ const SCRIPT_WORDS: &[&str] = &[
 /// What a text has in it that begins with this word.
 fn content_behind(word: &[u8]) -> Option<Content> {
     if is_one_of(word, JOB_WORDS) {
-        return Some(Content::Job);
+        return Some(Content::Written(Kind::Job));
     }
     if word == b"expect".as_slice() {
         return Some(Content::Rules);
@@ -150,7 +153,7 @@ pub(crate) fn other_in_place<R: AllocGlobal>(
     let mut out = String::new(rt.alloc());
     write!(out, "  {name} is {told}\n")?;
     out.push_str(named.order)?;
-    if found == Content::Recording && is_lossy(rt.alloc(), text) {
+    if found == Content::Written(Kind::Recording) && is_lossy(rt.alloc(), text) {
         out.push_str(
             "  messages are missing from this recording: packets with the overflow flag\n",
         )?;
@@ -179,7 +182,7 @@ pub(crate) fn named_no_recording<R: Files + AllocGlobal>(
     match read_beginning(rt, name, &mut beginning) {
         Some(count) => {
             let (text, _) = beginning.split_at(count.min(beginning.len()));
-            other_in_place(rt, named, Content::Recording, name, text)
+            other_in_place(rt, named, Content::Written(Kind::Recording), name, text)
         }
         None => Ok(None),
     }

@@ -9,6 +9,7 @@ use crate::reasoning::{reason_of_dictionary, reason_of_job, reason_of_rules, rea
 use crate::refusing::refusal_of;
 use bench_assemble::AssembleFault;
 use bench_explain::explain;
+use bench_files::Kind;
 use bench_one::OneFault;
 use bench_reasons::{Place, Reason, Text, explained, put_place};
 use ch11_reader::Refusal;
@@ -74,15 +75,19 @@ fn particular<R: Files + AllocGlobal>(
             text_lines(rt, "TEXT", text, Text::Send, *cause, *place)
         }
         CommandFault::Script(AssembleFault::Text { cause, place }) => {
-            script_at_fault(rt, named, *cause, *place)
+            let (cause, place) = (*cause, *place);
+            text_at_fault(rt, named, RefusedText::Script { cause, place })
         }
         CommandFault::Job(error) => job_at_fault(rt, named, error),
         CommandFault::Run(error) => refusal_of(rt, named, *error),
         CommandFault::Recording(refusal) if refusal.offset == 0 => no_recording(rt, named),
         CommandFault::OneOfTwo { name, refusal } => one_of_two(rt, named, name, *refusal),
-        CommandFault::Report(error) => report_at_fault(rt, named, error.line, fault),
-        CommandFault::Rules(error) => rules_at_fault(rt, named, error),
-        CommandFault::Dictionary(error) => dictionary_at_fault(rt, named, error),
+        CommandFault::Report(error) => {
+            let line = error.line;
+            text_at_fault(rt, named, RefusedText::Report { line, fault })
+        }
+        CommandFault::Rules(error) => text_at_fault(rt, named, RefusedText::Rules(error)),
+        CommandFault::Dictionary(error) => text_at_fault(rt, named, RefusedText::Dictionary(error)),
         CommandFault::NoneSelected => crossed_bounds(rt, named),
         CommandFault::Mismatch { channel, number } => difference_of(rt, named, *channel, *number),
         _ => Ok(None),
@@ -109,23 +114,88 @@ fn one_of_two<R: Files + AllocGlobal>(
     Ok(Some(out))
 }
 
-/// Why the script that is named is refused, as lines: that it is of another kind, or the reason of its text.
-fn script_at_fault<R: Files + AllocGlobal>(
+/// Why a text that a command line names is refused.
+#[derive(Clone, Copy)]
+enum RefusedText<'f, 'a> {
+    /// A script, at this place.
+    Script {
+        cause: Cause,
+        place: frame_text::Place,
+    },
+    /// A report, at this line: the fault as it was told.
+    Report {
+        line: u64,
+        fault: &'f CommandFault<'a>,
+    },
+    /// Rules.
+    Rules(&'f RuleError),
+    /// A dictionary of signals.
+    Dictionary(&'f DictionaryError),
+}
+
+impl RefusedText<'_, '_> {
+    /// The text's file; none where the command line names none.
+    fn name<'n>(self, named: &Named<'_, 'n>) -> Option<&'n str> {
+        match self {
+            RefusedText::Script { .. } => named.script,
+            RefusedText::Report { .. } => named.report,
+            RefusedText::Rules(_) => named.rules,
+            RefusedText::Dictionary(_) => named.dictionary,
+        }
+    }
+
+    /// What the file is to have in it.
+    fn wanted(self) -> Content {
+        match self {
+            RefusedText::Script { .. } => Content::Script,
+            RefusedText::Report { .. } => Content::Written(Kind::Report),
+            RefusedText::Rules(_) => Content::Rules,
+            RefusedText::Dictionary(_) => Content::Dictionary,
+        }
+    }
+
+    /// What there is to say of the text in the file of this name, as lines.
+    fn lines<R: Files + AllocGlobal>(
+        self,
+        rt: &R,
+        named: &Named<'_, '_>,
+        name: &str,
+        text: &[u8],
+    ) -> Result<Option<String>, AllocError> {
+        match self {
+            RefusedText::Script { cause, place } => {
+                text_lines(rt, name, text, Text::Script, cause, place)
+            }
+            RefusedText::Report { line, fault } => {
+                let fault = format!(in rt.alloc(); "{fault}")?;
+                line_lines(rt, name, text, line, fault.as_str())
+            }
+            RefusedText::Rules(error) => rule_lines(rt, named, name, text, error),
+            RefusedText::Dictionary(error) => {
+                let reason = reason_of_dictionary(rt.alloc(), text, error)?;
+                told(rt, name, text, reason)
+            }
+        }
+    }
+}
+
+/// Why a text that is named is refused, as lines: that its file is of another kind, or what there is to say of it. The
+/// file is read once more, and there are none where it is not named, or that fails.
+fn text_at_fault<R: Files + AllocGlobal>(
     rt: &R,
     named: &Named<'_, '_>,
-    cause: Cause,
-    place: frame_text::Place,
+    refused: RefusedText<'_, '_>,
 ) -> Result<Option<String>, AllocError> {
-    let Some(name) = named.script else {
+    let Some(name) = refused.name(named) else {
         return Ok(None);
     };
     let Ok(text) = read_again(rt, name) else {
         return Ok(None);
     };
     let text = text.as_slice();
-    match other_in_place(rt, named, Content::Script, name, text)? {
+    match other_in_place(rt, named, refused.wanted(), name, text)? {
         Some(lines) => Ok(Some(lines)),
-        None => text_lines(rt, name, text, Text::Script, cause, place),
+        None => refused.lines(rt, named, name, text),
     }
 }
 
@@ -192,7 +262,7 @@ fn job_lines<R: AllocGlobal>(
     text: &[u8],
     error: &JobError,
 ) -> Result<Option<String>, AllocError> {
-    if let Some(lines) = other_in_place(rt, named, Content::Job, name, text)? {
+    if let Some(lines) = other_in_place(rt, named, Content::Written(Kind::Job), name, text)? {
         return Ok(Some(lines));
     }
     match error {
@@ -220,86 +290,27 @@ fn line_lines<R: AllocGlobal>(
     Ok(Some(out))
 }
 
-/// Why a report is refused, as lines: that it is of another kind, or its line with what that means.
-fn report_at_fault<R: Files + AllocGlobal>(
+/// The reason of a text of rules, which may name the signals of a dictionary, as lines.
+fn rule_lines<R: Files + AllocGlobal>(
     rt: &R,
     named: &Named<'_, '_>,
-    line: u64,
-    fault: &CommandFault<'_>,
-) -> Result<Option<String>, AllocError> {
-    let Some(name) = named.report else {
-        return Ok(None);
-    };
-    let Ok(text) = read_again(rt, name) else {
-        return Ok(None);
-    };
-    let text = text.as_slice();
-    if let Some(lines) = other_in_place(rt, named, Content::Report, name, text)? {
-        return Ok(Some(lines));
-    }
-    let fault = format!(in rt.alloc(); "{fault}")?;
-    line_lines(rt, name, text, line, fault.as_str())
-}
-
-/// Why rules are refused, as lines: that their file is of another kind, or the reason of their text.
-fn rules_at_fault<R: Files + AllocGlobal>(
-    rt: &R,
-    named: &Named<'_, '_>,
+    name: &str,
+    text: &[u8],
     error: &RuleError,
 ) -> Result<Option<String>, AllocError> {
-    let Some(name) = named.rules else {
-        return Ok(None);
+    let dictionary = dictionary_again(rt, named);
+    let signals = match &dictionary {
+        Some(text) => Some(text.as_slice()),
+        None => None,
     };
-    let Ok(text) = read_again(rt, name) else {
-        return Ok(None);
-    };
-    let text = text.as_slice();
-    match other_in_place(rt, named, Content::Rules, name, text)? {
-        Some(lines) => Ok(Some(lines)),
-        None => {
-            let dictionary = dictionary_again(rt, named);
-            let signals = match &dictionary {
-                Some(text) => Some(text.as_slice()),
-                None => None,
-            };
-            told(
-                rt,
-                name,
-                text,
-                reason_of_rules(rt.alloc(), text, signals, error)?,
-            )
-        }
-    }
+    let reason = reason_of_rules(rt.alloc(), text, signals, error)?;
+    told(rt, name, text, reason)
 }
 
 /// The text of the dictionary that is named, read once more; none where it names none, or that fails.
 fn dictionary_again<R: Files + AllocGlobal>(rt: &R, named: &Named<'_, '_>) -> Option<Vec<u8>> {
     let name = named.dictionary?;
     read_again(rt, name).ok()
-}
-
-/// Why a dictionary is refused, as lines: that its file is of another kind, or the reason of its text.
-fn dictionary_at_fault<R: Files + AllocGlobal>(
-    rt: &R,
-    named: &Named<'_, '_>,
-    error: &DictionaryError,
-) -> Result<Option<String>, AllocError> {
-    let Some(name) = named.dictionary else {
-        return Ok(None);
-    };
-    let Ok(text) = read_again(rt, name) else {
-        return Ok(None);
-    };
-    let text = text.as_slice();
-    match other_in_place(rt, named, Content::Dictionary, name, text)? {
-        Some(lines) => Ok(Some(lines)),
-        None => told(
-            rt,
-            name,
-            text,
-            reason_of_dictionary(rt.alloc(), text, error)?,
-        ),
-    }
 }
 
 /// That the first message which is asked for stands behind the last one, as a line; none where it does not.

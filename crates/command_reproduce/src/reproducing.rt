@@ -4,7 +4,6 @@ use crate::channels::{Found, find_channel};
 use bench_compare::write_part;
 use bench_files::{Hold, Kind};
 use bench_reproduce::{JobForm, ReproduceFault, Reproduction, Verdict, reproduce};
-use bench_watch::Reopen;
 use clap::{ArgMatches, Command};
 use command_parts::hosts::System;
 use command_parts::options::{argument, command_of, file, flag, force, number};
@@ -136,17 +135,6 @@ fn named_channel<'a>(request: &Request<'a>) -> Result<Option<u16>, CommandFault<
     }
 }
 
-/// A reader at the first byte of a recording.
-fn reopened<'f, 'a, R: Files + AllocGlobal + Clock, E: Eprint + IsTerminal>(
-    recording: &Recording<'f, 'a, R, E>,
-    name: &'a str,
-) -> Result<<Recording<'f, 'a, R, E> as Reopen>::Reader, CommandFault<'a>> {
-    match recording.reopen() {
-        Ok(input) => Ok(input),
-        Err(error) => Err(CommandFault::of_stream(name, &error)),
-    }
-}
-
 /// The channel that is named, or else the one that has messages: a pass.
 fn channel_of<'a, R: Files + AllocGlobal + Clock, E: Eprint + IsTerminal>(
     recording: &Recording<'_, 'a, R, E>,
@@ -156,7 +144,7 @@ fn channel_of<'a, R: Files + AllocGlobal + Clock, E: Eprint + IsTerminal>(
     if let Some(channel) = named {
         return Ok(channel);
     }
-    match find_channel(recording.alloc(), reopened(recording, name)?) {
+    match find_channel(recording.alloc(), recording.begin_anew()?) {
         Ok(Found::One(0)) => Err(CommandFault::Usage(
             "this recording has messages of channel 0 alone: the channels of jobs are 1 to 65535",
         )),
@@ -177,7 +165,7 @@ fn reproduce_channel<'a, R: Files + AllocGlobal + Clock, E: Eprint + IsTerminal>
 ) -> Result<Reproduction, CommandFault<'a>> {
     let name = request.recording;
     let channel = channel_of(recording, name, named)?;
-    let input = reopened(recording, name)?;
+    let input = recording.begin_anew()?;
     let form = if request.frames {
         JobForm::Frames
     } else {

@@ -2,17 +2,15 @@
 
 use bench_files::{Hold, Kind};
 use bench_names::ChannelNames;
-use bench_select::Selection;
-use bench_view::{Asked, Page, page_of, template};
+use bench_view::{Asked, page_of, template};
 use clap::{ArgMatches, Command};
 use command_parts::extracting::extract_options;
-use command_parts::looking::{tell_of_unknown, tell_of_unread};
+use command_parts::opening::ChosenMessages;
 use command_parts::options::command_of;
-use command_parts::recordings::{Recording, Source};
+use command_parts::recordings::Recording;
 use command_parts::requests::CommandFault;
 use command_parts::selecting::selection_options;
-use command_parts::showing::{Showing, showing_options};
-use signal_dictionary::Signal;
+use command_parts::showing::{Known, Showing, ShownText, Shows, showing_options};
 use std::alloc::{AllocError, Global};
 use std::io::IsTerminal;
 use std::rt::{Clock, Files};
@@ -58,34 +56,19 @@ pub fn request_in<'a>(given: &ArgMatches<'a>) -> Request<'a> {
     }
 }
 
-/// Writes the messages of a recording, or those that were selected, as a page. The out file takes the place of what is
-/// there once it is whole; it may not be the recording itself. Where a selection has no message, nothing is written,
-/// and that is said.
+/// Writes the messages of a recording, or those that were selected, as a page, and says where it has not all of them.
 pub fn run<'a, R: Files<File: Hold> + AllocGlobal + Clock, E: Eprint + IsTerminal>(
     rt: &R,
     errors: &E,
     request: &Request<'a>,
 ) -> Result<(), CommandFault<'a>> {
-    let (showing, name) = (&request.showing, request.showing.extract.recording);
-    let signals = showing.judge(rt, Kind::Page)?;
-    let selection = showing.selection(signals.as_slice())?;
-    let source = Source::of(rt, errors, name)?;
-    let recording = source.recording(false, false);
-    let stamps = recording.stamps(true)?;
-    let selection = selection.counting_from(stamps.origins.as_slice());
-    let made = make_page(&recording, showing, selection, signals.as_slice());
-    source.end();
-    tell_of_unknown(errors, name, &stamps);
-    let made = made?;
-    let page = &made.page;
-    showing.put(rt, Kind::Page, page.chosen, page.text.as_slice())?;
-    tell_of_unread(errors, name, made.unread);
-    tell_of_more(errors, name, page);
+    let page = request.showing.run(rt, errors, Kind::Page, request)?;
+    tell_of_more(errors, request.showing.extract.recording, &page);
     Ok(())
 }
 
 /// Says that a page has not all messages.
-fn tell_of_more<E: Eprint>(errors: &E, name: &str, page: &Page) {
+fn tell_of_more<E: Eprint>(errors: &E, name: &str, page: &ShownText) {
     if page.shown < page.chosen {
         let (shown, chosen) = (page.shown, page.chosen);
         // Nothing else is lost where standard error takes no more.
@@ -93,14 +76,6 @@ fn tell_of_more<E: Eprint>(errors: &E, name: &str, page: &Page) {
             "bench: {name}: the page has the first {shown} of {chosen} messages; --from and --to choose others"
         );
     }
-}
-
-/// A page of a recording.
-#[derive(Drop)]
-struct Made {
-    page: Page,
-    /// Whether the recording has time packets of which none can be read.
-    unread: bool,
 }
 
 /// What a file is called without its folders.
@@ -111,27 +86,28 @@ fn file_name(path: &str) -> &str {
     }
 }
 
-/// Makes the page of a recording: a pass for its clock, and one for the page.
-fn make_page<'a, R: Files + AllocGlobal + Clock, E: Eprint + IsTerminal>(
-    recording: &Recording<'_, 'a, R, E>,
-    showing: &Showing<'a>,
-    selection: Selection<'_>,
-    signals: &[Signal],
-) -> Result<Made, CommandFault<'a>> {
-    let alloc = recording.alloc();
-    let known = showing.known(recording)?;
-    let names = ChannelNames::of(known.front.as_slice());
-    let asked = Asked {
-        selection,
-        signals,
-        name: file_name(showing.extract.recording),
-    };
-    let template = template(alloc)?;
-    let input = recording.begin_reading()?;
-    let made = page_of(alloc, input, &asked, &known.clock, &names, &template);
-    let page = recording.answer(made)?;
-    Ok(Made {
-        page,
-        unread: known.unread,
-    })
+impl Shows for Request<'_> {
+    fn show<'a, R: Files + AllocGlobal + Clock, E: Eprint + IsTerminal>(
+        &self,
+        recording: &Recording<'_, 'a, R, E>,
+        chosen: ChosenMessages<'_>,
+        known: &Known,
+    ) -> Result<ShownText, CommandFault<'a>> {
+        let alloc = recording.alloc();
+        let names = ChannelNames::of(known.front.as_slice());
+        let asked = Asked {
+            selection: chosen.selection,
+            signals: chosen.signals,
+            name: file_name(recording.name()),
+        };
+        let template = template(alloc)?;
+        let input = recording.begin_reading()?;
+        let made = page_of(alloc, input, &asked, &known.clock, &names, &template);
+        let page = recording.answer(made)?;
+        Ok(ShownText {
+            text: page.text,
+            chosen: page.chosen,
+            shown: page.shown,
+        })
+    }
 }

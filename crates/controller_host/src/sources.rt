@@ -155,6 +155,7 @@ impl Sources {
                 return;
             }
         }
+        // There is room for all of them.
         let _ = self.rows.insert(at, row);
     }
 

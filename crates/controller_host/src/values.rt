@@ -79,6 +79,7 @@ impl NewWords {
 fn have_16_bits(words: &[u16])
     ensures { All (λ w. w < 65536) words.now }
 {
+    // Read for the proof alone: the range stands with the type.
     let _count = words.len();
 }
 
@@ -153,6 +154,7 @@ impl Ramp {
     pub(crate) fn keeps_ranges(&self)
         ensures { IsRamp self.now }
     {
+        // Read for the proof alone: the ranges stand with the types.
         let _start = self.start;
         let _add = self.add;
     }
@@ -210,6 +212,7 @@ impl Insertion {
         ensures value { result.now ≡ self.now.message }
         ensures lawful { IsLawful self.now.message }
     {
+        // Read for the proof alone: that a message is lawful stands with its type.
         let _form = self.message.form();
         &self.message
     }
@@ -218,6 +221,7 @@ impl Insertion {
     pub(crate) fn keeps_ranges(&self)
         ensures { IsInsertion self.now }
     {
+        // Read for the proof alone: that a message is lawful stands with its type.
         let _form = self.message.form();
         have_16_bits(self.message.data_words());
     }

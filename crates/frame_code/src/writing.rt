@@ -154,6 +154,7 @@ fn put_message(bytes: &mut Vec<u8>, line: Line, message: &Message) -> Result<(),
     ensures bytes { OnOk result (bytes.new.items ≡ bytes.old.items ++ spelled.message_bytes (line, message.now)) }
     ensures lawful { IsLawful message.now }
 {
+    // Read for the proof alone: that a message is lawful stands with its type.
     let _form = message.form();
     let words = message.data_words();
     bytes.push(message.form_number())?;

@@ -9,7 +9,7 @@ use crate::builder::Builder;
 use crate::faults::{Cause, TextFault};
 use crate::keywords::{ConditionWord, condition_word, misplaced};
 use crate::memory::or_refused;
-use crate::tokens::{after_token, fault, next};
+use crate::tokens::{after_token, fault, first_token};
 use mil_message::OutcomeTest;
 use mil_status::StatusBit;
 
@@ -20,9 +20,7 @@ fn name(text: &[u8]) -> Result<(StatusBit, &[u8]), TextFault>
     ensures fewer { IfOk result (λ x. length (tokens x.1.now) < length (tokens text.now)) }
     ensures of_text { IfErr result (λ e. IsOfText e) }
 {
-    let Some((word, rest)) = next(text) else {
-        return Err(fault(Cause::End, text));
-    };
+    let (word, rest) = first_token(text)?;
     match StatusBit::named(word) {
         Some(bit) => Ok((bit, rest)),
         None => Err(fault(misplaced(word), text)),
@@ -73,9 +71,7 @@ pub fn condition<'a, B: Builder>(
         (condition_at depth (tokens text.now)) }
     ensures fewer { IfOk result (λ x. length (tokens x.1.now) < length (tokens text.now)) }
 {
-    let Some((word, rest)) = next(text) else {
-        return Err(fault(Cause::End, text));
-    };
+    let (word, rest) = first_token(text)?;
     match condition_word(word) {
         ConditionWord::Fail => Ok((builder.ask(OutcomeTest::Failed), rest)),
         ConditionWord::Silent => Ok((builder.ask(OutcomeTest::Silent), rest)),

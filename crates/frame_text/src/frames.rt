@@ -15,7 +15,7 @@ use crate::faults::{Cause, TextFault};
 use crate::keywords::{FrameWord, frame_word, is, misplaced};
 use crate::memory::or_refused;
 use crate::messages::send;
-use crate::tokens::{Read, after_token, fault, next};
+use crate::tokens::{Read, after_token, fault, first_token, next};
 use crate::words::{number_in_range, period};
 use frame_tree::{Name, Scope};
 use mil_word::timing::LEAST_GAP;
@@ -66,9 +66,7 @@ pub fn block<'a, B: Builder>(around: &Around<'_, B>, text: &'a [u8]) -> Read<'a,
         (block_at (scope_of around.now.scope.now) around.now.depth) text.now result }
     ensures fits { IfOk result (λ x. B.fits (scope_of around.now.scope.now) (scope_of around.now.costs.now) x.0) }
 {
-    let Some((word, rest)) = next(text) else {
-        return Err(fault(Cause::End, text));
-    };
+    let (word, rest) = first_token(text)?;
     if !is(word, b"{") {
         return Err(fault(misplaced(word), text));
     }
@@ -138,9 +136,7 @@ pub fn label(text: &[u8]) -> Result<(Name, &[u8]), TextFault>
     ensures fewer { IfOk result (λ x. length (tokens x.1.now) < length (tokens text.now)) }
     ensures of_text { IfErr result (λ e. IsOfText e) }
 {
-    let Some((word, rest)) = next(text) else {
-        return Err(fault(Cause::End, text));
-    };
+    let (word, rest) = first_token(text)?;
     match Name::new(word) {
         Some(name) => Ok((name, rest)),
         None => Err(fault(misplaced(word), text)),
@@ -201,9 +197,7 @@ pub fn frame<'a, B: Builder>(around: &Around<'_, B>, text: &'a [u8]) -> Read<'a,
         (frame_at (scope_of around.now.scope.now) around.now.depth) text.now result }
     ensures fits { IfOk result (λ x. B.fits (scope_of around.now.scope.now) (scope_of around.now.costs.now) x.0) }
 {
-    let Some((word, rest)) = next(text) else {
-        return Err(fault(Cause::End, text));
-    };
+    let (word, rest) = first_token(text)?;
     match frame_word(word) {
         FrameWord::Send => {
             let (line, message, rest) = send(rest)?;

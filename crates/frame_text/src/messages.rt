@@ -8,7 +8,7 @@ ghost use Rattle.std.specs.Prelude.{◌≡◌, ◌<◌, length, IfOk, IfErr};
 
 use crate::faults::{Cause, TextFault};
 use crate::keywords::{MessageWord, is, message_word, misplaced};
-use crate::tokens::{fault, next};
+use crate::tokens::{fault, first_token};
 use crate::words::{bracketed, number, optional};
 use mil_message::{Draft, Message, ModeSubaddress};
 use mil_word::Line;
@@ -19,9 +19,7 @@ fn line(text: &[u8]) -> Result<(Line, &[u8]), TextFault>
     ensures fewer { IfOk result (λ x. length (tokens x.1.now) < length (tokens text.now)) }
     ensures of_text { IfErr result (λ e. IsOfText e) }
 {
-    let Some((word, rest)) = next(text) else {
-        return Err(fault(Cause::End, text));
-    };
+    let (word, rest) = first_token(text)?;
     if is(word, b"A") {
         return Ok((Line::A, rest));
     }
@@ -202,9 +200,7 @@ fn message(text: &[u8]) -> Result<(Message, &[u8]), TextFault>
     ensures fewer { IfOk result (λ x. length (tokens x.1.now) < length (tokens text.now)) }
     ensures of_text { IfErr result (λ e. IsOfText e) }
 {
-    let Some((word, rest)) = next(text) else {
-        return Err(fault(Cause::End, text));
-    };
+    let (word, rest) = first_token(text)?;
     match message_word(word) {
         MessageWord::Receive => receive(text, rest),
         MessageWord::Transmit => transmit(text, rest),

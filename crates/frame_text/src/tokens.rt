@@ -3,7 +3,8 @@
 ghost use Rattle.frame_text.specs.Reading.{ReadsTokens, IsFault, IsOfText, past};
 ghost use Rattle.frame_text.specs.Starts.{from_token, behind_token, last_tokens};
 ghost use Rattle.frame_text.specs.Tokens.{is_blank, tokens, BeginsToken};
-ghost use Rattle.std.specs.Prelude.{◌≡◌, ◌<◌, ◌≤◌, [], ◌∷◌, false, drop, length, MatchOption, IfSome, IfOk, IfErr};
+ghost use Rattle.std.specs.Prelude.{◌≡◌, ◌<◌, ◌≤◌, [], ◌∷◌, false, drop, length};
+ghost use Rattle.std.specs.Prelude.{MatchOption, IfSome, IfOk, IfErr, OnErr};
 
 use crate::faults::{Cause, TextFault};
 use crate::keywords::{is, is_word_byte, misplaced};
@@ -113,6 +114,20 @@ pub fn fault(cause: Cause, text: &[u8]) -> TextFault
     TextFault::Text(cause, count(text))
 }
 
+/// The first token, and what comes after it; a fault at the end.
+pub fn first_token(text: &[u8]) -> Read<'_, &[u8]>
+    ensures tokens { IfOk result (λ x. tokens text.now ≡ x.0.now ∷ tokens x.1.now) }
+    ensures shorter { IfOk result (λ x. length x.1.now < length text.now) }
+    ensures end { OnErr result (tokens text.now ≡ []) }
+    ensures is { IfErr result (λ e. IsFault Cause.End (tokens text.now) e) }
+    ensures of_text { IfErr result (λ e. IsOfText e) }
+{
+    match next(text) {
+        Some(read) => Ok(read),
+        None => Err(fault(Cause::End, text)),
+    }
+}
+
 /// What comes after a token that has to stand here.
 #[tactic(auto, unfolding(crate::specs::Reading::past))]
 pub fn after_token<'a>(text: &'a [u8], expected: &[u8]) -> Result<&'a [u8], TextFault>
@@ -120,9 +135,7 @@ pub fn after_token<'a>(text: &'a [u8], expected: &[u8]) -> Result<&'a [u8], Text
     ensures fewer { IfOk result (λ x. length (tokens x.now) < length (tokens text.now)) }
     ensures of_text { IfErr result (λ e. IsOfText e) }
 {
-    let Some((word, rest)) = next(text) else {
-        return Err(fault(Cause::End, text));
-    };
+    let (word, rest) = first_token(text)?;
     if !is(word, expected) {
         return Err(fault(misplaced(word), text));
     }

@@ -9,7 +9,7 @@ ghost use Rattle.std.specs.Prelude.{◌≡◌, ◌<◌, ◌≤◌, ◌++◌, ◌
 
 use crate::faults::{Cause, TextFault};
 use crate::keywords::{is, is_word, misplaced};
-use crate::tokens::{after_token, fault, next};
+use crate::tokens::{after_token, fault, first_token, next};
 use arrayvec::ArrayVec;
 use numerals::spelled;
 
@@ -52,9 +52,7 @@ pub fn number(text: &[u8]) -> Result<(u32, &[u8]), TextFault>
     ensures fewer { IfOk result (λ x. length (tokens x.1.now) < length (tokens text.now)) }
     ensures of_text { IfErr result (λ e. IsOfText e) }
 {
-    let Some((word, rest)) = next(text) else {
-        return Err(fault(Cause::End, text));
-    };
+    let (word, rest) = first_token(text)?;
     match number_in(word) {
         Some(n) => Ok((n, rest)),
         None => Err(unspelled_fault(word, text)),

@@ -16,6 +16,7 @@ pub mod DueLemmas
 pub mod TakenLemmas
 pub mod FaultLemmas
 pub mod TurnLemmas
+pub mod ComingLemmas
 pub mod RunLemmas
 pub mod BeginLemmas
 pub mod KeptLemmas

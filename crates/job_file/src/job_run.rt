@@ -1,5 +1,4 @@
 //! The controller of a job under way, with what its lines say by time and by command.
-ghost use Rattle.bc_machine.specs.Planning.{next_number, with_fault};
 ghost use Rattle.bc_machine.specs.Posting.{at_next, with_placed, with_room};
 ghost use Rattle.bc_machine.specs.Running.{HasEnded, started, stepped};
 ghost use Rattle.bc_machine.specs.UnderWay.{IsUnderWay, TellsStep};
@@ -7,27 +6,20 @@ ghost use Rattle.bc_machine.specs.declared.Stepped.TheVariants.{Halted};
 ghost use Rattle.frame_asm.specs.Shapes.{code_of_tree};
 ghost use Rattle.job_file.specs.Jobs.{job_in, tree_in};
 ghost use Rattle.job_file.specs.Meaning.{bus_of};
-ghost use Rattle.job_file.specs.Resolving.{standing, turns_left, made_behind, whens_left, IsKept, IsWithin, IsAtEnd};
-ghost use Rattle.job_file.specs.Resolving.{MayPlan, HasPlanned};
+ghost use Rattle.job_file.specs.Resolving.{standing, turns_left, whens_left, IsKept, IsWithin, MayPlan, HasPlanned};
 ghost use Rattle.job_file.specs.Timed.{arranged, begun_beside, coming_met, done_at, due_now, faulted, found_in};
-ghost use Rattle.job_file.specs.Timed.{planned_in, turned, with_faults};
+ghost use Rattle.job_file.specs.Timed.{planned_in};
 ghost use Rattle.job_file.specs.TimedParts.{planned_by, IsSaid};
-ghost use Rattle.mil_line.specs.Plans.{faults_of};
-ghost use Rattle.mil_line.specs.Ranges.{is_in_range, is_number};
-ghost use Rattle.std.specs.Prelude.{◌≡◌, ◌≢◌, ◌+◌, ◌<◌, ◌≤◌, ◌&&◌, ◌++◌, ◌∷◌, [], ℕ, List, Ok, Some, None, true, false};
+ghost use Rattle.std.specs.Prelude.{◌≡◌, ◌≢◌, ◌<◌, ◌++◌, ◌∷◌, [], ℕ, List, None};
 ghost use Rattle.std.specs.Prelude.{map, length, All};
-ghost use Rattle.std.specs.List.{list_all};
 ghost use Rattle.std.specs.Prelude.{IfSome, IfNone, IfOk, OnOk};
 
 use crate::jobs::Job;
 use crate::timed::{TimedAction, TimedFault};
-use bc_machine::{
-    Actions, BusSetting, Ended, HostAction, Machine, Stepped, next_message_is_sent,
-    next_message_stays,
-};
+use bc_machine::{Actions, BusSetting, Ended, HostAction, Machine, Stepped, next_message_is_sent};
 use frame_load::loadable_runs;
 use job_moments::{Met, Occasions, Waiting};
-use mil_line::{Fault, LineError, Plan};
+use mil_line::Plan;
 use std::alloc::{AllocError, Global};
 
 /// An action that is due, and the place of its line among those of the job that have an action by time or by command,
@@ -40,7 +32,7 @@ pub struct Due {
 
 impl Due {
     /// The same once more. It takes no memory.
-    fn copy(&self) -> Due
+    pub(crate) fn copy(&self) -> Due
         ensures { result ≡ self.now }
     {
         Due {
@@ -57,41 +49,10 @@ impl Due {
 pub struct JobRun {
     pub machine: Machine,
     /// The actions that are still to come, and when each is due.
-    whens: Waiting<Due>,
-    faults: Occasions,
+    pub(crate) whens: Waiting<Due>,
+    pub(crate) faults: Occasions,
     /// The job's start tick.
     origin: u64,
-}
-
-/// Plans one more fault for the next message. It fails for want of memory alone.
-fn plan_one(machine: &mut Machine, fault: Fault) -> Result<(), AllocError>
-    requires few { length (faults_of (next_number machine.old) machine.old.plan) < 4 }
-    requires range { (is_number (next_number machine.old) && is_in_range fault) ≡ true }
-    ensures planned { OnOk result (machine.new ≡ with_fault machine.old fault) }
-    ensures under_way { IsUnderWay machine.new }
-{
-    match machine.plan_next(fault) {
-        Ok(()) => Ok(()),
-        Err(LineError::Memory) => Err(AllocError),
-        Err(LineError::TooMany) => unreachable!(),
-        Err(LineError::OutOfRange) => unreachable!(),
-    }
-}
-
-/// Plans these faults for the next message. It fails for want of memory alone.
-fn plan_all(machine: &mut Machine, faults: &[Fault]) -> Result<(), AllocError>
-    requires few { 1 ≤ length faults.now
-        → length (faults_of (next_number machine.old) machine.old.plan) + length faults.now ≤ 4 }
-    requires number { is_number (next_number machine.old) ≡ true }
-    requires ranges { list_all is_in_range faults.now ≡ true }
-    requires under_way { IsUnderWay machine.old }
-    ensures planned { OnOk result (machine.new ≡ with_faults machine.old faults.now) }
-    ensures under_way { IsUnderWay machine.new }
-{
-    for fault in faults {
-        plan_one(machine, *fault)?;
-    }
-    Ok(())
 }
 
 impl JobRun {
@@ -123,18 +84,8 @@ impl JobRun {
         ensures within { (addresses : List ℕ) (most : ℕ) → IsWithin addresses most (standing self.old)
             → IsWithin addresses most (standing self.new) }
     {
-        let Some(next) = self.next() else {
-            return None;
-        };
-        match self.whens.take_due(&next) {
-            Some(due) => {
-                let placed = due.copy();
-                // There is room for each of them.
-                let _ = self.machine.place(due.action);
-                Some(placed)
-            }
-            None => None,
-        }
+        let next = self.next();
+        self.do_at(&next)
     }
 
     /// How many actions are still to come.
@@ -153,11 +104,8 @@ impl JobRun {
         ensures within { (addresses : List ℕ) (most : ℕ) → IsWithin addresses most (standing self.old)
             → IsWithin addresses most (standing self.new) }
     {
-        'times: for time in 0..self.whens.len() {
-            if self.do_first().is_none() {
-                return;
-            }
-        }
+        // What comes next is of use to a whole turn alone.
+        let _ = self.arrange_next();
     }
 
     /// Plans the faults that are due at the next message. It fails for want of memory alone.
@@ -170,37 +118,8 @@ impl JobRun {
         ensures kept { OnOk result (IsKept self.new) }
         ensures planned { OnOk result (HasPlanned self.new) }
     {
-        // A fault more does not change what comes next, for the proof.
-        next_message_stays();
-        match self.next() {
-            Some(next) => {
-                let due = self.faults.faults(&next);
-                plan_all(&mut self.machine, due.as_slice())?;
-                Ok(())
-            }
-            None => Ok(()),
-        }
-    }
-
-    /// The message that was sent, if one was, counts for what is still to come.
-    fn meet(&mut self, next: Option<Met>)
-        requires whens { IfSome next (λ _. length self.old.whens.made < 1000000) }
-        requires faults { IfSome next (λ _. length self.old.faults.made < 1000000) }
-        ensures whens { self.new.whens ≡ record {
-          left = self.old.whens.left;
-          made = made_behind next self.old.whens.made;
-        } }
-        ensures faults { self.new.faults ≡ record {
-          faults = self.old.faults.faults;
-          made = made_behind next self.old.faults.made;
-        } }
-        ensures machine { self.new.machine ≡ self.old.machine }
-        ensures origin { self.new.origin ≡ self.old.origin }
-    {
-        if let Some(met) = next {
-            self.whens.meet(&met);
-            self.faults.meet(&met);
-        }
+        let next = self.next();
+        self.plan_at(&next)
     }
 
     /// One step of the controller, and what it came to. It takes no memory.
@@ -217,67 +136,7 @@ impl JobRun {
         ensures ended { result ≡ Halted → HasEnded self.new.machine }
     {
         let next = self.next();
-        next_message_is_sent();
-        match self.machine.step() {
-            Stepped::Halted => Stepped::Halted,
-            step => {
-                self.meet(next);
-                step
-            }
-        }
-    }
-
-    /// One step; whether the controller goes on.
-    fn goes_on(&mut self) -> bool
-        requires kept { IsKept self.old }
-        requires planned { HasPlanned self.old }
-        ensures stepped { self.new.machine ≡ stepped self.old.machine }
-        ensures whens { self.new.whens.left ≡ self.old.whens.left }
-        ensures faults { self.new.faults.faults ≡ self.old.faults.faults }
-        ensures kept { IsKept self.new }
-        ensures planned { MayPlan self.new }
-        ensures less { result ≡ true → turns_left self.new.machine < turns_left self.old.machine }
-        ensures ended { result ≡ false → HasEnded self.new.machine }
-    {
-        match self.step() {
-            Stepped::Halted => false,
-            _ => true,
-        }
-    }
-
-    /// One step, behind what is due in front of it; whether the controller goes on. It fails for want of memory alone.
-    fn turn(&mut self) -> Result<bool, AllocError>
-        requires kept { IsKept self.old }
-        requires planned { MayPlan self.old }
-        ensures turned { IfOk result (λ _. standing self.new ≡ turned self.old.faults.faults (standing self.old)) }
-        ensures faults { IfOk result (λ _. self.new.faults.faults ≡ self.old.faults.faults) }
-        ensures kept { IfOk result (λ _. IsKept self.new) }
-        ensures planned { IfOk result (λ _. MayPlan self.new) }
-        ensures within { IfOk result (λ _. (addresses : List ℕ) (most : ℕ)
-            → IsWithin addresses most (standing self.old) → IsWithin addresses most (standing self.new)) }
-        ensures less { result ≡ Ok true → turns_left self.new.machine < turns_left self.old.machine }
-        ensures ended { result ≡ Ok false → HasEnded self.new.machine }
-    {
-        self.arrange();
-        self.plan()?;
-        Ok(self.goes_on())
-    }
-
-    /// Goes on until the controller has ended. It fails for want of memory alone.
-    pub(crate) fn go(&mut self) -> Result<(), AllocError>
-        requires kept { IsKept self.old }
-        requires planned { MayPlan self.old }
-        ensures ended { OnOk result (IsAtEnd self.old.faults.faults (standing self.old) (standing self.new)) }
-        ensures kept { OnOk result (IsKept self.new) }
-        ensures within { OnOk result ((addresses : List ℕ) (most : ℕ)
-            → IsWithin addresses most (standing self.old) → IsWithin addresses most (standing self.new)) }
-    {
-        'turns: loop {
-            let goes_on = self.turn()?;
-            if !goes_on {
-                return Ok(());
-            }
-        }
+        self.step_at(next)
     }
 }
 

@@ -24,6 +24,7 @@ mod spans;
 mod stepping;
 mod texts;
 mod timed;
+mod turns;
 mod whens;
 
 pub use by_line::{SaidLines, said_lines};

@@ -27,8 +27,8 @@ fn joined(mut first: Actions, others: &Actions) -> Result<Actions, AllocError>
     Ok(first)
 }
 
-/// Runs a job's controller once to its end, where these actions are placed and these others come to be due. It fails for
-/// want of memory alone.
+/// Runs a job's controller once to its end, where these actions are placed and these others come to be due. It fails
+/// for want of memory alone.
 fn run_to_end(
     alloc: Global,
     job: &Job,
@@ -43,8 +43,8 @@ fn run_to_end(
     Ok(run.end())
 }
 
-/// The actions and the plan at the end of a job's run, with what its lines say by time and by command. It fails for want
-/// of memory alone.
+/// The actions and the plan at the end of a job's run, with what its lines say by time and by command. It fails for
+/// want of memory alone.
 fn found_by_run(alloc: Global, job: &Job) -> Result<(Actions, Plan), AllocError>
     ensures { IfOk result (λ r. ComesTo (job_in job.now) job.now.timed r.0 r.1) }
 {

@@ -1,15 +1,16 @@
 -- Chunks whose lines are the same, have a line more, or are as they must be.
 use Rattle.std.proofs.Common.{◌≡◌, ℕ, suc, ◌+◌, ◌<◌, List, [], ◌∷◌, ◌++◌, length, get_or, set, take, drop, remove, All, Bool, false, refl, sym, ap, subst, ◌∙◌, arith, append_assoc}
 use Rattle.std.proofs.lemmas.List.{append-nil, take_more, take_all, take_more_set, length-set}
-use Rattle.std.specs.Prelude.{Result, Ok, Err}
+use Rattle.std.specs.Prelude.{◌==◌, true, Some, slice_get, Result, Ok, Err}
 use Rattle.std.specs.Result.{is_err}
+use Rattle.std.proofs.lemmas.Bool.{eqb-true}
 use Rattle.std.proofs.lemmas.List.Concat.{flat_map-append}
 use Rattle.std.proofs.lemmas.List.Elements.{All-append, All-same, All-cons, All-nil, All-more, All-take, All-drop}
 use Rattle.judge_rules.specs.declared.rules.Selector.{Selector}
 use Rattle.job_moments.specs.declared.chunks.Chunk.{Chunk}
 use Rattle.job_moments.specs.declared.met.Met.{Met}
 use Rattle.job_moments.specs.declared.quiet.Quiet.{Quiet}
-use Rattle.job_moments.specs.Chunks.{lines_in, lines_of, behind, Puts, Knows}
+use Rattle.job_moments.specs.Chunks.{lines_in, lines_of, behind, Drops, Knows, Puts, StartsEmpty}
 use Rattle.job_moments.specs.Counting.{Counted}
 use Rattle.job_moments.specs.Quiet.{IsPart, IsQuiet, Sleeps}
 use Rattle.job_moments.proofs.Joined.{all_front, all_rest, all_joined, all_pieces}
@@ -149,3 +150,35 @@ module _ {L : Type 0} where
       fewer P all = All-same P (lines_in new) (remove (lines_in old) place) lines
           (All-append P (take place (lines_in old)) (drop (suc place) (lines_in old))
           (All-take P place (lines_in old) all) (All-drop P (suc place) (lines_in old) all))
+
+  -- ---- chunks without lines
+
+  pub first_there : (chunks : List (Chunk L)) (c : Chunk L) → Some c ≡ slice_get chunks 0 → (c.lines.len == 0) ≡ true
+      → StartsEmpty chunks
+  first_there [] c e none = absurd cc
+  first_there (x ∷ xs) c e none =
+      let same : c ≡ x = cc in
+      let empty : length (lines_in c) ≡ 0 = omega (arith, c.lines.ok.0, eqb-true c.lines.len 0 none) in
+      let long : length (lines_in x) ≡ 0 = ap (λ (d : Chunk L). length (lines_in d)) (sym same) ∙ empty in
+      record { first = x; rest = xs; is = refl; none = no_line (lines_in x) long }
+    where
+      no_line : (ls : List L) → length ls ≡ 0 → ls ≡ []
+      no_line [] long = refl
+      no_line (l ∷ ls) long = absurd (omega (arith, long))
+
+  pub some_there : (chunks : List (Chunk L)) → StartsEmpty chunks → 0 < length chunks
+  some_there chunks s = let long = ap length s.is in omega (arith, long)
+
+  pub drops_first : (old new : List (Chunk L)) → StartsEmpty old → new ≡ remove old 0 → Drops old new
+  drops_first old new s removed = record {
+    front = s.first ∷ [];
+    old_is = s.is ∙ ap (λ (cs : List (Chunk L)). s.first ∷ cs) (sym (removed ∙ ap (λ (cs : List (Chunk L)). remove cs 0) s.is));
+    none = append-nil (lines_in s.first) ∙ s.none;
+  }
+
+  pub drops_lines : (old new : List (Chunk L)) → Drops old new → lines_of new ≡ lines_of old
+  drops_lines old new d =
+      sym (ap lines_of d.old_is ∙ lines_append d.front new ∙ ap (λ (ls : List L). ls ++ lines_of new) d.none)
+
+  pub drops_all : (P : Chunk L → Type 0) (old new : List (Chunk L)) → Drops old new → All P old → All P new
+  drops_all P old new d all = all_rest P d.front new (All-same P (d.front ++ new) old (sym d.old_is) all)

@@ -1,6 +1,6 @@
 -- Groups of chunks whose lines are the same, have a line more, or are as they must be.
-use Rattle.std.proofs.Common.{◌≡◌, ℕ, ◌+◌, ◌<◌, List, [], ◌∷◌, ◌++◌, length, get_or, set, take, All, Bool, refl, sym, ap, subst, ◌∙◌, arith, append_assoc}
-use Rattle.std.proofs.lemmas.List.{append-nil, take_more, take_all, take_more_set, length-set}
+use Rattle.std.proofs.Common.{◌≡◌, ◌≢◌, ⊎_elim, false, ℕ, ◌+◌, ◌<◌, List, [], ◌∷◌, ◌++◌, length, get_or, set, take, All, Bool, refl, sym, ap, subst, ◌∙◌, arith, append_assoc}
+use Rattle.std.proofs.lemmas.List.{append-nil, take_more, take_all, take_more_set, length-set, get_or-set_other, get_or_default}
 use Rattle.std.proofs.lemmas.List.Concat.{flat_map-append}
 use Rattle.std.proofs.lemmas.List.Elements.{All-append, All-same, All-cons, All-nil, All-more}
 use Rattle.judge_rules.specs.declared.rules.Selector.{Selector}
@@ -10,11 +10,14 @@ use Rattle.job_moments.specs.declared.met.Met.{Met}
 use Rattle.job_moments.specs.declared.quiet.Quiet.{Quiet}
 use Rattle.job_moments.specs.Chunks.{lines_in, lines_of, Puts, Knows}
 use Rattle.job_moments.specs.Counting.{Counted}
-use Rattle.job_moments.specs.Groups.{chunks_in, chunks_of, lines_inside, lines_of_groups, PutsGroup, KnowsInside}
-use Rattle.job_moments.specs.Quiet.{IsPart, Sleeps}
+use Rattle.job_moments.specs.Groups.{chunks_in, chunks_of, lines_inside, lines_of_groups, AllBeside, IsPartBeside, PutsGroup, KnowsInside}
+use Rattle.job_moments.specs.Quiet.{IsPart, IsQuiet, Sleeps}
 use Rattle.job_moments.proofs.Chunking.{knows_later, knows_others, puts_known, puts_lines, puts_none}
 use Rattle.job_moments.proofs.Joined.{all_front, all_rest, all_joined, all_pieces}
-use Rattle.job_moments.proofs.Sleeping.{sleeps_later, sleeps_part, sleeps_unknown}
+use Rattle.job_moments.proofs.Sleeping.{sleeps_later, sleeps_now, sleeps_part, sleeps_unknown}
+use Rattle.job_moments.proofs.Lists.{by_place}
+use Rattle.std.proofs.lemmas.Bool.{cases_lt, ne_eqb}
+use Rattle.std.specs.Prelude.{◌==◌}
 
 -- ---- messages that are quiet for each of some chunks
 
@@ -24,6 +27,9 @@ part_of_part part middle whole one other = record {
   until = omega (arith, one.until, other.until);
   wake = omega (arith, one.wake, other.wake);
 }
+
+before_last : (i k : ℕ) → k < i + 1 → k ≢ i → k < i
+before_last i k lt other = ⊎_elim (λ below. below) (λ above. absurd (other (omega (arith, lt, above)))) (cases_lt k i)
 
 module _ {L : Type 0} where
   -- with one chunk more
@@ -136,6 +142,49 @@ module _ {L : Type 0} where
         chunks = knows_later Stands due made met (chunks_in g) (known k d lt).chunks;
         sleeps = λ j e within. sleeps_later g.quiet made (due (get_or (lines_inside g) j e)) met ((known k d lt).sleeps j e within);
       }
+
+  -- ---- the groups but one
+
+  pub beside_sleeps : (Stands : L → Type 0) (due : L → List Met → Met → Bool) (made : List Met) (quiet : Quiet) (place : ℕ) (groups : List (Group L))
+      → IsPartBeside quiet place groups → All (KnowsInside Stands due made) groups
+      → AllBeside (λ (l : L). Sleeps quiet made (due l)) place groups
+  beside_sleeps Stands due made quiet place groups parts known k d lt other = λ j e within.
+      sleeps_part quiet (get_or groups k d).quiet made (due (get_or (lines_inside (get_or groups k d)) j e)) (parts k d lt other)
+      ((known k d lt).sleeps j e within)
+
+  pub beside_unknown : (due : L → List Met → Met → Bool) (made : List Met) (quiet : Quiet) (place : ℕ) (groups : List (Group L))
+      → quiet.wake ≡ 0 → AllBeside (λ (l : L). Sleeps quiet made (due l)) place groups
+  beside_unknown due made quiet place groups none k d lt other = λ j e within.
+      sleeps_unknown quiet made (due (get_or (lines_inside (get_or groups k d)) j e)) none
+
+  pub beside_later : (due : L → List Met → Met → Bool) (made : List Met) (met : Met) (quiet : Quiet) (place : ℕ) (groups : List (Group L))
+      → AllBeside (λ (l : L). Sleeps quiet made (due l)) place groups
+      → AllBeside (λ (l : L). Sleeps quiet (made ++ met ∷ []) (due l)) place groups
+  beside_later due made met quiet place groups sleep k d lt other = λ j e within.
+      sleeps_later quiet made (due (get_or (lines_inside (get_or groups k d)) j e)) met (sleep k d lt other j e within)
+
+  pub beside_still : (due : L → List Met → Met → Bool) (made : List Met) (next : Met) (quiet : Quiet) (place : ℕ) (groups : List (Group L))
+      → AllBeside (λ (l : L). Sleeps quiet made (due l)) place groups → IsQuiet quiet made next
+      → AllBeside (λ (l : L). due l made next ≡ false) place groups
+  beside_still due made next quiet place groups sleep now k d lt other = λ j e within.
+      sleeps_now quiet made next (due (get_or (lines_inside (get_or groups k d)) j e)) (sleep k d lt other j e within) now
+
+  pub beside_set : (P : L → Type 0) (place : ℕ) (groups : List (Group L)) (group : Group L)
+      → AllBeside P place groups → AllBeside P place (set groups place group)
+  beside_set P place groups group all k d lt other =
+      subst (λ (g : Group L). All P (lines_inside g)) (sym (get_or-set_other groups place k group d other))
+      (all k d (omega (arith, lt, length-set groups place group)) other)
+
+  -- they are quiet for one group more
+  pub beside_more : (part before : Quiet) (place i : ℕ) (groups : List (Group L)) (group : Group L) → i < length groups
+      → group ≡ get_or groups i group → IsPart part before → ((i == place) ≡ false → IsPart part group.quiet)
+      → ((k : ℕ) (d : Group L) → k < i → k ≢ place → IsPart before (get_or groups k d).quiet)
+      → (k : ℕ) (d : Group L) → k < i + 1 → k ≢ place → IsPart part (get_or groups k d).quiet
+  beside_more part before place i groups group within is narrow one so_far k d lt other =
+      by_place i k
+      (λ at. subst (λ j. IsPart part (get_or groups j d).quiet) (sym at)
+      (subst (λ (g : Group L). IsPart part g.quiet) (is ∙ get_or_default groups i group d within) (one (ne_eqb i place (λ here. other (at ∙ here))))))
+      (λ beside. part_of_part part before (get_or groups k d).quiet narrow (so_far k d (before_last i k lt beside) other))
 
   -- ---- other counters
 

@@ -1,5 +1,5 @@
 -- The first place at which a test passes, and lists of what something gives of each item.
-use Rattle.std.proofs.Common.{◌≡◌, ℕ, ◌+◌, ◌<◌, ◌≤◌, suc, zero, Bool, true, false, List, [], ◌∷◌, length, get_or, set, All, take, drop, map, remove, refl, sym, ap, subst, ◌∙◌, arith, ⊎_elim}
+use Rattle.std.proofs.Common.{◌≡◌, ◌≢◌, ℕ, ◌+◌, ◌<◌, ◌≤◌, suc, zero, Bool, true, false, List, [], ◌∷◌, length, get_or, set, All, take, drop, map, remove, refl, sym, ap, subst, ◌∙◌, arith, ⊎_elim}
 use Rattle.std.specs.Prelude.{Some, None, cond, not}
 use Rattle.std.specs.List.{position, position_or_len}
 use Rattle.std.proofs.lemmas.Grind.{common_steps}
@@ -64,3 +64,11 @@ set_all P old now i new long there done one rest all k d within =
     (λ so_far. set_done (λ o n. P n) old now i new long there done (λ e. one) k d so_far)
     (λ behind. subst P (sym (set_rest old now i new rest k d behind)) (all k d (omega (arith, within, long, length-set now i new))))
     (cases_lt k (i + 1))
+
+-- a place is another one, or not
+pub by_place : {P : Type 0} (i k : ℕ) → (k ≡ i → P) → (k ≢ i → P) → P
+by_place i k at beside =
+    ⊎_elim
+    (λ below. beside (λ is. omega (arith, is, below)))
+    (λ above. ⊎_elim (λ behind. beside (λ is. omega (arith, is, behind))) (λ within. at (omega (arith, above, within))) (cases_lt i k))
+    (cases_lt k i)

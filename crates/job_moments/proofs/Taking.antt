@@ -1,5 +1,5 @@
 -- The first line that is due, and what is left where it is taken out.
-use Rattle.std.proofs.Common.{◌≡◌, ℕ, suc, zero, ◌+◌, ◌<◌, ◌≤◌, Bool, true, false, List, [], ◌∷◌, ◌++◌, length, get_or, set, take, drop, remove, All, refl, sym, ap, subst, ◌∙◌, arith, append_assoc, length-append}
+use Rattle.std.proofs.Common.{◌≡◌, ◌≢◌, ℕ, suc, zero, ◌+◌, ◌<◌, ◌≤◌, Bool, true, false, List, [], ◌∷◌, ◌++◌, length, get_or, set, take, drop, remove, All, refl, sym, ap, subst, ◌∙◌, arith, append_assoc, length-append}
 use Rattle.std.specs.Prelude.{Option, Some, None, is_some, slice_get, if◌then◌else◌}
 use Rattle.std.specs.List.{flat_map, position}
 use Rattle.std.specs.Option.{option_map}
@@ -12,8 +12,8 @@ use Rattle.job_moments.specs.declared.waiting.Pending.{Pending}
 use Rattle.job_moments.specs.Awaiting.{awaited, awaited_of, due_of, IsStill, IsFirstAt, IsPicked, Picks}
 use Rattle.job_moments.specs.Moments.{is_due}
 use Rattle.job_moments.specs.Waits.{Awaited, Waits, first_due, moments_of, given_at, left_at, Taken}
-use Rattle.job_moments.proofs.Joined.{all_front, all_rest, same_joined}
-use Rattle.job_moments.proofs.Lists.{position_is, position_none, position-map}
+use Rattle.job_moments.proofs.Joined.{all_front, all_rest, all_joined, same_joined}
+use Rattle.job_moments.proofs.Lists.{by_place, position_is, position_none, position-map}
 
 -- ---- an item between others
 
@@ -211,6 +211,26 @@ module _ {T X : Type 0} (f : X → List (Pending T)) where
       (subst (λ (c : X). Picks made next (f c) (f new) given)
       (get_or_default now i e d (omega (arith, long, there)) ∙ rest i d (omega arith)) picked))
       (λ k d lt. get_or-set_other now i k new d (λ is. omega (arith, is, lt)) ∙ rest k d (omega (arith, lt)))
+
+  -- where no line is due but those of the item of a place, and it is changed
+  pub picks_beside : (made : List Met) (next : Met) (i : ℕ) (old : List X) (e new : X) (given : Option T) → i < length old
+      → ((k : ℕ) (d : X) → k < length old → k ≢ i → All (IsStill made next) (f (get_or old k d)))
+      → Picks made next (f (get_or old i e)) (f new) given
+      → Picks made next (flat_map f old) (flat_map f (set old i new)) given
+  picks_beside made next i old e new (Some payload) there still picked =
+      picks_set made next i old old e new (Some payload) refl refl there
+      (λ k d lt. record { lines = refl; still = still k d (omega (arith, lt, there)) (λ is. omega (arith, is, lt)) })
+      (λ k d le. refl) picked
+  picks_beside made next i old e new None there still picked = (
+    all_joined f (IsStill made next) old (λ k d lt. by_place i k
+        (λ is. subst (λ j. All (IsStill made next) (f (get_or old j d))) (sym is)
+        (subst (λ (c : X). All (IsStill made next) (f c)) (get_or_default old i e d there) picked.0))
+        (λ other. still k d lt other)),
+    same_joined f old (set old i new) (length-set old i new) (λ k d lt. by_place i k
+        (λ is. subst (λ j. f (get_or (set old i new) j d) ≡ f (get_or old j d)) (sym is)
+        (ap f (get_or-set_same old i new d there) ∙ picked.1 ∙ ap f (get_or_default old i e d there)))
+        (λ other. ap f (get_or-set_other old i k new d other))),
+  )
 
   pub passed : (made : List Met) (next : Met) (old new : X) (given : Option T) → is_some given ≡ false
       → Picks made next (f old) (f new) given → IsPassed made next old new

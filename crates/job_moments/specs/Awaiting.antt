@@ -4,12 +4,15 @@ use Rattle.std.specs.Prelude.{slice_index_or, Option, Some, None}
 use Rattle.judge_rules.specs.declared.rules.Selector.{Selector}
 use Rattle.job_moments.specs.declared.chunks.Chunk.{Chunk}
 use Rattle.job_moments.specs.declared.groups.Group.{Group}
+use Rattle.job_moments.specs.declared.groups.Near.{Near}
 use Rattle.job_moments.specs.declared.met.Met.{Met}
+use Rattle.job_moments.specs.declared.quiet.Quiet.{Quiet}
 use Rattle.job_moments.specs.declared.waiting.Pending.{Pending}
 use Rattle.job_moments.specs.Chunks.{Knows}
 use Rattle.job_moments.specs.Counting.{Counted, HasCounter}
-use Rattle.job_moments.specs.Groups.{lines_of_groups, KnowsInside}
+use Rattle.job_moments.specs.Groups.{lines_of_groups, AllBeside, KnowsInside}
 use Rattle.job_moments.specs.Moments.{counted_for, is_due}
+use Rattle.job_moments.specs.Quiet.{Sleeps}
 use Rattle.job_moments.specs.Waits.{Awaited}
 
 module _ {T : Type 0} where
@@ -64,6 +67,11 @@ module _ {T : Type 0} where
   abbrev pub KnowsGroup : Counted → Group (Pending T) → Type 0
   KnowsGroup counts g = KnowsInside (HasItsCounter counts.selectors) due_of counts.made g
 
-  pub record AllKnow (groups : List (Group (Pending T))) (counts : Counted) (number : ℕ) : Type 0 where
+  -- no line of the groups but the one of a place is due at the messages that are quiet
+  abbrev pub SleepBeside : List Met → Quiet → ℕ → List (Group (Pending T)) → Type 0
+  SleepBeside made quiet place groups = AllBeside (λ (l : Pending T). Sleeps quiet made (due_of l)) place groups
+
+  pub record AllKnow (groups : List (Group (Pending T))) (near : Near) (counts : Counted) (number : ℕ) : Type 0 where
     pub known : All (KnowsGroup counts) groups
+    pub beside : SleepBeside counts.made near.others near.place groups
     pub count : number ≡ length (lines_of_groups groups)

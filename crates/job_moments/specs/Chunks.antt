@@ -28,6 +28,19 @@ module _ {L : Type 0} where
     pub lines : lines_of changed ≡ lines_of rest ++ more
     pub unknown : All (λ (c : Chunk L). c.quiet.wake ≡ 0) changed
 
+  -- the first of them has no line
+  pub record StartsEmpty (chunks : List (Chunk L)) : Type 0 where
+    pub first : Chunk L
+    pub rest : List (Chunk L)
+    pub is : chunks ≡ first ∷ rest
+    pub none : lines_in first ≡ []
+
+  -- some are gone from the front, none of which had a line
+  pub record Drops (old new : List (Chunk L)) : Type 0 where
+    pub front : List (Chunk L)
+    pub old_is : old ≡ front ++ new
+    pub none : lines_of front ≡ []
+
   -- each line is as it must be, and none is due at the messages that are quiet
   pub record Knows (Stands : L → Type 0) (due : L → List Met → Met → Bool) (made : List Met) (c : Chunk L)
       : Type 0 where

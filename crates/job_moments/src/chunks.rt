@@ -1,12 +1,12 @@
 //! Lines in chunks, each with messages in front of which none of its lines is due.
-ghost use Rattle.job_moments.specs.Chunks.{behind, Puts};
+ghost use Rattle.job_moments.specs.Chunks.{behind, Drops, Puts, StartsEmpty};
 ghost use Rattle.std.specs.Prelude.{◌≡◌, ◌<◌, ◌++◌, length, true};
 
 use crate::quiet::Quiet;
 use std::alloc::{AllocError, Global};
 
 /// How many lines may stand in a chunk.
-const ROOM: usize = 32;
+const ROOM: usize = 8;
 
 /// Lines that follow one another in the text, and messages in front of which none of them is due.
 #[derive(Drop)]
@@ -71,5 +71,25 @@ pub(crate) fn put<L: Drop>(
     match chunks.push(chunk) {
         Ok(()) => Ok(()),
         Err(_) => Err(AllocError),
+    }
+}
+
+/// Whether the first of these chunks has no line any more.
+fn starts_empty<L: Drop>(chunks: &[Chunk<L>]) -> bool
+    ensures { result ≡ true → StartsEmpty chunks.now }
+{
+    match chunks.first() {
+        Some(chunk) => chunk.lines.is_empty(),
+        None => false,
+    }
+}
+
+/// Lets the first of these chunks go where it has no line any more: where lines are taken out in the order of the text,
+/// the chunks that are left are those with lines.
+pub(crate) fn drop_empty<L: Drop>(chunks: &mut Vec<Chunk<L>>)
+    ensures { Drops chunks.old.items chunks.new.items }
+{
+    if starts_empty(chunks) {
+        let _ = chunks.remove(0);
     }
 }

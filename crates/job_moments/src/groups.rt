@@ -1,15 +1,16 @@
 //! Chunks in groups, each with messages in front of which no line of its chunks is due.
 ghost use Rattle.job_moments.specs.Chunks.{behind, lines_of, Puts};
-ghost use Rattle.job_moments.specs.Groups.{PutsGroup};
+ghost use Rattle.job_moments.specs.Groups.{IsPartBeside, PutsGroup};
 ghost use Rattle.job_moments.specs.Quiet.{IsPart};
 ghost use Rattle.std.specs.Prelude.{◌≡◌, ◌<◌, ◌^◌, All, length, true};
 
 use crate::chunks::{Chunk, has_room, put};
+use crate::met::Met;
 use crate::quiet::Quiet;
 use std::alloc::{AllocError, Global};
 
 /// How many chunks may stand in a group.
-const ROOM: usize = 32;
+const ROOM: usize = 64;
 
 /// Chunks that follow one another in the text, and messages in front of which no line of them is due.
 #[derive(Drop)]
@@ -83,6 +84,47 @@ pub(crate) fn quiet_for_all<L: Drop>(chunks: &[Chunk<L>]) -> Quiet
         quiet = quiet.within(chunk.quiet);
     }
     quiet
+}
+
+/// The messages that are quiet for each of these groups but the one of a place.
+pub(crate) fn quiet_beside<L: Drop>(groups: &[Group<L>], place: usize) -> Quiet
+    ensures { IsPartBeside result place groups.now }
+{
+    let mut quiet = Quiet::all();
+    for (index, group) in groups.iter().enumerate() {
+        quiet = quiet.within_unless(index == place, group.quiet);
+    }
+    quiet
+}
+
+/// The place of the first of these groups for which a message, behind so many, is not quiet; where there is none, this
+/// place. No proof rests on it: it tells where to look first.
+pub(crate) fn awake<L: Drop>(groups: &[Group<L>], place: usize, number: u32, next: &Met) -> usize {
+    for (index, group) in groups.iter().enumerate() {
+        if !group.quiet.has(number, next) {
+            return index;
+        }
+    }
+    place
+}
+
+/// The place of the group that is looked at first, and messages in front of which no line of the others is due.
+#[derive(Clone, Copy)]
+pub(crate) struct Near {
+    pub(crate) place: usize,
+    pub(crate) others: Quiet,
+}
+
+impl Near {
+    /// Nothing is known of the others.
+    pub(crate) fn none() -> Near
+        ensures { result.others.wake ≡ 0 }
+    {
+        Near {
+            place: 0,
+            others: Quiet::none(),
+        }
+    }
 }
 
 /// How many lines these chunks have.

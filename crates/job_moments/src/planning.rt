@@ -185,7 +185,7 @@ fn learn_groups(groups: &mut [Group<Rule>], counts: &Counts, last: &Met)
 }
 
 /// The planned faults of a job, in the order of its text, and the messages that were made. The rules stand in chunks of
-/// at most 32, and these in groups of at most 32, of which each knows at which messages none of its rules is due: so a
+/// at most 8, and these in groups of at most 64, of which each knows at which messages none of its rules is due: so a
 /// message costs as much as there are groups, and selectors that are counted.
 #[derive(Drop)]
 pub struct Occasions {

@@ -1,6 +1,6 @@
 //! Messages in front of which nothing of a chunk or a group is due.
 ghost use Rattle.job_moments.specs.Quiet.{IsPart, IsQuiet};
-ghost use Rattle.std.specs.Prelude.{◌≡◌, ◌+◌, ◌<◌, ◌≤◌, List, length, true};
+ghost use Rattle.std.specs.Prelude.{◌≡◌, ◌+◌, ◌<◌, ◌≤◌, List, length, true, false};
 
 use crate::met::Met;
 
@@ -53,6 +53,14 @@ impl Quiet {
             until: self.until.min(other.until),
             wake: self.wake.min(other.wake),
         }
+    }
+
+    /// Those of them that are among others too, unless these are left out.
+    pub(crate) fn within_unless(self, is_out: bool, other: Quiet) -> Quiet
+        ensures one { IsPart result self }
+        ensures other { is_out ≡ false → IsPart result other }
+    {
+        if is_out { self } else { self.within(other) }
     }
 
     /// Those of them that start before a tick.

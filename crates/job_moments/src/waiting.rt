@@ -1,15 +1,16 @@
 //! Moments that are still to come.
 ghost use Rattle.job_moments.specs.Awaiting.{due_of, HasItsCounter, IsFirst, IsStill, KnowsChunk, KnowsGroup, Picks};
+ghost use Rattle.job_moments.specs.Awaiting.{SleepBeside};
 ghost use Rattle.job_moments.specs.Chunks.{lines_in, lines_of};
-ghost use Rattle.job_moments.specs.Groups.{lines_inside, lines_of_groups};
+ghost use Rattle.job_moments.specs.Groups.{lines_inside, lines_of_groups, AllBeside};
 ghost use Rattle.job_moments.specs.Moments.{is_due};
 ghost use Rattle.job_moments.specs.Quiet.{IsPart, Sleeps};
 ghost use Rattle.job_moments.specs.Waits.{Taken};
 ghost use Rattle.std.specs.Prelude.{◌≡◌, ◌<◌, ◌≤◌, ◌++◌, ◌∷◌, [], All, length, true, OnOk, OnErr};
 
-use crate::chunks::Chunk;
+use crate::chunks::{Chunk, drop_empty};
 use crate::counts::Counts;
-use crate::groups::{Group, put_behind, quiet_for_all};
+use crate::groups::{Group, Near, awake, put_behind, quiet_beside, quiet_for_all};
 use crate::met::Met;
 use crate::moments::Moment;
 use crate::quiet::Quiet;
@@ -80,21 +81,29 @@ fn is_quiet_chunk<T: Drop>(chunk: &Chunk<Pending<T>>, counts: &Counts, next: &Me
     chunk.quiet.has(counts.number(), next)
 }
 
-/// Takes out the first line of a chunk that is due in front of a message, and gives what is due. Where none is, the
-/// chunk learns in front of which messages none will be.
+/// Takes out the first line that is due in front of a message, and gives what is due.
+fn take_line<T: Drop>(lines: &mut Vec<Pending<T>>, counts: &Counts, next: &Met) -> Option<T>
+    requires few { length counts.now.made < 1000000 }
+    requires counters { All (HasItsCounter counts.now.selectors) lines.old.items }
+    ensures { Picks counts.now.made next.now lines.old.items lines.new.items result }
+{
+    match first_of(lines, counts, next) {
+        Some(place) => Some(lines.remove(place).payload),
+        None => None,
+    }
+}
+
+/// Takes out the first line of a chunk that is due in front of a message, and gives what is due. The chunk learns in
+/// front of which messages none of those left will be.
 fn take_one<T: Drop>(chunk: &mut Chunk<Pending<T>>, counts: &Counts, next: &Met) -> Option<T>
     requires few { length counts.now.made < 1000000 }
     requires known { KnowsChunk counts.now chunk.old }
     ensures taken { Picks counts.now.made next.now (lines_in chunk.old) (lines_in chunk.new) result }
     ensures known { KnowsChunk counts.now chunk.new }
 {
-    match first_of(&chunk.lines, counts, next) {
-        Some(place) => Some(chunk.lines.remove(place).payload),
-        None => {
-            chunk.quiet = quiet_of(&chunk.lines, counts);
-            None
-        }
-    }
+    let payload = take_line(&mut chunk.lines, counts, next);
+    chunk.quiet = quiet_of(&chunk.lines, counts);
+    payload
 }
 
 /// Takes out the first line of these chunks that is due in front of a message, and gives what is due.
@@ -124,8 +133,8 @@ fn is_quiet_group<T: Drop>(group: &Group<Pending<T>>, counts: &Counts, next: &Me
     group.quiet.has(counts.number(), next)
 }
 
-/// Takes out the first line of a group that is due in front of a message, and gives what is due. Where none is, the
-/// group learns in front of which messages none will be.
+/// Takes out the first line of a group that is due in front of a message, and gives what is due. The group learns in
+/// front of which messages none of those left will be.
 fn take_inside<T: Drop>(group: &mut Group<Pending<T>>, counts: &Counts, next: &Met) -> Option<T>
     requires few { length counts.now.made < 1000000 }
     requires known { KnowsGroup counts.now group.old }
@@ -133,10 +142,42 @@ fn take_inside<T: Drop>(group: &mut Group<Pending<T>>, counts: &Counts, next: &M
     ensures known { KnowsGroup counts.now group.new }
 {
     let payload = take_first(&mut group.chunks, counts, next);
-    if payload.is_none() {
-        group.quiet = quiet_for_all(&group.chunks);
-    }
+    drop_empty(&mut group.chunks);
+    group.quiet = quiet_for_all(&group.chunks);
     payload
+}
+
+/// The same of a group that may know that none of its lines is due.
+fn take_awake<T: Drop>(group: &mut Group<Pending<T>>, counts: &Counts, next: &Met) -> Option<T>
+    requires few { length counts.now.made < 1000000 }
+    requires known { KnowsGroup counts.now group.old }
+    ensures taken { Picks counts.now.made next.now (lines_inside group.old) (lines_inside group.new) result }
+    ensures known { KnowsGroup counts.now group.new }
+{
+    if is_quiet_group(group, counts, next) {
+        return None;
+    }
+    take_inside(group, counts, next)
+}
+
+/// Takes out the first line of these groups that is due in front of a message, where no line is but those of the group
+/// of a place, and gives what is due.
+fn take_at<T: Drop>(
+    groups: &mut [Group<Pending<T>>],
+    place: usize,
+    counts: &Counts,
+    next: &Met,
+) -> Option<T>
+    requires few { length counts.now.made < 1000000 }
+    requires there { place < length groups.old }
+    requires known { All (KnowsGroup counts.now) groups.old }
+    requires still { AllBeside (IsStill counts.now.made next.now) place groups.old }
+    ensures taken { Picks counts.now.made next.now (lines_of_groups groups.old) (lines_of_groups groups.new) result }
+    ensures known { All (KnowsGroup counts.now) groups.new }
+    ensures beside { (quiet : Quiet) → SleepBeside counts.now.made quiet place groups.old
+        → SleepBeside counts.now.made quiet place groups.new }
+{
+    take_awake(&mut groups[place], counts, next)
 }
 
 /// Takes out the first line of these groups that is due in front of a message, and gives what is due.
@@ -158,13 +199,52 @@ fn take_from<T: Drop>(groups: &mut [Group<Pending<T>>], counts: &Counts, next: &
     None
 }
 
+/// Whether it is known that no line of these groups is due in front of a message but those of the near one.
+fn is_near<T: Drop>(groups: &[Group<Pending<T>>], near: &Near, counts: &Counts, next: &Met) -> bool
+    requires { SleepBeside counts.now.made near.now.others near.now.place groups.now }
+    ensures there { result ≡ true → near.now.place < length groups.now }
+    ensures still { result ≡ true → AllBeside (IsStill counts.now.made next.now) near.now.place groups.now }
+{
+    if near.place >= groups.len() {
+        return false;
+    }
+    near.others.has(counts.number(), next)
+}
+
+/// Takes out the first line of these groups that is due in front of a message, and gives what is due. The near one is
+/// looked at alone where it is known that no line of the others is due; else all are, and the first that may have such
+/// a line is the near one from then on.
+fn take_near<T: Drop>(
+    groups: &mut [Group<Pending<T>>],
+    near: &mut Near,
+    counts: &Counts,
+    next: &Met,
+) -> Option<T>
+    requires few { length counts.now.made < 1000000 }
+    requires known { All (KnowsGroup counts.now) groups.old }
+    requires beside { SleepBeside counts.now.made near.old.others near.old.place groups.old }
+    ensures taken { Picks counts.now.made next.now (lines_of_groups groups.old) (lines_of_groups groups.new) result }
+    ensures known { All (KnowsGroup counts.now) groups.new }
+    ensures beside { SleepBeside counts.now.made near.new.others near.new.place groups.new }
+{
+    if is_near(groups, near, counts, next) {
+        return take_at(groups, near.place, counts, next);
+    }
+    near.place = awake(groups, near.place, counts.number(), next);
+    let payload = take_from(groups, counts, next);
+    near.others = quiet_beside(groups, near.place);
+    payload
+}
+
 /// Moments that are still to come, each with what is due at it, in the order of the text, and the messages that were
-/// made. The lines stand in chunks of at most 32, and these in groups of at most 32, of which each knows in front of
-/// which messages none of its lines is due: so a message costs as much as there are groups, and selectors that are
-/// counted.
+/// made. The lines stand in chunks of at most 8, and these in groups of at most 64, of which each knows in front of
+/// which messages none of its lines is due; and so it is known of all groups but the near one. So a message costs no
+/// more than a look at one group where the moments come in the order of the text, and where they don't as much as there
+/// are groups; and as much as there are selectors that are counted.
 #[derive(Drop)]
 pub struct Waiting<T: Drop> {
     groups: Vec<Group<Pending<T>>>,
+    near: Near,
     /// How many lines they have.
     number: usize,
     counts: Counts,
@@ -181,7 +261,7 @@ impl<T: Drop> Model for Waiting<T> {
 
     ghost view = { λ w. record { left = awaited_of (lines_of_groups w.groups.items); made = w.counts.made } };
 
-    ghost invariant = { λ w. AllKnow w.groups.items w.counts w.number };
+    ghost invariant = { λ w. AllKnow w.groups.items w.near w.counts w.number };
 }
 
 impl<T: Drop> Waiting<T> {
@@ -191,6 +271,7 @@ impl<T: Drop> Waiting<T> {
     {
         Waiting {
             groups: Vec::new(alloc),
+            near: Near::none(),
             number: 0,
             counts: Counts::none(alloc),
             alloc,
@@ -217,6 +298,7 @@ impl<T: Drop> Waiting<T> {
             counter,
             payload,
         };
+        self.near = Near::none();
         put_behind(&mut self.groups, line, self.alloc)?;
         self.number = number;
         Ok(())
@@ -236,7 +318,7 @@ impl<T: Drop> Waiting<T> {
         ensures taken { Taken self.old.made next.now self.old.left self.new.left result }
         ensures made { self.new.made ≡ self.old.made }
     {
-        let payload = take_from(&mut self.groups, &self.counts, next);
+        let payload = take_near(&mut self.groups, &mut self.near, &self.counts, next);
         if payload.is_some() {
             self.number -= 1;
         }

@@ -29,6 +29,6 @@ pub use rules::{Bounds, Check, Datum, Kind, Rule, Selector, Span, WordRange};
 pub use selectors::{read_selector, selector_of};
 pub use spans::read_span;
 pub use standard::clean_is_one_rule;
-pub use times::read_time;
+pub use times::{parts_at_point, read_time};
 pub use values::read_number;
 pub use words::ended;

@@ -53,7 +53,7 @@ fn ticks_of(places: usize, text: &[u8]) -> Option<u64>
     requires { places ≤ 7 }
     ensures { result ≡ spec.ticks_of places text.now }
 {
-    let (whole, decimals) = text.split_at(point_at(text));
+    let (whole, decimals) = parts_at_point(text);
     let units = spelled(10, 1, DIGITS, whole)?;
     let ticks = decimal_ticks(places, decimals)?;
     let whole_ticks = units * scale(places);
@@ -71,6 +71,14 @@ fn point_at(text: &[u8]) -> usize
         }
     }
     text.len()
+}
+
+/// What stands in front of the point of a text, and what from the point on: nothing where there is none.
+pub fn parts_at_point(text: &[u8]) -> (&[u8], &[u8])
+    ensures front { result.0.now ≡ spec.whole_part text.now }
+    ensures rest { result.1.now ≡ spec.decimal_part text.now }
+{
+    text.split_at(point_at(text))
 }
 
 /// How many ticks the decimal places behind a point are; none where there is no point.

@@ -41,15 +41,43 @@ pub(crate) fn plan_add(alloc: Global) -> Told {
     Told::Well
 }
 
-/// `Plan::copy`.
-pub(crate) fn plan_copy(alloc: Global) -> Told {
-    let mut plan = Plan::make(alloc);
-    for number in 1..=20u32 {
-        if plan.add(number, MUTED).is_err() {
-            return Told::Early;
+/// Plans a second fault for each message of 1 to 19, which all come behind that of message 20, up to a refusal,
+/// behind which all up to the message before have two.
+pub(crate) fn plan_add_late(alloc: Global) -> Told {
+    let Ok(mut plan) = plan_of_twenty(alloc) else {
+        return Told::Early;
+    };
+    for number in 1..20u32 {
+        match plan.add(number, MUTED) {
+            Ok(()) => {}
+            Err(LineError::Memory) => {
+                let planned = number == 1 || plan.faults(number - 1).len() == 2;
+                return Told::refused(planned && plan.faults(number).len() == 1);
+            }
+            Err(_) => return Told::Wrong,
         }
     }
-    Told::of(plan.copy().is_ok())
+    Told::Well
+}
+
+/// A plan of a fault for each message of 1 to 20.
+fn plan_of_twenty(alloc: Global) -> Result<Plan, LineError> {
+    let mut plan = Plan::make(alloc);
+    for number in 1..=20u32 {
+        plan.add(number, MUTED)?;
+    }
+    Ok(plan)
+}
+
+/// `Plan::copy`, where a fault came late.
+pub(crate) fn plan_copy(alloc: Global) -> Told {
+    let Ok(mut plan) = plan_of_twenty(alloc) else {
+        return Told::Early;
+    };
+    match plan.add(1, MUTED) {
+        Ok(()) => Told::of(plan.copy().is_ok()),
+        Err(_) => Told::Early,
+    }
 }
 
 /// `Bus::make`.

@@ -113,6 +113,7 @@ impl Action {
     fn keeps_ranges(&self)
         ensures { IsInRange self.now }
     {
+        // What is read here is read for the proof alone: the ranges stand with the types.
         match self {
             Action::Transmit(put) => put.keeps_ranges(),
             Action::Illegal(mark) | Action::Legal(mark) => mark.keeps_ranges(),

@@ -177,6 +177,7 @@ impl WordRamp {
     pub(crate) fn keeps_ranges(&self)
         ensures { IsRamp self.now }
     {
+        // Read for the proof alone: the ranges stand with the types.
         let _start = self.start;
         let _add = self.add;
         let _index = self.index;

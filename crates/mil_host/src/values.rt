@@ -82,6 +82,7 @@ impl TransmitWords {
 fn have_16_bits(words: &[u16])
     ensures { All (λ w. w < 65536) words.now }
 {
+    // Read for the proof alone: the range stands with the type.
     let _count = words.len();
 }
 
@@ -152,6 +153,7 @@ impl Mark {
     pub(crate) fn keeps_ranges(&self)
         ensures { IsMark self.now }
     {
+        // Read for the proof alone: the ranges stand with the type.
         let _count = self.count;
     }
 }

@@ -10,6 +10,7 @@ mod gaps;
 mod line_words;
 mod on_line;
 mod plans;
+mod rising;
 
 pub use error::LineError;
 pub use faults::Fault;

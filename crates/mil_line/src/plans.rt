@@ -1,10 +1,12 @@
 //! The faults that are planned for the messages of a channel.
 ghost use Rattle.mil_line.specs.Plans.{faults_of};
 ghost use Rattle.mil_line.specs.Ranges.{is_in_range, is_number};
+ghost use Rattle.mil_line.specs.StandsFor.{late_of, HasOneMore};
 ghost use Rattle.std.specs.List.{list_all};
 ghost use Rattle.std.specs.Prelude.{OnErr};
-ghost use Rattle.std.specs.Prelude.{◌≡◌, ◌∷◌, ◌++◌, [], ◌<◌, ◌≤◌, ◌&&◌, ◌↔◌, true, false, length, Err, OnOk, IfOk};
+ghost use Rattle.std.specs.Prelude.{◌≡◌, ◌∷◌, ◌++◌, [], ◌+◌, ◌<◌, ◌≤◌, ◌&&◌, ◌↔◌, true, false, length, Err, OnOk, IfOk};
 
+use crate::rising::Rising;
 use crate::{Fault, LineError};
 use arrayvec::ArrayVec;
 use history::History;
@@ -13,10 +15,13 @@ use std::collections::BTreeMap;
 use std::marker::Model;
 
 /// Faults by the number of their message; contracts see the list of (number, fault) in the order in which they were
-/// added. A look-up takes time by the logarithm of how many messages have faults.
+/// added. A look-up takes time by the logarithm of how many faults there are.
 #[derive(Drop)]
 pub struct Plan {
-    by_number: BTreeMap<u32, ArrayVec<Fault, 4>>,
+    /// Those whose numbers were at or behind that of each one here.
+    rising: Rising,
+    /// The others, which came late, by their numbers: of a message they were all added behind those of `rising`.
+    late: BTreeMap<u32, ArrayVec<Fault, 4>>,
     added: History<(u32, Fault)>,
 }
 
@@ -29,7 +34,7 @@ impl Model for Plan {
 
     ghost view = { λ p. p.added };
 
-    ghost invariant = { λ p. AreFaultsByNumber p.by_number p.added };
+    ghost invariant = { λ p. AreFaultsByNumber p.rising p.late p.added };
 }
 
 /// Whether the number of a message is 1 to 1,000,000, and the fault's place and value are in their ranges.
@@ -39,13 +44,43 @@ fn is_fit(number: u32, fault: &Fault) -> bool
     1 <= number && number <= 1_000_000 && fault.is_in_range()
 }
 
+/// Puts the faults that came late for a message behind others of it, where that makes four at most.
+fn put_late(faults: &mut ArrayVec<Fault, 4>, late: &BTreeMap<u32, ArrayVec<Fault, 4>>, number: u32)
+    requires { length faults.old.items + length (late_of number late.now) ≤ 4 }
+    ensures { faults.new.items ≡ faults.old.items ++ late_of number late.now }
+{
+    if let Some(planned) = late.get(&number) {
+        for fault in planned.as_slice() {
+            faults.push(*fault);
+        }
+    }
+}
+
+/// One more fault that comes late for a message. It changes nothing where memory is refused.
+fn add_late(
+    late: &mut BTreeMap<u32, ArrayVec<Fault, 4>>,
+    number: u32,
+    fault: Fault,
+) -> Result<(), AllocError>
+    requires { length (late_of number late.old) < 4 }
+    ensures ok { OnOk result (HasOneMore number fault late.old late.new) }
+    ensures err { OnErr result (late.new.entries ≡ late.old.entries) }
+{
+    let mut faults = ArrayVec::new();
+    put_late(&mut faults, late, number);
+    faults.push(fault);
+    late.insert(number, faults)?;
+    Ok(())
+}
+
 impl Plan {
     /// A plan with no faults. It takes no memory.
     pub fn make(alloc: Global) -> Plan
         ensures { result ≡ [] }
     {
         Plan {
-            by_number: BTreeMap::new(alloc),
+            rising: Rising::none(alloc),
+            late: BTreeMap::new(alloc),
             added: History::none(),
         }
     }
@@ -59,16 +94,20 @@ impl Plan {
             ((length (faults_of number self.old) < 4) × ((is_number number && is_in_range fault) ≡ false)) }
         ensures err { OnErr result (self.new ≡ self.old) }
     {
-        let mut faults = self.faults(number);
+        let faults = self.faults(number);
         if faults.is_full() {
             return Err(LineError::TooMany);
         }
         if !is_fit(number, &fault) {
             return Err(LineError::OutOfRange);
         }
-        faults.push(fault);
-        match self.by_number.insert(number, faults) {
-            Ok(_) => {
+        let kept = if self.rising.may_end_with(number) {
+            self.rising.push(number, fault)
+        } else {
+            add_late(&mut self.late, number, fault)
+        };
+        match kept {
+            Ok(()) => {
                 self.added = self.added.put_behind(&(number, fault));
                 Ok(())
             }
@@ -81,12 +120,8 @@ impl Plan {
         ensures faults { result.items ≡ faults_of number self.now }
         ensures in_range { list_all is_in_range result.items ≡ true }
     {
-        let mut faults = ArrayVec::new();
-        if let Some(planned) = self.by_number.get(&number) {
-            for fault in planned.as_slice() {
-                faults.push(*fault);
-            }
-        }
+        let mut faults = self.rising.faults(number);
+        put_late(&mut faults, &self.late, number);
         faults
     }
 
@@ -95,7 +130,8 @@ impl Plan {
         ensures { IfOk result (λ p. p ≡ self.now) }
     {
         Ok(Plan {
-            by_number: self.by_number.clone()?,
+            rising: self.rising.copy()?,
+            late: self.late.clone()?,
             added: self.added.same(),
         })
     }

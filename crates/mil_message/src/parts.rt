@@ -35,6 +35,7 @@ impl Message {
         ensures same { request_of result ≡ request_for self.now }
         ensures accepted { checked (request_of result) ≡ Ok self.now }
     {
+        // Read for the proof alone: that a message is lawful stands with its type.
         let _lawful = self.form();
         let commands = self.commands();
         let first = commands.first.value();

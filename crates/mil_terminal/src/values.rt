@@ -15,6 +15,7 @@ pub fn are_small(values: &[u16])
     ensures { AreSmall values.now }
 {
     for i in 0..values.len() {
+        // Read for the proof alone: the range stands with the type.
         let _value = values[i];
     }
 }

@@ -1,14 +1,39 @@
 //! The first message past a place, and the latest before one, whose outcome makes a condition true.
 ghost use Rattle.frame_tree.specs.Tree.{condition_in};
-ghost use Rattle.replay.specs.Finding.{earlier, later, IsMetBy, IsMetIn, Finds, FindsBack};
+ghost use Rattle.replay.specs.Finding.{count_to, earlier, later, IsMetBy, IsMetIn, Finds, FindsBack};
 ghost use Rattle.replay.specs.Standings.{HasNoExtraMessages};
 ghost use Rattle.std.specs.List.{AllByRecursion};
-ghost use Rattle.std.specs.Prelude.{◌≡◌, ◌≤◌, length};
+ghost use Rattle.std.specs.Prelude.{◌≡◌, ◌+◌, ◌<◌, ◌≤◌, length, true, false};
 
 use crate::conditions::holds;
 use crate::tracks::{Track, count};
 use frame_tree::Cond;
 use std::alloc::Allocator;
+
+/// Whether the message behind so many others is of the job, and its outcome makes the condition true; of the job's
+/// messages those up to it were heard then. Conditions: those before it were, and there are no more messages of the
+/// job's channel than were kept.
+fn is_met<A: Allocator + Clone>(
+    track: &Track,
+    channels: &[u16],
+    before: usize,
+    heard: &mut usize,
+    condition: &Cond<A>,
+) -> bool
+    requires within { before < length channels.now }
+    requires room { HasNoExtraMessages channels.now track.now }
+    requires heard { heard.old ≡ count_to channels.now before track.now.job.channel }
+    ensures heard { heard.new ≡ count_to channels.now (before + 1) track.now.job.channel }
+    ensures met { result ≡ true → IsMetBy channels.now (condition_in condition.now) track.now (before + 1) }
+    ensures other { result ≡ false → ¬ IsMetBy channels.now (condition_in condition.now) track.now (before + 1) }
+{
+    let channel = track.channel();
+    if channels[before] == channel {
+        *heard += 1;
+        return holds(condition, track.outcome(*heard));
+    }
+    false
+}
 
 /// The first message past a place that is of the job, and whose outcome makes the condition true. Conditions: the place
 /// is not past the end, and there are no more messages of the job's channel than were kept.
@@ -22,14 +47,10 @@ fn first_of_job<A: Allocator + Clone>(
     requires room { HasNoExtraMessages channels.now track.now }
     ensures { Finds place (IsMetBy channels.now (condition_in condition.now) track.now) result }
 {
-    let channel = track.channel();
-    let mut heard = count(&channels[..place], channel);
+    let mut heard = count(&channels[..place], track.channel());
     for before in place..channels.len() {
-        if channels[before] == channel {
-            heard += 1;
-            if holds(condition, track.outcome(heard)) {
-                return Some(before + 1);
-            }
+        if is_met(track, channels, before, &mut heard, condition) {
+            return Some(before + 1);
         }
     }
     None
@@ -77,15 +98,11 @@ fn latest_of_job<A: Allocator + Clone>(
     requires room { HasNoExtraMessages channels.now track.now }
     ensures { FindsBack place (IsMetBy channels.now (condition_in condition.now) track.now) result }
 {
-    let channel = track.channel();
     let mut heard = 0;
     let mut latest = None;
     for before in 0..place.saturating_sub(1) {
-        if channels[before] == channel {
-            heard += 1;
-            if holds(condition, track.outcome(heard)) {
-                latest = Some(before + 1);
-            }
+        if is_met(track, channels, before, &mut heard, condition) {
+            latest = Some(before + 1);
         }
     }
     latest

@@ -71,6 +71,7 @@ fn is_over(
     ensures { MatchBool result (IsOver job.now part.now machine.old.point.number heard.old)
         (HasOneMore job.now part.now machine.old.point.number heard.old) }
 {
+    // Its contract says that the script is sound.
     let _sound = job.program();
     match next_record(machine) {
         Some(_) => false,
@@ -203,6 +204,7 @@ pub(crate) fn play(
     ensures states { OnOk result (AddsStates
         (record { job = job.now; part = part.now }) channels.now stops.old.items stops.new.items) }
 {
+    // Its contract says that the script is sound.
     let _sound = job.program();
     let mut playing = Playing::begin(alloc, job, part, channels)?;
     playing.play_all(alloc, job, part, index, channels, stops)?;

@@ -1,23 +1,13 @@
 -- Decimal numbers in the words of a text (own choice): perhaps `-`, digits, and perhaps a point and more digits.
 use Rattle.std.specs.Prelude.{ℕ, ◌+◌, ◌*◌, ◌^◌, ◌-◌, ◌==◌, nat_le, Bool, true, false, ◌&&◌, if◌then◌else◌}
-use Rattle.std.specs.Prelude.{List, [], ◌∷◌, length, take, drop, Ok, Err, Option, Some, None, codes}
-use Rattle.std.specs.List.{position_or_len}
+use Rattle.std.specs.Prelude.{List, [], ◌∷◌, length, drop, Ok, Err, Option, Some, None, codes}
 use Rattle.std.specs.Str.Parse.{digits_value}
 use Rattle.numerals.specs.Numerals.{are_digits}
 use Rattle.text_lines.specs.Words.{Text, begins_with}
 use Rattle.judge_rules.specs.declared.fault.RuleFault.TheVariants.{Word, Number}
 use Rattle.judge_rules.specs.Faults.{Read}
+use Rattle.judge_rules.specs.Times.{decimal_part, whole_part}
 use Rattle.signal_dictionary.specs.declared.decimals.Decimal.{Decimal}
-
-abbrev pub is_point : ℕ → Bool
-is_point b = b == 46
-
--- what stands in front of the point, and what from the point on
-abbrev pub whole_part : Text → Text
-whole_part text = take (position_or_len is_point text) text
-
-abbrev pub decimal_part : Text → Text
-decimal_part text = drop (position_or_len is_point text) text
 
 -- what stands behind the point with which a text begins, if there is one: at least a digit
 abbrev pub behind_point : Text → Option Text
@@ -52,6 +42,13 @@ abbrev pub decimal_in : List Text → Read Decimal
 decimal_in [] = Err Word
 decimal_in (word ∷ rest) = decimal_of word
 
+-- the decimal behind a word, where that comes next; else the one that counts where none is told
+abbrev pub told_in : Text → Decimal → List Text → Read Decimal
+told_in word untold rest = if begins_with word rest then decimal_in (drop 1 rest) else Ok untold
+
+abbrev pub behind_told : Text → List Text → List Text
+behind_told word rest = if begins_with word rest then drop 2 rest else rest
+
 -- the scale, 1 where none is told, and the offset, 0 where none is
 abbrev pub one : Decimal
 one = record { negative = false; digits = 1; places = 0 }
@@ -60,13 +57,13 @@ abbrev pub nought : Decimal
 nought = record { negative = false; digits = 0; places = 0 }
 
 abbrev pub scale_in : List Text → Read Decimal
-scale_in rest = if begins_with (codes "scale") rest then decimal_in (drop 1 rest) else Ok one
+scale_in rest = told_in (codes "scale") one rest
 
 abbrev pub behind_scale : List Text → List Text
-behind_scale rest = if begins_with (codes "scale") rest then drop 2 rest else rest
+behind_scale rest = behind_told (codes "scale") rest
 
 abbrev pub offset_in : List Text → Read Decimal
-offset_in rest = if begins_with (codes "offset") rest then decimal_in (drop 1 rest) else Ok nought
+offset_in rest = told_in (codes "offset") nought rest
 
 abbrev pub behind_offset : List Text → List Text
-behind_offset rest = if begins_with (codes "offset") rest then drop 2 rest else rest
+behind_offset rest = behind_told (codes "offset") rest

@@ -2,12 +2,11 @@
 ghost use Rattle.numerals.specs.Numerals.{are_digits};
 ghost use Rattle.signal_dictionary.specs.Decimals as spec;
 ghost use Rattle.signal_dictionary.specs.Fitting.{is_decimal};
-ghost use Rattle.std.specs.List.{position_or_len};
 ghost use Rattle.std.specs.Prelude.{◌≡◌, ◌+◌, ◌*◌, ◌^◌, ◌<◌, ◌≤◌, true, drop, length, IfOk};
 ghost use Rattle.std.specs.Option.{option_copied};
 ghost use Rattle.std.specs.Str.Parse.{digits_value};
 
-use judge_rules::RuleFault;
+use judge_rules::{RuleFault, parts_at_point};
 use numerals::digit;
 use text_lines::Words;
 
@@ -37,19 +36,6 @@ pub(crate) const ZERO: Decimal = Decimal {
     digits: 0,
     places: 0,
 };
-
-/// Where the point stands, or the length where there is none.
-fn point_at(text: &[u8]) -> usize
-    ensures value { result ≡ position_or_len spec.is_point text.now }
-    ensures within { result ≤ length text.now }
-{
-    for (i, byte) in text.iter().enumerate() {
-        if *byte == b'.' {
-            return i;
-        }
-    }
-    text.len()
-}
 
 /// What stands behind the point with which a text begins: nothing of a text without one; none of a point alone.
 fn behind_point(text: &[u8]) -> Option<&[u8]>
@@ -126,7 +112,7 @@ fn unsigned(negative: bool, text: &[u8]) -> Result<Decimal, RuleFault>
     ensures value { result ≡ spec.unsigned negative text.now }
     ensures range { IfOk result (λ d. is_decimal d ≡ true) }
 {
-    let (whole, rest) = text.split_at(point_at(text));
+    let (whole, rest) = parts_at_point(text);
     let Some(behind) = behind_point(rest) else {
         return Err(RuleFault::Number);
     };
@@ -170,16 +156,24 @@ fn read_decimal(words: &mut Words<'_>) -> Result<Decimal, RuleFault>
     }
 }
 
+/// The decimal behind a word, where that comes next; else the one that counts where none is told.
+fn read_told(words: &mut Words<'_>, word: &[u8], untold: Decimal) -> Result<Decimal, RuleFault>
+    ensures value { result ≡ spec.told_in word.now untold words.old }
+    ensures rest { words.new ≡ spec.behind_told word.now words.old }
+{
+    if words.takes(word) {
+        read_decimal(words)
+    } else {
+        Ok(untold)
+    }
+}
+
 /// The scale, 1 where none is told.
 pub(crate) fn read_scale(words: &mut Words<'_>) -> Result<Decimal, RuleFault>
     ensures value { result ≡ spec.scale_in words.old }
     ensures rest { words.new ≡ spec.behind_scale words.old }
 {
-    if words.takes(b"scale") {
-        read_decimal(words)
-    } else {
-        Ok(ONE)
-    }
+    read_told(words, b"scale", ONE)
 }
 
 /// The offset, 0 where none is told.
@@ -187,9 +181,5 @@ pub(crate) fn read_offset(words: &mut Words<'_>) -> Result<Decimal, RuleFault>
     ensures value { result ≡ spec.offset_in words.old }
     ensures rest { words.new ≡ spec.behind_offset words.old }
 {
-    if words.takes(b"offset") {
-        read_decimal(words)
-    } else {
-        Ok(ZERO)
-    }
+    read_told(words, b"offset", ZERO)
 }

@@ -1,7 +1,7 @@
 //! Names, labels and units.
 ghost use Rattle.signal_dictionary.specs.Texts as spec;
 ghost use Rattle.std.specs.List.{list_all};
-ghost use Rattle.std.specs.Prelude.{◌≡◌, drop};
+ghost use Rattle.std.specs.Prelude.{◌≡◌, ◌<◌, drop, length, IfOk, IfErr};
 
 use arrayvec::ArrayVec;
 use judge_rules::{RuleFault, ended};
@@ -112,6 +112,17 @@ pub fn is_unit(word: &[u8]) -> bool
     1 <= word.len() && word.len() <= MOST_OF_LABEL && all_of_unit(word)
 }
 
+/// The bytes of a word; a fault of a word where there is no room for them.
+fn bytes_of<const N: usize>(word: &[u8]) -> Result<ArrayVec<u8, N>, RuleFault>
+    ensures bytes { IfOk result (λ bytes. bytes.items ≡ word.now) }
+    ensures long { IfErr result (λ fault. (fault ≡ RuleFault.Word) × (N < length word.now)) }
+{
+    match ArrayVec::try_from(word) {
+        Ok(bytes) => Ok(bytes),
+        Err(_) => Err(RuleFault::Word),
+    }
+}
+
 /// The name that a word is.
 fn name_of(word: &[u8]) -> Result<Name, RuleFault>
     ensures { result ≡ spec.name_of word.now }
@@ -119,10 +130,8 @@ fn name_of(word: &[u8]) -> Result<Name, RuleFault>
     if !is_name(word) {
         return Err(RuleFault::Word);
     }
-    match ArrayVec::try_from(word) {
-        Ok(bytes) => Ok(Name { bytes }),
-        Err(_) => Err(RuleFault::Word),
-    }
+    let bytes = bytes_of(word)?;
+    Ok(Name { bytes })
 }
 
 /// A name as the next word.
@@ -143,10 +152,8 @@ pub fn label_of(word: &[u8]) -> Result<Label, RuleFault>
     if !is_label(word) {
         return Err(RuleFault::Word);
     }
-    match ArrayVec::try_from(word) {
-        Ok(bytes) => Ok(Label { bytes }),
-        Err(_) => Err(RuleFault::Word),
-    }
+    let bytes = bytes_of(word)?;
+    Ok(Label { bytes })
 }
 
 /// The unit that a word is.
@@ -156,10 +163,8 @@ fn unit_of(word: &[u8]) -> Result<Unit, RuleFault>
     if !is_unit(word) {
         return Err(RuleFault::Word);
     }
-    match ArrayVec::try_from(word) {
-        Ok(bytes) => Ok(Unit { bytes }),
-        Err(_) => Err(RuleFault::Word),
-    }
+    let bytes = bytes_of(word)?;
+    Ok(Unit { bytes })
 }
 
 /// No unit.

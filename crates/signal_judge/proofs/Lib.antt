@@ -3,7 +3,6 @@ mod Chosen
 mod Counting
 mod Finding
 mod Named
-mod Passing
 mod OfText
 mod Tallying
 mod Whole

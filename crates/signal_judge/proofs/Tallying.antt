@@ -204,6 +204,22 @@ selects_none r origins channel m here is = rw (here, is) refl
 pub selects_it : (r : SignalRule) (origins : Origins) (channel : ℕ) (m : Recorded) → is_here r.rule origins channel m ≡ true → has_signal r.signal.now channel m ≡ true → selects r origins channel m ≡ true
 selects_it r origins channel m here is = rw (here, is) refl
 
+-- the value of the signal in a message that a rule selects, by whether it is of the channel, the line and the times
+pub value_selected : (r : SignalRule) (origins : Origins) (channel : ℕ) (m : Recorded) (v : Value) → (if is_here r.rule origins channel m then value_in r.signal.now channel m else None) ≡ Some v
+    → (is_here r.rule origins channel m ≡ true) × (value_in r.signal.now channel m ≡ Some v)
+value_selected r origins channel m v is = go (is_here r.rule origins channel m) refl is
+  where
+    go : (b : Bool) → is_here r.rule origins channel m ≡ b → (if b then value_in r.signal.now channel m else None) ≡ Some v → (is_here r.rule origins channel m ≡ true) × (value_in r.signal.now channel m ≡ Some v)
+    go true here some = (here, some)
+    go false here some = absurd cc
+
+pub none_selected : (r : SignalRule) (origins : Origins) (channel : ℕ) (m : Recorded) → (if is_here r.rule origins channel m then value_in r.signal.now channel m else None) ≡ None → selects r origins channel m ≡ false
+none_selected r origins channel m is = go (is_here r.rule origins channel m) refl is
+  where
+    go : (b : Bool) → is_here r.rule origins channel m ≡ b → (if b then value_in r.signal.now channel m else None) ≡ None → selects r origins channel m ≡ false
+    go true here none = selects_none r origins channel m here (has_none r.signal.now channel m none)
+    go false here none = selects_no r origins channel m here
+
 -- counts that are as they were
 pub counted_same : (r : SignalRule) (origins : Origins) (history : List Viewed) (t u : SignalTally) → u.plain ≡ t.plain → IsCounted r origins history t → IsCounted r origins history u
 counted_same r origins history t u same c = record { selected = ap (λ p. p.selected) same ∙ c.selected; counted = ap (λ p. p.counted) same ∙ c.counted; missed = ap (λ p. p.missed) same ∙ c.missed }

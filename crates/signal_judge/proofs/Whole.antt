@@ -1,4 +1,4 @@
--- Tallies of no message, and verdicts of tallies.
+-- Verdicts of tallies.
 use Rattle.std.proofs.Common.{◌≡◌, ℕ, zero, suc, ◌+◌, ◌<◌, List, [], ◌∷◌, ◌++◌, length, refl, ap, sym, ◌∙◌, subst, arith, length-append}
 use Rattle.std.specs.Prelude.{Some, slice_get}
 use Rattle.std.proofs.lemmas.Option.{slice_get_within}
@@ -8,7 +8,8 @@ use Rattle.bench_judge.specs.Verdicts.{IsVerdictWith}
 use Rattle.bench_judge.specs.declared.verdicts.RuleVerdict.{RuleVerdict}
 use Rattle.signal_judge.specs.declared.rules.SignalRule.{SignalRule}
 use Rattle.signal_judge.specs.declared.tallies.SignalTally.{SignalTally}
-use Rattle.signal_judge.specs.Tallies.{IsTally, AreTallies}
+use Rattle.bench_judge.specs.Tallies.{AreTallies}
+use Rattle.signal_judge.specs.Tallies.{IsTally}
 use Rattle.signal_judge.specs.Verdicts.{AreVerdicts}
 use Rattle.signal_judge.proofs.Tallying.{verdict_is}
 
@@ -26,23 +27,6 @@ place_of [] x zero y is = Last refl cc
 place_of [] x (suc k) y is = absurd cc
 place_of (z ∷ zs) x zero y is = Earlier (omega arith) is
 place_of (z ∷ zs) x (suc k) y is = later z zs x k y (place_of zs x k y is)
-
--- each tally is of no messages
-pub record AreNew (tallies : List SignalTally) : Type 0 where
-  pub each : (k : ℕ) (tally : SignalTally) → slice_get tallies k ≡ Some tally → (r : SignalRule) → (origins : Origins) → IsTally r origins [] tally
-
-pub new-none : AreNew []
-new-none = record { each = λ k tally there. absurd cc }
-
-pub new-more : (tallies : List SignalTally) (tally : SignalTally) → AreNew tallies → ((r : SignalRule) → (origins : Origins) → IsTally r origins [] tally) → AreNew (tallies ++ tally ∷ [])
-new-more tallies tally are one = record { each = λ k other there r origins. go k other r origins (place_of tallies tally k other there) }
-  where
-    go : (k : ℕ) (other : SignalTally) (r : SignalRule) (origins : Origins) → Place SignalTally tallies tally k other → IsTally r origins [] other
-    go k other r origins (Earlier within there) = are.each k other there r origins
-    go k other r origins (Last at is) = subst (λ (t : SignalTally). IsTally r origins [] t) is (one r origins)
-
-pub new-all : (rules : List SignalRule) (origins : Origins) (tallies : List SignalTally) → length tallies ≡ length rules → AreNew tallies → AreTallies rules origins [] tallies
-new-all rules origins tallies many are = record { many = many; each = λ k r tally there got. are.each k tally got r origins }
 
 -- the first tallies have their verdicts
 pub record AreJudged (rules : List SignalRule) (tallies : List SignalTally) (verdicts : List RuleVerdict) (i : ℕ) : Type 0 where
@@ -77,7 +61,7 @@ found_at [] k below = absurd (omega arith)
 found_at (x ∷ xs) zero below = (x, refl)
 found_at (x ∷ xs) (suc k) below = found_at xs k (omega arith)
 
-pub judged_all : (rules : List SignalRule) (origins : Origins) (tallies : List SignalTally) (verdicts : List RuleVerdict) (i : ℕ) (history : List Viewed) → AreJudged rules tallies verdicts i → i ≡ length rules → AreTallies rules origins history tallies → AreVerdicts rules origins history verdicts
+pub judged_all : (rules : List SignalRule) (origins : Origins) (tallies : List SignalTally) (verdicts : List RuleVerdict) (i : ℕ) (history : List Viewed) → AreJudged rules tallies verdicts i → i ≡ length rules → AreTallies IsTally rules origins history tallies → AreVerdicts rules origins history verdicts
 judged_all rules origins tallies verdicts i history j whole are = record {
   many = j.many ∙ whole;
   each = λ k r verdict asked has.

@@ -1,7 +1,6 @@
 -- What a tally says of the messages that were passed.
-use Rattle.std.specs.Prelude.{◌≡◌, ℕ, nat_eq, Bool, not, ◌&&◌, List, length, take, Option, Some, option_map, slice_get}
+use Rattle.std.specs.Prelude.{◌≡◌, ℕ, nat_eq, Bool, not, ◌&&◌, List, length, take, option_map}
 use Rattle.std.specs.HashMap.{get}
-use Rattle.std.specs.Io.KnownBytes.{Appends}
 use Rattle.std.specs.List.{filter, flat_map}
 use Rattle.bench_judge.specs.Selection.{Origins}
 use Rattle.bench_select.specs.Viewed.{Viewed}
@@ -44,22 +43,9 @@ IsTally r origins history t = IsTallyBy r.asked r origins history t
 abbrev pub misses_next : SignalRule → Origins → List Viewed → Viewed → Bool
 misses_next r origins history h = selects r origins h.0 h.1 && not (meets r origins history h.0 h.1)
 
--- a tally for each rule, in their order
-pub record AreTallies (rules : List SignalRule) (origins : Origins) (history : List Viewed) (ts : List SignalTally)
-    : Type 0 where
-  pub many : length ts ≡ length rules
-  pub each : (place : ℕ) (r : SignalRule) (t : SignalTally) → slice_get rules place ≡ Some r
-      → slice_get ts place ≡ Some t → IsTally r origins history t
-
 -- the lines of the messages that miss a rule
 abbrev pub miss_lines : SignalRule → Origins → List Viewed → List ℕ
 miss_lines r origins history = flat_map (miss_line r.rule.line) (misses r origins history)
-
--- the messages that missed the rule so far were written
-pub record IsWriting (r : SignalRule) (origins : Origins) (got : Option (List ℕ)) (history : List Viewed)
-    (gets : Option (List ℕ)) (t : SignalTally) : Type 0 where
-  pub tallied : IsTally r origins history t
-  pub written : Appends got gets (miss_lines r origins history)
 
 -- the first messages that missed the rule so far, at most so many, were found
 pub record IsFinding (r : SignalRule) (origins : Origins) (most : ℕ) (history : List Viewed) (found : List Miss)

@@ -10,7 +10,7 @@ ghost use Rattle.std.specs.Prelude.{OnOk};
 use crate::rules::SignalRule;
 use crate::tallies::SignalTally;
 use crate::told::put_signal_told;
-use bench_judge::Miss;
+use bench_judge::{Miss, note_miss};
 use ch11_f1::Messages;
 use ch11_layout::{StampKind, View};
 use ch11_reader::Packet;
@@ -48,7 +48,7 @@ fn note_first(
         found.new.items tally.new) }
 {
     let before = tally.before(channel);
-    if let Some(miss) = tally.note_miss(rule, origins, number, channel, view)? {
+    if let Some(miss) = note_miss(rule, tally, origins, number, channel, view)? {
         if found.len() < most {
             put_signal_told(told, rule, &miss, before, view)?;
         }

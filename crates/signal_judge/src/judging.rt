@@ -1,21 +1,18 @@
 //! Verdicts on all rules.
 ghost use Rattle.bench_judge.specs.Selection.{Origins};
 ghost use Rattle.bench_judge.specs.Streaming.{passed_of};
+ghost use Rattle.bench_judge.specs.Tallies.{AreTallies};
 ghost use Rattle.bench_judge.specs.Verdicts as others;
-ghost use Rattle.bench_select.specs.Viewed.{Viewed, viewed_behind, viewed_in};
-ghost use Rattle.ch11_layout.specs.Stamps.{kind_of};
+ghost use Rattle.bench_select.specs.Viewed.{Viewed, viewed_in};
 ghost use Rattle.ch11_stream.specs.Folding.{FoldsPackets};
-ghost use Rattle.signal_judge.specs.Tallies.{AreTallies};
+ghost use Rattle.signal_judge.specs.Tallies.{IsTally};
 ghost use Rattle.signal_judge.specs.Verdicts.{AreVerdicts};
-ghost use Rattle.std.specs.Prelude.{◌≡◌, ◌+◌, ◌<◌, ◌^◌, ◌∷◌, [], ℕ, List, Some, length, reverse, IfOk, OnOk};
+ghost use Rattle.std.specs.Prelude.{◌≡◌, ℕ, List, Some, length, reverse, IfOk};
 
 use crate::rules::{AllRules, SignalRule};
 use crate::tallies::SignalTally;
-use bench_judge::{PassFault, RuleVerdict, judge};
+use bench_judge::{PassFault, RuleVerdict, judge, no_tallies, note_messages};
 use bench_watch::Reopen;
-use ch11_f1::Messages;
-use ch11_header::Header;
-use ch11_layout::{StampKind, View};
 use ch11_stream::{Advance, Packets, StreamFault};
 use std::alloc::{AllocError, Global};
 
@@ -111,60 +108,6 @@ fn judge_signals<R: Advance + Drop>(
     Err(StreamFault::Device)
 }
 
-/// A tally for each rule, of no messages.
-fn no_tallies(alloc: Global, rules: &[SignalRule<'_>]) -> Result<Vec<SignalTally>, AllocError>
-    ensures { (origins : Origins) → IfOk result (λ tallies. AreTallies rules.now origins [] tallies.items) }
-{
-    let mut tallies = Vec::with_capacity(alloc, rules.len())?;
-    'rules: for _rule in rules {
-        tallies.push(SignalTally::new(alloc))?;
-    }
-    Ok(tallies)
-}
-
-/// One more message for each rule; whether it is clean is worked out at most once.
-fn note_message(
-    rules: &[SignalRule<'_>],
-    origins: &[Option<u64>],
-    tallies: &mut [SignalTally],
-    channel: u16,
-    view: &View<'_>,
-) -> Result<(), AllocError>
-    requires { length tallies.old ≡ length rules.now }
-    ensures { (history : List Viewed) → AreTallies rules.now origins.now history tallies.old
-        → length history + 1 < 2 ^ 64
-        → OnOk result (AreTallies rules.now origins.now ((channel, view.now) ∷ history) tallies.new) }
-{
-    let mut known = None;
-    'rules: for place in 0..rules.len() {
-        tallies[place].note(&rules[place], origins, channel, view, &mut known)?;
-    }
-    Ok(())
-}
-
-/// The messages of a packet with this header for each rule.
-fn note_messages(
-    rules: &[SignalRule<'_>],
-    origins: &[Option<u64>],
-    tallies: &mut [SignalTally],
-    header: &Header,
-    messages: Messages<'_>,
-) -> Result<(), AllocError>
-    requires { length tallies.old ≡ length rules.now }
-    ensures { (history : List Viewed) → AreTallies rules.now origins.now history tallies.old
-        → length history + length messages.entry < 2 ^ 64
-        → OnOk result (AreTallies rules.now origins.now
-        (viewed_behind (kind_of header.now) header.now.channel messages.entry history) tallies.new) }
-{
-    let channel = header.channel;
-    let kind = StampKind::of(header);
-    let mut rest = messages;
-    'messages: while let Some(seen) = rest.next() {
-        note_message(rules, origins, tallies, channel, &View::of(kind, &seen))?;
-    }
-    Ok(())
-}
-
 /// The verdicts of tallies, one for each rule.
 fn verdicts_of(
     alloc: Global,
@@ -172,7 +115,7 @@ fn verdicts_of(
     tallies: &[SignalTally],
 ) -> Result<Vec<RuleVerdict>, AllocError>
     requires { length tallies.now ≡ length rules.now }
-    ensures { (origins : Origins) → (history : List Viewed) → AreTallies rules.now origins history tallies.now
+    ensures { (origins : Origins) → (history : List Viewed) → AreTallies IsTally rules.now origins history tallies.now
         → IfOk result (λ verdicts. AreVerdicts rules.now origins history verdicts.items) }
 {
     let mut verdicts = Vec::with_capacity(alloc, rules.len())?;

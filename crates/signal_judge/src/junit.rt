@@ -4,8 +4,8 @@ use crate::first::first_of;
 use crate::passes::{plain_of, signal_of};
 use crate::rules::AllRules;
 use bench_judge::{
-    Lost, Named, Names, PassFault, RuleVerdict, put_case_head, put_failure, put_lost,
-    put_suite_head, tell_messages, tell_packets,
+    Lost, Named, Names, PassFault, RuleVerdict, Ruled, Wanted, put_case_head, put_failure,
+    put_lost, put_suite_head, tell_first,
 };
 use bench_watch::Reopen;
 use ch11_reader::Skip;
@@ -83,18 +83,26 @@ fn told_of<S: Reopen>(
     if verdict.missed == 0 {
         return Ok(told);
     }
+    let origins = judged.origins;
+    if let Some(rule) = plain_of(judged.rules, verdict.line) {
+        let ruled = Ruled {
+            rule,
+            origins,
+            skips: judged.skips,
+        };
+        let wanted = Wanted {
+            alloc,
+            ruled,
+            most: TOLD,
+        };
+        return tell_first(recording, wanted);
+    }
     let input = match recording.reopen() {
         Ok(input) => input,
         Err(error) => return Err(PassFault::Opening(error)),
     };
-    let origins = judged.origins;
-    if let Some(rule) = plain_of(judged.rules, verdict.line) {
-        if matches!(rule.check, Check::Whole) {
-            return Ok(tell_packets(alloc, input, rule, TOLD, judged.skips)?);
-        }
-        return Ok(tell_messages(alloc, input, rule, origins, TOLD)?);
-    }
     if let Some(rule) = signal_of(judged.rules, verdict.line) {
+        // What is told of them is in the text; which they are is not wanted.
         let _found = first_of(alloc, input, rule, origins, TOLD, &mut told)?;
     }
     Ok(told)

@@ -13,6 +13,7 @@ mod junit;
 mod passes;
 mod reading;
 mod rules;
+mod tallied;
 mod tallies;
 mod told;
 

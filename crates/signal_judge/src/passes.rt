@@ -1,25 +1,20 @@
 //! Verdicts on all rules as plain lines.
 ghost use Rattle.bench_judge.specs.Streaming.{WritesLinesOf, passed_of};
 ghost use Rattle.bench_judge.specs.Verdicts as others;
-ghost use Rattle.bench_select.specs.Viewed.{Viewed, viewed_behind};
-ghost use Rattle.ch11_layout.specs.Stamps.{kind_of};
-ghost use Rattle.signal_judge.specs.Tallies.{IsWriting, miss_lines};
+ghost use Rattle.signal_judge.specs.Tallies.{miss_lines};
 ghost use Rattle.signal_judge.specs.Verdicts.{AreVerdicts};
-ghost use Rattle.std.specs.Prelude.{◌≡◌, ◌+◌, ◌<◌, ◌^◌, ◌∷◌, ℕ, List, Option, Some, length, IfOk, OnOk};
+ghost use Rattle.std.specs.Prelude.{◌≡◌, ℕ, List, Some, IfOk};
 
 use crate::judging::{Verdicts, judge_all};
 use crate::rules::{AllRules, SignalRule};
-use crate::tallies::SignalTally;
 use bench_judge::{
-    PassFault, PrintFault, RuleVerdict, write_count, write_last, write_miss, write_misses,
-    write_numbers, write_packets,
+    PassFault, RuleVerdict, Ruled, write_count, write_each_miss, write_last, write_missed_of,
+    write_numbers,
 };
 use bench_watch::Reopen;
-use ch11_f1::Messages;
-use ch11_layout::{StampKind, View};
-use ch11_reader::{Packet, Skip};
-use ch11_stream::{Advance, Packets, StreamFault};
-use judge_rules::{Check, Rule};
+use ch11_reader::Skip;
+use ch11_stream::Advance;
+use judge_rules::Rule;
 use std::alloc::Global;
 use std::io::Write;
 
@@ -89,7 +84,14 @@ fn write_verdict<S: Reopen, W: Write>(
             Err(error) => return Err(PassFault::Opening(error)),
         };
         match plain_of(rules, verdict.line) {
-            Some(rule) => write_plain(alloc, input, rule, origins, skips, out)?,
+            Some(rule) => {
+                let ruled = Ruled {
+                    rule,
+                    origins,
+                    skips,
+                };
+                write_missed_of(alloc, input, ruled, out)?
+            }
             None => {
                 let rule = signal_of(rules, verdict.line);
                 write_missed(alloc, input, rule, origins, out)?
@@ -98,21 +100,6 @@ fn write_verdict<S: Reopen, W: Write>(
     }
     write_numbers(out, verdict)?;
     Ok(())
-}
-
-/// Writes the messages that miss a rule about messages, or the packets that miss one about these.
-fn write_plain<R: Advance + Drop, W: Write>(
-    alloc: Global,
-    input: R,
-    rule: &Rule,
-    origins: &[Option<u64>],
-    skips: &[Skip],
-    out: &mut W,
-) -> Result<(), PassFault> {
-    if matches!(rule.check, Check::Whole) {
-        return write_packets(alloc, input, rule, origins, skips, out);
-    }
-    write_misses(alloc, input, rule, origins, out)
 }
 
 /// Writes the messages that miss a rule about a signal, if there is one.
@@ -142,66 +129,5 @@ fn write_missed_signals<R: Advance + Drop, W: Write>(
         → WritesLinesOf (λ p. miss_lines rule.now p.origins p.messages) origins.now result file
         (W.contents out.old) (W.contents out.new) }
 {
-    let mut packets = Packets::over(alloc, input)?;
-    let mut tally = SignalTally::new(alloc);
-    'packets: for _made in 0..u64::MAX {
-        match packets.next() {
-            Ok(Some(packet)) => {
-                let messages = packets.messages();
-                write_messages(&mut tally, rule, origins, &packet, messages, out)?;
-            }
-            Ok(None) => return Ok(()),
-            Err(fault) => return Err(PassFault::Recording(fault)),
-        }
-    }
-    Err(PassFault::Recording(StreamFault::Device))
-}
-
-/// Writes one more message of a channel if it misses the rule.
-fn write_message<W: Write>(
-    tally: &mut SignalTally,
-    rule: &SignalRule<'_>,
-    origins: &[Option<u64>],
-    number: u64,
-    channel: u16,
-    view: &View<'_>,
-    out: &mut W,
-) -> Result<(), PrintFault>
-    ensures { (history : List Viewed) → (got : Option (List ℕ))
-        → IsWriting rule.now origins.now got history (W.contents out.old) tally.old → number ≡ length history + 1
-        → OnOk result (IsWriting rule.now origins.now got ((channel, view.now) ∷ history)
-        (W.contents out.new) tally.new) }
-{
-    if let Some(miss) = tally.note_miss(rule, origins, number, channel, view)? {
-        write_miss(out, rule.rule.line, &miss)?;
-    }
-    Ok(())
-}
-
-/// Writes those messages of a packet that miss the rule.
-fn write_messages<W: Write>(
-    tally: &mut SignalTally,
-    rule: &SignalRule<'_>,
-    origins: &[Option<u64>],
-    packet: &Packet,
-    messages: Messages<'_>,
-    out: &mut W,
-) -> Result<(), PrintFault>
-    requires { packet.now.before + length messages < 2 ^ 64 }
-    ensures { (history : List Viewed) → (got : Option (List ℕ))
-        → IsWriting rule.now origins.now got history (W.contents out.old) tally.old → packet.now.before ≡ length history
-        → OnOk result (IsWriting rule.now origins.now got
-        (viewed_behind (kind_of packet.now.header) packet.now.header.channel messages.entry history)
-        (W.contents out.new) tally.new) }
-{
-    let channel = packet.header.channel;
-    let kind = StampKind::of(&packet.header);
-    let mut number = packet.before;
-    let mut rest = messages;
-    'messages: while let Some(seen) = rest.next() {
-        number += 1;
-        let view = View::of(kind, &seen);
-        write_message(tally, rule, origins, number, channel, &view, out)?;
-    }
-    Ok(())
+    write_each_miss(alloc, input, rule, origins, out)
 }

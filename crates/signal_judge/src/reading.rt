@@ -82,6 +82,7 @@ fn pass(words: &mut Words<'_>, keyword: &[u8])
     if !words.takes(keyword) {
         return;
     }
+    // Where the line ends here, whoever reads the word says so.
     let _value = words.next();
 }
 
@@ -213,6 +214,7 @@ fn read_signal_line<'d>(
     ensures line { IfOk result (λ rule. rule.rule.line ≡ line) }
 {
     let mut words = Words::of(text);
+    // (both words are there, since the line is one about a signal)
     let _expect = words.takes(b"expect");
     let place = read_place(&mut words);
     let _signal = words.takes(b"signal");

@@ -1,20 +1,19 @@
 //! The verdict of a rule about a signal while the recording is passed.
 ghost use Rattle.bench_judge.specs.Clean.{IsKnown};
 ghost use Rattle.bench_judge.specs.Selection.{Origins};
-ghost use Rattle.bench_judge.specs.Tallies.{IsMissIf, miss_at};
 ghost use Rattle.bench_judge.specs.Verdicts.{IsVerdictWith};
 ghost use Rattle.bench_select.specs.Signals as signals;
 ghost use Rattle.bench_select.specs.Viewed.{Viewed};
-ghost use Rattle.signal_judge.specs.Tallies.{IsTally, misses_next};
+ghost use Rattle.signal_judge.specs.Tallies.{IsTally};
 ghost use Rattle.signal_judge.specs.Verdicts as spec;
 ghost use Rattle.signal_values.specs.Amounts.{number_of};
 ghost use Rattle.signal_values.specs.Readings.{value_of};
 ghost use Rattle.std.specs.HashMap.{get};
 ghost use Rattle.std.specs.Prelude.{◌≡◌, ◌&&◌, ◌+◌, ◌<◌, ◌^◌, ◌∷◌, ◌==◌, [], ℕ, nat_eq, not, true};
-ghost use Rattle.std.specs.Prelude.{if◌then◌else◌, option_map, List, Some, length, OnOk, IfOk};
+ghost use Rattle.std.specs.Prelude.{if◌then◌else◌, option_map, List, None, Some, length, OnOk, IfOk};
 
 use crate::rules::{Asked, SignalRule};
-use bench_judge::{Miss, RuleVerdict, Tally, verdict_of};
+use bench_judge::{RuleVerdict, Tally, verdict_of};
 use bench_select::{is_in_span, is_of, is_on, value_in};
 use ch11_layout::View;
 use judge_rules::Rule;
@@ -26,7 +25,7 @@ use std::collections::HashMap;
 /// How many messages a rule selects so far and how many of them miss it, the newest number of each channel, and room
 /// for a text.
 #[derive(Drop)]
-pub(crate) struct SignalTally {
+pub struct SignalTally {
     /// What the check of the rule comes to, or how many messages were selected and missed.
     plain: Tally,
     latest: HashMap<u16, Amount>,
@@ -77,6 +76,24 @@ fn is_here(rule: &Rule, origins: &[Option<u64>], channel: u16, view: &View<'_>) 
     is_of(rule.channel, channel)
         && is_on(rule.bus, view)
         && is_in_span(rule.span, origins, channel, view)
+}
+
+/// The value of the signal in a message of a channel, if the rule selects the message.
+pub(crate) fn value_selected(
+    rule: &SignalRule<'_>,
+    origins: &[Option<u64>],
+    channel: u16,
+    view: &View<'_>,
+) -> Option<Reading>
+    ensures { option_map value_of result ≡ (if spec.is_here rule.now.rule origins.now channel view.now
+        then signals.value_in rule.now.signal.now channel view.now else None) }
+{
+    let here = is_here(&rule.rule, origins, channel, view);
+    if here {
+        value_in(rule.signal, channel, view)
+    } else {
+        None
+    }
 }
 
 impl SignalTally {
@@ -149,7 +166,7 @@ impl SignalTally {
     }
 
     /// One more message that the rule selects, with the value of the signal in it; answers whether it misses the rule.
-    fn note_value(
+    pub(crate) fn note_value(
         &mut self,
         rule: &SignalRule<'_>,
         origins: &[Option<u64>],
@@ -180,82 +197,6 @@ impl SignalTally {
                 Ok(self.count(step))
             }
         }
-    }
-
-    /// One more message of a channel; answers whether it misses the rule.
-    pub(crate) fn note(
-        &mut self,
-        rule: &SignalRule<'_>,
-        origins: &[Option<u64>],
-        channel: u16,
-        view: &View<'_>,
-        known: &mut Option<bool>,
-    ) -> Result<bool, AllocError>
-        requires { IsKnown known.old view.now }
-        ensures known { IsKnown known.new view.now }
-        ensures told { (history : List Viewed) → IsTally rule.now origins.now history self.old
-            → IfOk result (λ told. told ≡ misses_next rule.now origins.now history (channel, view.now)) }
-        ensures noted { (history : List Viewed) → IsTally rule.now origins.now history self.old
-            → length history + 1 < 2 ^ 64
-            → OnOk result (IsTally rule.now origins.now ((channel, view.now) ∷ history) self.new) }
-    {
-        let here = is_here(&rule.rule, origins, channel, view);
-        if here {
-            self.note_here(rule, origins, channel, view, known)
-        } else {
-            Ok(false)
-        }
-    }
-
-    /// One more message of the channel, the line and the times of the rule; answers whether it misses the rule.
-    fn note_here(
-        &mut self,
-        rule: &SignalRule<'_>,
-        origins: &[Option<u64>],
-        channel: u16,
-        view: &View<'_>,
-        known: &mut Option<bool>,
-    ) -> Result<bool, AllocError>
-        requires known { IsKnown known.old view.now }
-        requires here { spec.is_here rule.now.rule origins.now channel view.now ≡ true }
-        ensures known { IsKnown known.new view.now }
-        ensures told { (history : List Viewed) → IsTally rule.now origins.now history self.old
-            → IfOk result (λ told. told ≡ misses_next rule.now origins.now history (channel, view.now)) }
-        ensures noted { (history : List Viewed) → IsTally rule.now origins.now history self.old
-            → length history + 1 < 2 ^ 64
-            → OnOk result (IsTally rule.now origins.now ((channel, view.now) ∷ history) self.new) }
-    {
-        match value_in(rule.signal, channel, view) {
-            Some(value) => self.note_value(rule, origins, channel, value, view, known),
-            None => Ok(false),
-        }
-    }
-
-    /// The same; answers the message, of this number in the file, if it misses the rule.
-    pub(crate) fn note_miss(
-        &mut self,
-        rule: &SignalRule<'_>,
-        origins: &[Option<u64>],
-        number: u64,
-        channel: u16,
-        view: &View<'_>,
-    ) -> Result<Option<Miss>, AllocError>
-        ensures told { (history : List Viewed) → IsTally rule.now origins.now history self.old
-            → IfOk result (IsMissIf (misses_next rule.now origins.now history (channel, view.now))
-            (miss_at number (channel, view.now))) }
-        ensures noted { (history : List Viewed) → IsTally rule.now origins.now history self.old
-            → length history + 1 < 2 ^ 64
-            → OnOk result (IsTally rule.now origins.now ((channel, view.now) ∷ history) self.new) }
-    {
-        let mut known = None;
-        if !self.note(rule, origins, channel, view, &mut known)? {
-            return Ok(None);
-        }
-        Ok(Some(Miss {
-            number,
-            channel,
-            stamp: view.time(),
-        }))
     }
 
     /// The verdict on the rule.

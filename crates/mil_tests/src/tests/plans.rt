@@ -157,6 +157,37 @@ fn are_answered(rt: &impl Abort, plan: &mut Plan) {
     }
 }
 
+/// Faults of messages whose numbers rise and fall: the number, and by how many ticks the first reply is late.
+const UP_AND_DOWN: &[(u32, u32)] = &[
+    (5, 121),
+    (3, 122),
+    (5, 123),
+    (7, 124),
+    (5, 125),
+    (3, 126),
+    (5, 127),
+];
+
+/// The faults of each of those messages, in the order in which they were added.
+fn are_in_order(rt: &impl Abort, plan: &Plan) {
+    let of_three = [fault_of(Late(122)), fault_of(Late(126))];
+    let of_five = [
+        fault_of(Late(121)),
+        fault_of(Late(123)),
+        fault_of(Late(125)),
+        fault_of(Late(127)),
+    ];
+    are_in(rt, "of 3", plan.faults(3).as_slice(), &of_three);
+    are_in(rt, "of 5", plan.faults(5).as_slice(), &of_five);
+    are_in(
+        rt,
+        "of 7",
+        plan.faults(7).as_slice(),
+        &[fault_of(Late(124))],
+    );
+    same_in(rt, "of 4", &plan.faults(4).len(), &0);
+}
+
 /// The four faults, the last message's one, and none of message 2.
 fn has_five(rt: &impl Abort, plan: &Plan) {
     are_in(rt, "of 1", plan.faults(1).as_slice(), &four_faults());
@@ -172,6 +203,19 @@ fn four_faults_of_a_message_and_none_out_of_range(rt: HostRuntime) {
     are_answered(&rt, &mut plan);
     has_five(&rt, &plan);
     has_five(&rt, &copied(&rt, &plan));
+}
+
+#[test]
+fn faults_of_a_message_in_the_order_in_which_they_were_added(rt: HostRuntime) {
+    let mut plan = Plan::make(rt.alloc());
+    for (number, ticks) in UP_AND_DOWN {
+        let late = fault_of(Late(*ticks));
+        answers(&rt, "up and down", &mut plan, *number, late, Ok(()));
+    }
+    let (late, refused) = (fault_of(Late(128)), Err(LineError::TooMany));
+    answers(&rt, "a fifth", &mut plan, 5, late, refused);
+    are_in_order(&rt, &plan);
+    are_in_order(&rt, &copied(&rt, &plan));
 }
 
 /// A copy of a plan.

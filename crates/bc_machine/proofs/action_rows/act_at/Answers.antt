@@ -8,4 +8,4 @@ pub returns-clause-bus : goal.returns-clause-bus
 unfolding ready
 returns-clause-bus c =
     let none = drop_all c.loop-row.row-index c.args.rows.now c.loop-row-test.false in
-    sym (ap (λ v. all_acted c.loop-row.bus (placed_at c.args.number (all_placed c.args.beside.now v))) none) ∙ c.loop-row.invariant.left
+    sym (ap (λ v. all_acted c.loop-row.bus (placed_at c.args.number (all_placed c.args.beside.now.lists v))) none) ∙ c.loop-row.invariant.left

@@ -5,12 +5,12 @@ use Rattle.bc_machine.proofs.asking.insert_among.Goals.{then-row-number, then-pl
 
 pub returns-in-Some-clause-there : goal.returns-in-Some-clause-there
 returns-in-Some-clause-there c =
-    among_is c.args.beside.now c.args.rows.now c.args.number c.loop-row.row-index c.args.passed c.loop-row.place c.row-item.result c.in-Some.insertion.now c.loop-row-test.true c.row-item.is
+    among_is c.args.beside.now.lists c.args.rows.now c.args.number c.loop-row.row-index c.args.passed c.loop-row.place c.row-item.result c.in-Some.insertion c.loop-row-test.true c.row-item.is
     c.if-row-number.true (sym c.in-Some.ensures) c.if-place-passed.true c.loop-row.invariant.place c.loop-row.invariant.none
 
 pub loop-row-preserved : goal.loop-row-preserved
 loop-row-preserved c =
-    let beside = c.args.beside.now in
+    let beside = c.args.beside.now.lists in
     let rows = c.args.rows.now in
     let n = c.args.number in
     let i = c.loop-row.row-index in

@@ -8,6 +8,6 @@ use Rattle.bc_machine.proofs.asking.insert_among.Given as goal
 abbrev pub invariant-loop-row : goal.invariant-loop-row
 invariant-loop-row l = record {
   few : l.place ≤ l.row-index;
-  place : l.place ≡ length (placed_at l.number (all_placed l.beside (take l.row-index l.rows)));
-  none : inserts_among (drop l.passed (placed_at l.number (all_placed l.beside (take l.row-index l.rows)))) ≡ [];
+  place : l.place ≡ length (placed_at l.number (all_placed l.beside.lists (take l.row-index l.rows)));
+  none : inserts_among (drop l.passed (placed_at l.number (all_placed l.beside.lists (take l.row-index l.rows)))) ≡ [];
 }

@@ -10,7 +10,7 @@ loop-row-init c = record { few = omega arith; count = sym (ap (λ ps. length (in
 
 pub loop-row-preserved : goal.loop-row-preserved
 loop-row-preserved c =
-    let beside = c.args.beside.now in
+    let beside = c.args.beside.now.lists in
     let rows = c.args.rows.now in
     let n = c.args.number in
     let i = c.loop-row.row-index in

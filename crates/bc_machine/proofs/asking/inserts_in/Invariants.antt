@@ -7,5 +7,5 @@ use Rattle.bc_machine.proofs.asking.inserts_in.Given as goal
 abbrev pub invariant-loop-row : goal.invariant-loop-row
 invariant-loop-row l = record {
   few : l.count ≤ l.row-index;
-  count : l.count ≡ length (inserts_among (all_placed l.beside (take l.row-index l.rows)));
+  count : l.count ≡ length (inserts_among (all_placed l.beside.lists (take l.row-index l.rows)));
 }

@@ -12,8 +12,8 @@ use Rattle.bc_machine.proofs.asking.set_at.Given as goal
 abbrev pub invariant-loop-row : goal.invariant-loop-row
 invariant-loop-row l = record {
   ready : l.sources.ready ≡ l.initial.sources.ready;
-  room : HaveRoom l.sources.ready (placed_at l.number (all_placed l.beside (drop l.row-index l.rows)));
+  room : HaveRoom l.sources.ready (placed_at l.number (all_placed l.beside.lists (drop l.row-index l.rows)));
   left : (d : Destination) (place : ℕ) → IsPlace d place
-      → with_controls (controls_at l.number (all_placed l.beside (drop l.row-index l.rows))) (source_in l.sources.rows d place) d place
-      ≡ with_controls (controls_at l.number (all_placed l.beside l.rows)) (source_in l.initial.sources.rows d place) d place;
+      → with_controls (controls_at l.number (all_placed l.beside.lists (drop l.row-index l.rows))) (source_in l.sources.rows d place) d place
+      ≡ with_controls (controls_at l.number (all_placed l.beside.lists l.rows)) (source_in l.initial.sources.rows d place) d place;
 }

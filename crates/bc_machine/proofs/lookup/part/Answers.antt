@@ -18,10 +18,10 @@ returns-clause-same c =
     around (λ (r : Row). r.number) xs c.args.number f c.begin_of-to.result before.below behind.others
 
 pub returns-clause-rows : goal.returns-clause-rows
-returns-clause-rows c = λ n all.
+returns-clause-rows c = λ beside all.
     let xs = c.args.rows.now in
     let f = c.begin_of-from.result in
-    All-take (IsRow n) c.begin_of-to.result (take (length xs - f) (drop f xs)) (All-take (IsRow n) (length xs - f) (drop f xs) (All-drop (IsRow n) f xs all))
+    All-take (IsRow beside) c.begin_of-to.result (take (length xs - f) (drop f xs)) (All-take (IsRow beside) (length xs - f) (drop f xs) (All-drop (IsRow beside) f xs all))
 
 pub returns-clause-alone : goal.returns-clause-alone
 returns-clause-alone c =

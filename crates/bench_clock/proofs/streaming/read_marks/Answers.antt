@@ -1,7 +1,8 @@
-use Rattle.std.proofs.Common.{sym, ap, ◌∙◌}
+use Rattle.std.proofs.Common.{Option, ap, ◌∙◌}
 use Rattle.ch11_stream.proofs.Folding.{not_found}
 use Rattle.ch11_stream.proofs.Readings.{amid_on, amid_start}
 use Rattle.bench_clock.specs.Clock.{told_in}
+use Rattle.bench_clock.specs.declared.told.PacketTime.{PacketTime}
 use Rattle.bench_clock.proofs.Streamed.{all_seen, all_told, nothing_seen, nothing_told, one_seen, one_told, told_same, up_to_next, up_to_none, up_to_rises}
 use Rattle.bench_clock.proofs.Rises.{told_in_within}
 use Rattle.bench_clock.proofs.streaming.read_marks.Goals as goal
@@ -21,28 +22,29 @@ packets-preserved g c =
     let now = c.next.new.self in
     let p = c.in-Ok-Some.packet in
     let counter = p.header.counter in
+    let told : Option PacketTime = told_in c.args.named p.header c.bytes.result.now in
     record {
       rises = rw (c.in_ok-last-in-Ok-Some.ensures.marks, c.in_ok-last-in-Ok-Some.ensures.last)
-          (up_to_next c.packets.marks.items c.packets.last counter c.told_in-told.result (λ t is. told_in_within c.args.named p.header _ t (sym c.told_in-told.ensures ∙ is)) c.packets.invariant.rises);
+          (up_to_next c.packets.found.marks.items c.packets.last counter told (λ t is. told_in_within c.args.named p.header _ t is) c.packets.invariant.rises);
       known = λ file is. amid_on file before now p s (c.packets.invariant.known file is);
-      seen = rw c.or_time-any.ensures (one_seen c.args.named c.packets.any before now p s c.packets.invariant.seen);
+      seen = rw c.in_ok-last-in-Ok-Some.ensures.any (one_seen c.args.named c.packets.found.any before now p s c.packets.invariant.seen);
       told = λ file is.
-          let same = c.told_in-told.ensures ∙ ap (told_in c.args.named p.header) c.bytes.ensures ∙ told_same c.args.named file before now p s (c.packets.invariant.known file is) in
-          rw (c.in_ok-last-in-Ok-Some.ensures.marks, c.in_ok-last-in-Ok-Some.ensures.last) (one_told c.args.named file c.packets.marks.items c.packets.last c.told_in-told.result before now p s same (c.packets.invariant.told file is));
+          let same = ap (told_in c.args.named p.header) c.bytes.ensures ∙ told_same c.args.named file before now p s (c.packets.invariant.known file is) in
+          rw (c.in_ok-last-in-Ok-Some.ensures.marks, c.in_ok-last-in-Ok-Some.ensures.last) (one_told c.args.named file c.packets.found.marks.items c.packets.last told before now p s same (c.packets.invariant.told file is));
     }
 
 pub returns-in-Ok-None-clause-rising : goal.returns-in-Ok-None-clause-rising
-returns-in-Ok-None-clause-rising g c = up_to_rises c.packets.marks.items c.packets.last c.packets.invariant.rises
+returns-in-Ok-None-clause-rising g c = up_to_rises c.packets.found.marks.items c.packets.last c.packets.invariant.rises
 
 pub returns-in-Ok-None-clause-found : goal.returns-in-Ok-None-clause-found
 returns-in-Ok-None-clause-found g c file is =
     let e = rw c.in-Ok-None.field-0-is at c.in-Ok-None.ensures in
-    all_told c.args.named file c.packets.marks.items c.packets.last c.packets.packets c.next.new.self e (c.packets.invariant.known file is) (c.packets.invariant.told file is)
+    all_told c.args.named file c.packets.found.marks.items c.packets.last c.packets.packets c.next.new.self e (c.packets.invariant.known file is) (c.packets.invariant.told file is)
 
 pub returns-in-Ok-None-clause-any : goal.returns-in-Ok-None-clause-any
 returns-in-Ok-None-clause-any g c file is =
     let e = rw c.in-Ok-None.field-0-is at c.in-Ok-None.ensures in
-    all_seen c.args.named file c.packets.any c.packets.packets c.next.new.self e (c.packets.invariant.known file is) c.packets.invariant.seen
+    all_seen c.args.named file c.packets.found.any c.packets.packets c.next.new.self e (c.packets.invariant.known file is) c.packets.invariant.seen
 
 pub returns-in-Err-clause-any : goal.returns-in-Err-clause-any
 returns-in-Err-clause-any g c file is = not_found file c.packets.packets c.next.new.self c.in-Err.fault c.in-Err.ensures (c.packets.invariant.known file is)

@@ -6,8 +6,8 @@ use Rattle.bench_clock.proofs.streaming.read_marks.Given as goal
 -- the packets so far are those of the file, and the marks theirs
 abbrev pub invariant-packets : goal.invariant-packets
 invariant-packets g l = record {
-  rises : IsUpTo l.marks.items l.last;
+  rises : IsUpTo l.found.marks.items l.last;
   known : (file : List ℕ) → g.R.Read.remaining l.fn.input ≡ Some file → IsAmid file l.packets;
-  seen : IsSeen l.named l.any l.packets.earlier;
-  told : (file : List ℕ) → g.R.Read.remaining l.fn.input ≡ Some file → IsTold l.named file l.marks.items l.last l.packets.earlier;
+  seen : IsSeen l.named l.found.any l.packets.earlier;
+  told : (file : List ℕ) → g.R.Read.remaining l.fn.input ≡ Some file → IsTold l.named file l.found.marks.items l.last l.packets.earlier;
 }

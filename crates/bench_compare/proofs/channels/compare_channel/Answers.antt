@@ -15,8 +15,8 @@ packets-init g c = record {
   same = omega arith;
   going = λ file other ps qs one two read both.
       let asked = c.args.asked.now in
-      starts asked.within asked.first.selection.now asked.second.selection.now asked.first.channel asked.second.channel file other ps qs c.in_ok-packets.packets (record { same = 0; origins = None }) c.in_ok-lane.lane
-      (c.in_ok-packets.ensures ∙ ap (λ (o : Option (List ℕ)). at_start o) one) refl (c.in_ok-lane.ensures ∙ ap (λ (o : Option (List ℕ)). record { reading = at_start o; kept = [] }) two);
+      starts asked.within asked.first.selection.now asked.second.selection.now asked.first.channel asked.second.channel file other ps qs c.in_ok-packets.packets (record { same = 0; origins = None }) c.in_ok-pass.pass
+      (c.in_ok-packets.ensures ∙ ap (λ (o : Option (List ℕ)). at_start o) one) refl (c.in_ok-pass.ensures ∙ ap (λ (o : Option (List ℕ)). record { reading = at_start o; kept = [] }) two);
 }
 
 pub returns-in_err-found-in-Ok-Some : goal.returns-in_err-found-in-Ok-Some
@@ -32,14 +32,14 @@ returns-in-Some g c = λ file other ps qs one two read both.
     let chosen : List Message → List Recorded = λ ms. chosen_if asked.first.selection.now (eqb p.header.channel asked.first.channel) (kind_of p.header) p.before asked.first.channel ms in
     let so_far = c.packets.invariant.going file other ps qs one two read both in
     let all = rw c.in-Some.is at (c.in_ok-found-in-Ok-Some.ensures.compared file other qs so_far.way both) in
-    differs_in asked.within asked.first.selection.now asked.second.selection.now asked.first.channel asked.second.channel file other ps qs c.packets.packets c.next.new.self p (chosen c.messages-messages.result) c.packets.standing c.compare_packet.new.standing c.packets.lane c.compare_packet.new.lane c.in-Some.difference
+    differs_in asked.within asked.first.selection.now asked.second.selection.now asked.first.channel asked.second.channel file other ps qs c.packets.packets c.next.new.self p (chosen c.messages-messages.result) c.packets.standing c.compare_packet.new.standing c.packets.pass c.compare_packet.new.pass c.in-Some.difference
     step read (ap chosen c.messages-messages.ensures) so_far all
 
 pub returns-in-Ok-None : goal.returns-in-Ok-None
 returns-in-Ok-None g c = λ file other ps qs one two read both.
     let so_far = c.packets.invariant.going file other ps qs one two read both in
     let e = rw c.in-Ok-None.field-0-is at c.in-Ok-None.ensures in
-    ends_by c.args.asked.now file other ps qs c.packets.packets c.next.new.self c.packets.standing c.packets.lane c.compare_end.result e read so_far (c.compare_end.ensures file other qs so_far.way both)
+    ends_by c.args.asked.now file other ps qs c.packets.packets c.next.new.self c.packets.standing c.packets.pass c.compare_end.result e read so_far (c.compare_end.ensures file other qs so_far.way both)
 
 pub returns-in-Err : goal.returns-in-Err
 returns-in-Err g c = λ file other ps qs one two read both.
@@ -56,6 +56,6 @@ packets-preserved g c =
       going = λ file other ps qs one two read both.
           let so_far = c.packets.invariant.going file other ps qs one two read both in
           let all = rw c.in_default.is at (c.in_ok-found-in-Ok-Some.ensures.compared file other qs so_far.way both) in
-          compares_on asked.within asked.first.selection.now asked.second.selection.now asked.first.channel asked.second.channel file other ps qs c.packets.packets c.next.new.self p (chosen c.messages-messages.result) c.packets.standing c.compare_packet.new.standing c.packets.lane c.compare_packet.new.lane
+          compares_on asked.within asked.first.selection.now asked.second.selection.now asked.first.channel asked.second.channel file other ps qs c.packets.packets c.next.new.self p (chosen c.messages-messages.result) c.packets.standing c.compare_packet.new.standing c.packets.pass c.compare_packet.new.pass
           step read (ap chosen c.messages-messages.ensures) so_far all;
     }

@@ -8,5 +8,5 @@ abbrev pub invariant-packets : goal.invariant-packets
 invariant-packets g l = record {
   same : l.standing.same ≤ total_in l.packets.earlier;
   going : (file other : List ℕ) (ps qs : List Found) → g.R.Read.remaining l.fn.first ≡ Some file → g.S.Read.remaining l.fn.second ≡ Some other → packets_in file ≡ Ok ps → packets_in other ≡ Ok qs
-      → IsComparing l.asked.within l.asked.first.selection.now l.asked.second.selection.now l.asked.first.channel l.asked.second.channel file other ps qs l.packets l.standing l.lane;
+      → IsComparing l.asked.within l.asked.first.selection.now l.asked.second.selection.now l.asked.first.channel l.asked.second.channel file other ps qs l.packets l.standing l.pass;
 }

@@ -14,7 +14,7 @@ returns-in-Some-2-clause-compared g c = λ file other qs way read.
     let asked = c.args.asked.now in
     let f = c.messages.invariant.following other qs way read in
     rw (← c.of-kind.ensures)
-    (found_in_it asked.within asked.first.selection.now asked.second.selection.now asked.first.channel asked.second.channel c.of-kind.result other qs c.args.standing.now c.args.lane.now c.args.packet.now.before c.messages.number c.args.messages c.messages.rest c.next.new.self (message_of c.in-Some.seen) c.selects-chosen.result c.messages.standing c.messages.lane c.in-Some-2.difference
+    (found_in_it asked.within asked.first.selection.now asked.second.selection.now asked.first.channel asked.second.channel c.of-kind.result other qs c.args.standing.now c.args.pass.now c.args.packet.now.before c.messages.number c.args.messages c.messages.rest c.next.new.self (message_of c.in-Some.seen) c.selects-chosen.result c.messages.standing c.messages.pass c.in-Some-2.difference
     f c.in-Some.ensures.steps (rw c.view.ensures at c.selects-chosen.ensures) (rw c.in-Some-2.is at (c.in_ok-difference.ensures.compared file other qs f.way read)))
 
 pub messages-preserved : goal.messages-preserved
@@ -25,6 +25,6 @@ messages-preserved g c = record {
       let asked = c.args.asked.now in
       let f = c.messages.invariant.following other qs way read in
       let one = rw c.in_default-2.is at (c.in_ok-difference.ensures.compared other other qs f.way read) in
-      goes_on asked.within asked.first.selection.now asked.second.selection.now asked.first.channel asked.second.channel c.of-kind.result other qs c.args.standing.now c.args.lane.now c.args.packet.now.before c.messages.number c.args.messages c.messages.rest c.next.new.self (message_of c.in-Some.seen) c.selects-chosen.result c.messages.standing c.compare_if.new.standing c.messages.lane c.compare_if.new.lane
+      goes_on asked.within asked.first.selection.now asked.second.selection.now asked.first.channel asked.second.channel c.of-kind.result other qs c.args.standing.now c.args.pass.now c.args.packet.now.before c.messages.number c.args.messages c.messages.rest c.next.new.self (message_of c.in-Some.seen) c.selects-chosen.result c.messages.standing c.compare_if.new.standing c.messages.pass c.compare_if.new.pass
       f c.in-Some.ensures.steps (rw c.view.ensures at c.selects-chosen.ensures) one.0 one.1;
 }

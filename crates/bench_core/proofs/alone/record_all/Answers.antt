@@ -6,7 +6,7 @@ use Rattle.job_file.specs.Meaning.{records}
 use Rattle.ch11_builder.specs.Recorded.{IsRecorded}
 use Rattle.ch11_recording.specs.Items.{numbered, numbered_from, to_the_end}
 use Rattle.bench_core.specs.OneChannel.{format_of}
-use Rattle.bench_core.proofs.OneChannelStages.{Stage, next_stage, last_stage, lane_now, one_lane, is_next, holding, rises, read_again, took_all, took_part, rose_at_end}
+use Rattle.bench_core.proofs.OneChannelStages.{Stage, next_stage, last_stage, channel_now, one_channel, is_next, holding, rises, read_again, took_all, took_part, rose_at_end}
 use Rattle.bench_core.proofs.alone.record_all.Goals as goal
 
 pub loop-record-preserved : goal.loop-record-preserved
@@ -22,9 +22,9 @@ loop-record-preserved g c =
     let is : c.from.result ≡ n + 1 = number ∙ c.in-Some.ensures.number in
     let fits : IsRecorded (numbered c.from.result c.in-Some.record) = c.record_fits.ensures c.from.result in
     let low = is_next taken failures job placed c.args.version c.args.limit before n c.loop-record.recorder (holding taken failures job placed c.args.version c.args.limit before n) st
-    (lane_now taken failures job placed c.args.version c.args.limit before n c.loop-record.recorder st) in
+    (channel_now taken failures job placed c.args.version c.args.limit before n c.loop-record.recorder st) in
     let kept : c.keep.result ≡ true =
-    c.keep.ensures.when (holding taken failures job placed c.args.version c.args.limit before n) (lane_now taken failures job placed c.args.version c.args.limit before n c.loop-record.recorder st)
+    c.keep.ensures.when (holding taken failures job placed c.args.version c.args.limit before n) (channel_now taken failures job placed c.args.version c.args.limit before n c.loop-record.recorder st)
     (omega (arith, low, is)) c.in-Some.ensures.small in
     let goes = c.keep.ensures.goes_on kept in
     let next = next_stage taken failures job placed c.args.version c.args.limit before c.run_gives_the_packets.ensures.latest n c.from.result c.in-Some.record c.loop-record.recorder c.keep.new.self st
@@ -47,7 +47,7 @@ returns-in-Ok-clause-file g c =
     let n = c.loop-record.machine.point.number in
     let st = c.loop-record.invariant.stage in
     let whole : n ≡ length (records job placed) = c.in_default.ensures.all job placed c.program-sound.ensures.sound c.loop-record.invariant.of in
-    let goes = c.end.ensures.goes_on (c.end.ensures.when (one_lane taken failures job placed c.args.version c.args.limit before n c.loop-record.recorder st)) in
+    let goes = c.end.ensures.goes_on (c.end.ensures.when (one_channel taken failures job placed c.args.version c.args.limit before n c.loop-record.recorder st)) in
     let last = last_stage taken failures job placed c.args.version c.args.limit before n c.loop-record.recorder c.end.new.self st whole goes in
     let done = c.finish.ensures.same (format_of c.args.version c.args.limit) [] (taken before) (job.channel ∷ []) (to_the_end job.channel (numbered_from 1 (records job placed))) last in
     rw c.into_sink.ensures (took_all taken _ (taken before) c.finish.new.self.writing done.written (c.in-Ok.ensures.ok.0 refl))
@@ -71,7 +71,7 @@ returns-clause-refused g c =
     let n = c.loop-record.machine.point.number in
     let st = c.loop-record.invariant.stage in
     let whole : n ≡ length (records job placed) = c.in_default.ensures.all job placed c.program-sound.ensures.sound c.loop-record.invariant.of in
-    let goes = c.end.ensures.goes_on (c.end.ensures.when (one_lane taken failures job placed c.args.version c.args.limit before n c.loop-record.recorder st)) in
+    let goes = c.end.ensures.goes_on (c.end.ensures.when (one_channel taken failures job placed c.args.version c.args.limit before n c.loop-record.recorder st)) in
     let last = last_stage taken failures job placed c.args.version c.args.limit before n c.loop-record.recorder c.end.new.self st whole goes in
     let done = c.finish.ensures.same (format_of c.args.version c.args.limit) [] (taken before) (job.channel ∷ []) (to_the_end job.channel (numbered_from 1 (records job placed))) last in
     let up = rises taken failures job placed c.args.version c.args.limit before c.loop-record.recorder.writing.failed c.end.new.self.writing.failed _ _ c.end.ensures.failures st.rose st.kept in

@@ -4,6 +4,6 @@ use Rattle.bench_core.proofs.stepping.are_for_terminals.Given as goal
 
 abbrev pub invariant-loop-step : goal.invariant-loop-step
 invariant-loop-step l = record {
-  rest : AreForTerminals l.lanes l.steps → AreForTerminals l.lanes (drop l.step-index l.steps);
-  whole : AreForTerminals l.lanes (drop l.step-index l.steps) → AreForTerminals l.lanes l.steps;
+  rest : AreForTerminals l.channels l.steps → AreForTerminals l.channels (drop l.step-index l.steps);
+  whole : AreForTerminals l.channels (drop l.step-index l.steps) → AreForTerminals l.channels l.steps;
 }

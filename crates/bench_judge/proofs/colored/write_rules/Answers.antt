@@ -7,7 +7,7 @@ use Rattle.bench_judge.proofs.colored.write_rules.Goals as goal
 
 pub rules-preserved : goal.rules-preserved
 rules-preserved g c =
-    let text = c.args.judged.text.now in
+    let text = c.args.colored.now.judged.text.now in
     let v = c.in-Some.verdict.now in
     let rule = c.in-Some-split_first.rule.now in
     let mid = g.W.Write.contents c.rules.out in
@@ -18,11 +18,11 @@ rules-preserved g c =
       left = c.at-name.ensures.left;
       many = λ same. omega (arith, c.rules.invariant.many same, ap length c.in-Some.ensures.cases.0, ap length c.in-Some-split_first.ensures.cases.0);
       shown =
-          showing-more text c.args.judged.rules.now c.args.judged.verdicts.now c.rules.rules.now c.in-Some-split_first.more.now c.rules.verdicts.now c.in-Some.others.now rule v (g.W.Write.contents c.args.out.now) mid gets c.rules.invariant.shown
+          showing-more text c.args.colored.now.judged.rules.now c.args.colored.now.judged.verdicts.now c.rules.rules.now c.in-Some-split_first.more.now c.rules.verdicts.now c.in-Some.others.now rule v (g.W.Write.contents c.args.out.now) mid gets c.rules.invariant.shown
           c.in-Some-split_first.ensures.cases.0 c.in-Some.ensures.cases.0 (subst (λ (n : Text). AppendsSome (IsRuleShown n rule.check v) mid gets) named c.in_ok-write_rule.ensures);
     }
 
 pub returns : goal.returns
 returns g c = λ same.
-    showing-all c.args.judged.text.now c.args.judged.rules.now c.args.judged.verdicts.now c.rules.rules.now c.rules.verdicts.now (g.W.Write.contents c.args.out.now) (g.W.Write.contents c.rules.out) c.rules.invariant.shown (c.rules.invariant.many same)
+    showing-all c.args.colored.now.judged.text.now c.args.colored.now.judged.rules.now c.args.colored.now.judged.verdicts.now c.rules.rules.now c.rules.verdicts.now (g.W.Write.contents c.args.out.now) (g.W.Write.contents c.rules.out) c.rules.invariant.shown (c.rules.invariant.many same)
     c.in_default.ensures.cases

@@ -6,10 +6,10 @@ use Rattle.bench_judge.proofs.colored.write_rules.Given as goal
 -- the rules so far are shown
 abbrev pub invariant-rules : goal.invariant-rules
 invariant-rules g l = record {
-  text : l.names.text.now ≡ l.judged.text.now;
+  text : l.names.text.now ≡ l.colored.judged.text.now;
   left : AreLeft l.names;
-  many : length l.judged.rules.now ≡ length l.judged.verdicts.now → length l.rules ≡ length l.verdicts;
-  shown : IsShowing l.judged.text.now l.judged.rules.now l.judged.verdicts.now l.rules l.verdicts (g.W.Write.contents l.fn.out) (g.W.Write.contents l.out);
+  many : length l.colored.judged.rules.now ≡ length l.colored.judged.verdicts.now → length l.rules ≡ length l.verdicts;
+  shown : IsShowing l.colored.judged.text.now l.colored.judged.rules.now l.colored.judged.verdicts.now l.rules l.verdicts (g.W.Write.contents l.fn.out) (g.W.Write.contents l.out);
 }
 
 abbrev pub decreases-rules : goal.decreases-rules

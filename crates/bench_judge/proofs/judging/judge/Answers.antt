@@ -11,10 +11,10 @@ use Rattle.ch11_stream.proofs.Readings.{amid_on, amid_start}
 use Rattle.bench_judge.specs.declared.packets.PacketTally.{PacketTally}
 use Rattle.bench_judge.specs.declared.tallies.Tally.{Tally}
 use Rattle.bench_judge.specs.Packets.{ArePacketTallies}
-use Rattle.bench_judge.specs.Tallies.{AreTallies}
+use Rattle.bench_judge.specs.Tallies.{AreTallies, IsTally}
 use Rattle.bench_judge.specs.Verdicts.{AreVerdicts, passed_in}
 use Rattle.bench_judge.proofs.Losing.{few_listed, listed_next}
-use Rattle.bench_judge.proofs.Streamed.{heard_count, heard_more, heard_so_far}
+use Rattle.bench_select.proofs.Passed.{viewed_count, viewed_more, viewed_so_far}
 use Rattle.bench_judge.proofs.judging.judge.Goals as goal
 
 pub note_packet-requires : goal.note_packet-requires
@@ -41,14 +41,14 @@ packets-preserved g c =
     let whole = subst (λ (ts : List PacketTally). ArePacketTallies c.args.rules.now (listing (reverse earlier)) ts) (sym c.as_mut_slice.ensures.value) c.packets.invariant.wholes in
     let kept_whole : length c.note_packet.new.tallies ≡ c.packets.wholes.len = omega (arith, c.note_packet.auto.tallies, ap length c.as_mut_slice.ensures.value, c.as_mut_slice.ensures.len) in
     let more = subst (λ (ps : List Packet). ArePacketTallies c.args.rules.now ps c.note_packet.new.tallies) (sym (listed_next c.packets.packets now p s)) (c.note_packet.ensures (listing (reverse earlier)) (few_listed earlier few) whole) in
-    let start = subst (λ (ts : List Tally). AreTallies c.args.rules.now c.args.origins.now (heard_so_far earlier) ts) (sym c.as_mut_slice-in-Ok-Some.ensures.value) c.packets.invariant.counted in
-    let room : length (heard_so_far earlier) + length now.given < 2 ^ 64 = omega (arith, heard_count earlier, s.few, ap total_in s.entered) in
-    let noted = rw c.messages.ensures at c.in_ok-note_messages-in-Ok-Some.ensures (heard_so_far earlier) start room in
+    let start = subst (λ (ts : List Tally). AreTallies IsTally c.args.rules.now c.args.origins.now (viewed_so_far earlier) ts) (sym c.as_mut_slice-in-Ok-Some.ensures.value) c.packets.invariant.counted in
+    let room : length (viewed_so_far earlier) + length now.given < 2 ^ 64 = omega (arith, viewed_count earlier, s.few, ap total_in s.entered) in
+    let noted = rw c.messages.ensures at c.in_ok-note_messages-in-Ok-Some.ensures (viewed_so_far earlier) start room in
     let kept : length c.note_messages.new.tallies ≡ c.packets.tallies.len = omega (arith, c.note_messages.auto.tallies, ap length c.as_mut_slice-in-Ok-Some.ensures.value, c.as_mut_slice-in-Ok-Some.ensures.len) in
-    let on = subst (λ (hs : List Viewed). AreTallies c.args.rules.now c.args.origins.now hs c.note_messages.new.tallies) (heard_more (last_found now p) earlier ∙ ap heard_so_far (sym s.entered)) noted in
+    let on = subst (λ (hs : List Viewed). AreTallies IsTally c.args.rules.now c.args.origins.now hs c.note_messages.new.tallies) (viewed_more (last_found now p) earlier ∙ ap viewed_so_far (sym s.entered)) noted in
     record {
       known = λ file is. amid_on file c.packets.packets now p s (c.packets.invariant.known file is);
-      counted = subst (λ (ts : List Tally). AreTallies c.args.rules.now c.args.origins.now (heard_so_far now.earlier) ts) (sym (with_items_is c.packets.tallies c.note_messages.new.tallies kept)) on;
+      counted = subst (λ (ts : List Tally). AreTallies IsTally c.args.rules.now c.args.origins.now (viewed_so_far now.earlier) ts) (sym (with_items_is c.packets.tallies c.note_messages.new.tallies kept)) on;
       wholes = subst (λ (ts : List PacketTally). ArePacketTallies c.args.rules.now (listing (reverse now.earlier)) ts) (sym (with_items_is c.packets.wholes c.note_packet.new.tallies kept_whole)) more;
       many = omega (arith, ap (λ (ps : List Found). length ps) s.entered, c.packets.invariant.many);
     }

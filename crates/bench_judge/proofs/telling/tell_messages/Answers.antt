@@ -10,7 +10,7 @@ use Rattle.ch11_stream.proofs.Readings.{amid_on, amid_start}
 use Rattle.bench_judge.specs.Tallies.{IsTelling}
 use Rattle.bench_judge.specs.Told.{told_moment}
 use Rattle.bench_judge.specs.Verdicts.{missed}
-use Rattle.bench_judge.proofs.Streamed.{heard_count, heard_more, heard_so_far}
+use Rattle.bench_select.proofs.Passed.{viewed_count, viewed_more, viewed_so_far}
 use Rattle.bench_judge.proofs.telling.tell_messages.Goals as goal
 
 pub packets-init : goal.packets-init
@@ -26,11 +26,11 @@ packets-preserved g c =
     let earlier = c.packets.packets.earlier in
     let p = c.in-Ok-Some.packet in
     let front : p.before ≡ total_in earlier = ap (λ (x : Packet). x.before) s.listed in
-    let behind : p.before ≡ length (heard_so_far earlier) = front ∙ sym (heard_count earlier) in
-    let told = rw c.messages.ensures at c.in_ok-tell_packet-in-Ok-Some.ensures (heard_so_far earlier) c.args.most c.packets.invariant.told behind in
+    let behind : p.before ≡ length (viewed_so_far earlier) = front ∙ sym (viewed_count earlier) in
+    let told = rw c.messages.ensures at c.in_ok-tell_packet-in-Ok-Some.ensures (viewed_so_far earlier) c.args.most c.packets.invariant.told behind in
     record {
       known = λ file is. amid_on file c.packets.packets now p s (c.packets.invariant.known file is);
-      told = subst (λ (hs : List Viewed). IsTelling c.args.rule.now c.args.origins.now c.args.most hs c.tell_packet.new.self) (heard_more (last_found now p) earlier ∙ ap heard_so_far (sym s.entered)) told;
+      told = subst (λ (hs : List Viewed). IsTelling c.args.rule.now c.args.origins.now c.args.most hs c.tell_packet.new.self) (viewed_more (last_found now p) earlier ∙ ap viewed_so_far (sym s.entered)) told;
     }
 
 pub returns-in-Ok-None : goal.returns-in-Ok-None

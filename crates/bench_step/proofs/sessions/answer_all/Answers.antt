@@ -5,7 +5,8 @@ use Rattle.bench_step.proofs.sessions.answer_all.Goals as goal
 use Rattle.bench_step.proofs.sessions.answer_all.Goals.{then-refused, else-refused}
 
 pub lines-init : goal.lines-init
-lines-init g c = record { on = begins c.args.session.now.manner c.args.session.now.debugger _ _; manner = refl }
+lines-init g c =
+    record { on = begins c.args.session.now.manner c.args.session.now.debugger _ _; manner = refl; waits = c.requires }
 
 pub returns-in-Err-clause-first : goal.returns-in-Err-clause-first
 returns-in-Err-clause-first g c = cut_short _ _ _ _ _ _ _ _ _ _ c.lines.invariant.on c.of_reader.ensures
@@ -21,6 +22,7 @@ lines-preserved g c =
           still_on _ _ _ _ _ _ _ _ _ _ _ c.deref.result.now _ _ _ _ c.lines.invariant.on c.if-this.false some c.without_end.ensures gave c.in-Ok.ensures.rest
           (rw c.lines.invariant.manner at c.in-Ok-answer.ensures.answered) both;
       manner = c.in-Ok-answer.ensures.manner ∙ c.lines.invariant.manner;
+      waits = c.in-Ok-answer.ensures.waits;
     }
 
 pub returns-in-Ok-eq0-clause-all : goal.returns-in-Ok-eq0-clause-all

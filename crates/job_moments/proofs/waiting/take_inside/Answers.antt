@@ -1,4 +1,4 @@
-use Rattle.std.proofs.Common.{◌≡◌, All, length, sym, subst, arith}
+use Rattle.std.proofs.Common.{◌≡◌, All, length, sym, ap, subst, ◌∙◌, arith}
 use Rattle.std.specs.Vec.{with_items}
 use Rattle.std.proofs.lemmas.List.{with_items_is}
 use Rattle.std.proofs.lemmas.List.Elements.{All-same}
@@ -6,44 +6,39 @@ use Rattle.job_moments.specs.declared.chunks.Chunk.{Chunk}
 use Rattle.job_moments.specs.declared.waiting.Pending.{Pending}
 use Rattle.job_moments.specs.Awaiting.{due_of, HasItsCounter, KnowsChunk, Picks}
 use Rattle.job_moments.specs.Chunks.{lines_of}
-use Rattle.job_moments.specs.Quiet.{IsPart, Sleeps}
+use Rattle.job_moments.specs.Quiet.{IsPart}
+use Rattle.job_moments.proofs.Chunking.{drops_all, drops_lines}
 use Rattle.job_moments.proofs.Grouping.{quiet_inside}
-use Rattle.job_moments.proofs.Taking.{picks_all}
 use Rattle.job_moments.proofs.waiting.take_inside.Goals as goal
 
-pub returns-then-is_none-clause-known : goal.returns-then-is_none-clause-known
-returns-then-is_none-clause-known g c =
+pub returns-clause-taken : goal.returns-clause-taken
+returns-clause-taken g c =
+    let chunks = c.args.group.now.chunks in
+    let made = c.args.counts.now.made in
+    let next = c.args.next.now in
+    let new = c.take_first-payload.new.chunks in
+    let left = c.drop_empty.new.chunks.items in
+    let long : length new ≡ chunks.len = omega (arith, c.take_first-payload.auto.chunks, c.deref_mut.ensures.len) in
+    let same = with_items_is chunks new long in
+    let lines : lines_of left ≡ lines_of new = drops_lines (with_items chunks new).items left c.drop_empty.ensures ∙ ap lines_of same in
+    subst (λ ls. Picks made next (lines_of chunks.items) ls c.take_first-payload.result) (sym lines)
+    (subst (λ cs. Picks made next (lines_of cs) (lines_of new) c.take_first-payload.result) c.deref_mut.ensures.value c.take_first-payload.ensures.taken)
+
+pub returns-clause-known : goal.returns-clause-known
+returns-clause-known g c =
     let chunks = c.args.group.now.chunks in
     let counts = c.args.counts.now in
     let new = c.take_first-payload.new.chunks in
+    let left = c.drop_empty.new.chunks.items in
     let quiet = c.quiet_for_all-group.result in
     let long : length new ≡ chunks.len = omega (arith, c.take_first-payload.auto.chunks, c.deref_mut.ensures.len) in
     let now = (with_items chunks new).items in
-    let known : All (KnowsChunk counts) now =
-    All-same (KnowsChunk counts) now new (with_items_is chunks new long) c.take_first-payload.ensures.known in
-    let parts : All (λ (k : Chunk (Pending g.row.T.Denot)). IsPart quiet k.quiet) now =
-    All-same (λ (k : Chunk (Pending g.row.T.Denot)). IsPart quiet k.quiet) now c.deref.result.now (sym c.deref.ensures.value) c.quiet_for_all-group.ensures in
+    let known : All (KnowsChunk counts) left =
+    drops_all (KnowsChunk counts) now left c.drop_empty.ensures
+    (All-same (KnowsChunk counts) now new (with_items_is chunks new long) c.take_first-payload.ensures.known) in
+    let parts : All (λ (k : Chunk (Pending g.row.T.Denot)). IsPart quiet k.quiet) left =
+    All-same (λ (k : Chunk (Pending g.row.T.Denot)). IsPart quiet k.quiet) left c.deref.result.now (sym c.deref.ensures.value) c.quiet_for_all-group.ensures in
     record {
       chunks = known;
-      sleeps = quiet_inside (HasItsCounter counts.selectors) due_of counts.made quiet now parts known;
-    }
-
-pub returns-else-is_none-clause-known : goal.returns-else-is_none-clause-known
-returns-else-is_none-clause-known g c =
-    let chunks = c.args.group.now.chunks in
-    let counts = c.args.counts.now in
-    let quiet = c.args.group.now.quiet in
-    let next = c.args.next.now in
-    let given = c.take_first-payload.result in
-    let new = c.take_first-payload.new.chunks in
-    let long : length new ≡ chunks.len = omega (arith, c.take_first-payload.auto.chunks, c.deref_mut.ensures.len) in
-    let items = with_items_is chunks new long in
-    let now = (with_items chunks new).items in
-    let taken = subst (λ cs. Picks counts.made next (lines_of cs) (lines_of new) given) c.deref_mut.ensures.value c.take_first-payload.ensures.taken in
-    let sleeps : All (λ (l : Pending g.row.T.Denot). Sleeps quiet counts.made (due_of l)) (lines_of new) =
-    picks_all (λ (l : Pending g.row.T.Denot). Sleeps quiet counts.made (due_of l)) counts.made next (lines_of chunks.items) (lines_of new) given taken
-    c.requires.known.sleeps in
-    record {
-      chunks = All-same (KnowsChunk counts) now new items c.take_first-payload.ensures.known;
-      sleeps = subst (λ cs. All (λ (l : Pending g.row.T.Denot). Sleeps quiet counts.made (due_of l)) (lines_of cs)) (sym items) sleeps;
+      sleeps = quiet_inside (HasItsCounter counts.selectors) due_of counts.made quiet left parts known;
     }

@@ -1,15 +1,23 @@
-use Rattle.std.proofs.Common.{refl, subst}
-use Rattle.job_moments.specs.Awaiting.{due_of, HasItsCounter, IsFirstAt}
+use Rattle.std.proofs.Common.{All, sym, subst}
+use Rattle.job_moments.specs.declared.waiting.Pending.{Pending}
+use Rattle.job_moments.specs.Awaiting.{due_of, HasItsCounter}
 use Rattle.job_moments.specs.Chunks.{lines_in}
-use Rattle.job_moments.proofs.Chunking.{knows_fewer}
-use Rattle.job_moments.proofs.Taking.{picked_one}
+use Rattle.job_moments.specs.Quiet.{Sleeps}
+use Rattle.job_moments.proofs.Taking.{picks_all}
 use Rattle.job_moments.proofs.waiting.take_one.Goals as goal
 
-pub returns-in-Some-clause-taken : goal.returns-in-Some-clause-taken
-returns-in-Some-clause-taken g c = picked_one c.args.counts.now.made c.args.next.now (lines_in c.args.chunk.now) c.remove.new.self.items
-    c.in-Some.place c.remove.result
-    (subst (λ lines. IsFirstAt c.args.counts.now.made c.args.next.now lines c.in-Some.place) c.deref.ensures.value c.in-Some.ensures) c.remove.ensures.value c.remove.ensures.items
+pub quiet_of-chunk-requires-clause-counters : goal.quiet_of-chunk-requires-clause-counters
+quiet_of-chunk-requires-clause-counters g c =
+    let selectors = c.args.counts.now.selectors in
+    subst (All (HasItsCounter selectors)) (sym c.deref.ensures.value)
+    (picks_all (HasItsCounter selectors) c.args.counts.now.made c.args.next.now (lines_in c.args.chunk.now) c.take_line-payload.new.lines.items
+    c.take_line-payload.result c.take_line-payload.ensures c.requires.known.stand)
 
-pub returns-in-Some-clause-known : goal.returns-in-Some-clause-known
-returns-in-Some-clause-known g c = knows_fewer (HasItsCounter c.args.counts.now.selectors) due_of c.args.counts.now.made c.args.chunk.now _
-    c.in-Some.place refl c.remove.ensures.items c.requires.known
+pub returns-clause-known : goal.returns-clause-known
+returns-clause-known g c =
+    let counts = c.args.counts.now in
+    record {
+      stand = picks_all (HasItsCounter counts.selectors) counts.made c.args.next.now (lines_in c.args.chunk.now) c.take_line-payload.new.lines.items
+          c.take_line-payload.result c.take_line-payload.ensures c.requires.known.stand;
+      sleeps = subst (All (λ (l : Pending g.row.T.Denot). Sleeps c.quiet_of-chunk.result counts.made (due_of l))) c.deref.ensures.value c.quiet_of-chunk.ensures;
+    }

@@ -7,7 +7,8 @@ use Rattle.ch11_stream.specs.Reading.{last_found}
 use Rattle.ch11_stream.proofs.Folding.{all_found, not_found}
 use Rattle.ch11_stream.proofs.Readings.{amid_on, amid_start}
 use Rattle.signal_judge.specs.declared.tallies.SignalTally.{SignalTally}
-use Rattle.signal_judge.specs.Tallies.{AreTallies}
+use Rattle.bench_judge.specs.Tallies.{AreTallies}
+use Rattle.signal_judge.specs.Tallies.{IsTally}
 use Rattle.signal_judge.specs.Verdicts.{AreVerdicts}
 use Rattle.bench_select.proofs.Passed.{viewed_count, viewed_more, viewed_so_far}
 use Rattle.signal_judge.proofs.judging.judge_signals.Goals as goal
@@ -27,14 +28,14 @@ packets-preserved g c =
     let now = c.next.new.self in
     let earlier = c.packets.packets.earlier in
     let p = c.in-Ok-Some.packet in
-    let start = subst (λ (ts : List SignalTally). AreTallies c.args.rules.now c.args.origins.now (viewed_so_far earlier) ts) (sym c.as_mut_slice.ensures.value) c.packets.invariant.counted in
+    let start = subst (λ (ts : List SignalTally). AreTallies IsTally c.args.rules.now c.args.origins.now (viewed_so_far earlier) ts) (sym c.as_mut_slice.ensures.value) c.packets.invariant.counted in
     let few : length (viewed_so_far earlier) + length now.given < 2 ^ 64 = omega (arith, viewed_count earlier, s.few, ap total_in s.entered) in
     let noted = rw c.messages.ensures at c.in_ok-note_messages-in-Ok-Some.ensures (viewed_so_far earlier) start few in
     let kept : length c.note_messages.new.tallies ≡ c.packets.tallies.len = omega (arith, c.note_messages.auto.tallies, ap length c.as_mut_slice.ensures.value, c.as_mut_slice.ensures.len) in
-    let on = subst (λ (hs : List Viewed). AreTallies c.args.rules.now c.args.origins.now hs c.note_messages.new.tallies) (viewed_more (last_found now p) earlier ∙ ap viewed_so_far (sym s.entered)) noted in
+    let on = subst (λ (hs : List Viewed). AreTallies IsTally c.args.rules.now c.args.origins.now hs c.note_messages.new.tallies) (viewed_more (last_found now p) earlier ∙ ap viewed_so_far (sym s.entered)) noted in
     record {
       known = λ file is. amid_on file c.packets.packets now p s (c.packets.invariant.known file is);
-      counted = subst (λ (ts : List SignalTally). AreTallies c.args.rules.now c.args.origins.now (viewed_so_far now.earlier) ts) (sym (with_items_is c.packets.tallies c.note_messages.new.tallies kept)) on;
+      counted = subst (λ (ts : List SignalTally). AreTallies IsTally c.args.rules.now c.args.origins.now (viewed_so_far now.earlier) ts) (sym (with_items_is c.packets.tallies c.note_messages.new.tallies kept)) on;
     }
 
 pub returns-in-Ok-None-clause-judged : goal.returns-in-Ok-None-clause-judged

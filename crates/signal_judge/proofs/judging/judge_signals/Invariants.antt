@@ -1,6 +1,7 @@
 use Rattle.std.proofs.Common.{◌≡◌, ℕ, List, Some}
 use Rattle.ch11_stream.proofs.Readings.{IsAmid}
-use Rattle.signal_judge.specs.Tallies.{AreTallies}
+use Rattle.bench_judge.specs.Tallies.{AreTallies}
+use Rattle.signal_judge.specs.Tallies.{IsTally}
 use Rattle.bench_select.proofs.Passed.{viewed_so_far}
 use Rattle.signal_judge.proofs.judging.judge_signals.Given as goal
 
@@ -8,5 +9,5 @@ use Rattle.signal_judge.proofs.judging.judge_signals.Given as goal
 abbrev pub invariant-packets : goal.invariant-packets
 invariant-packets g l = record {
   known : (file : List ℕ) → g.R.Read.remaining l.fn.input ≡ Some file → IsAmid file l.packets;
-  counted : AreTallies l.rules l.origins (viewed_so_far l.packets.earlier) l.tallies.items;
+  counted : AreTallies IsTally l.rules l.origins (viewed_so_far l.packets.earlier) l.tallies.items;
 }

@@ -7,8 +7,8 @@ pub returns-in-Some : goal.returns-in-Some
 returns-in-Some c =
     let s = c.args.self.now in
     let head = c.requires.cursor in
-    ap Some c.copy.ensures
-    ∙ sym (first_is c.args.head.number c.args.head.passed _ c.in-Some.insertion.now s.placed s.made head.first head.number head.sent c.in-Some.ensures.there)
+    ap Some c.insertion.ensures
+    ∙ sym (first_is c.args.head.number c.args.head.passed _ c.in-Some.inserted s.placed s.made head.first head.number head.sent c.in-Some.ensures.there)
 
 pub returns-in-None : goal.returns-in-None
 returns-in-None c =

@@ -29,11 +29,11 @@ returns-clause-value c =
     let met = c.send_as_is.new.bus in
     let line = c.line_for-line.result in
     let form = c.index-messages-index.result.1 in
-    sent_is m refl c.args.index x (line_of c.args.alternates m.at.line) line form c.send_as_is.new.self met c.exchange-came.new.bus c.exchange-came.result.1
+    rw c.note_sent.ensures (sent_is m refl c.args.index x (line_of c.args.alternates m.at.line) line form c.send_as_is.new.self met c.exchange-came.new.bus c.exchange-came.result.1
     there c.line_for-line.ensures none c.send_as_is.ensures.agenda c.send_as_is.ensures.bus (sym (c.send_as_is.ensures.message))
     (c.exchange-came.ensures.bus ∙ ap (λ fs. exchanged met line form m.point.gap fs) faults)
     (c.exchange-came.ensures.outcome ∙ ap (λ fs. outcome_in (talk_of met line form m.point.gap fs)) faults)
-    ∙ ap (λ (z : MachineState). moved_by (sends (world_in z) (slice_get z.code.messages c.args.index) (line_of c.args.alternates z.at.line) z.at (frames_point z)) z) c.self.view_is
+    ∙ ap (λ (z : MachineState). moved_by (sends (world_in z) (slice_get z.code.messages c.args.index) (line_of c.args.alternates z.at.line) z.at (frames_point z)) z) c.self.view_is)
 
 pub returns-clause-answer : goal.returns-clause-answer
 returns-clause-answer c = answer_is c.exchange-came.new.bus _ _ c.exchange-came.result.0 (latest_talk _ _ _ _ _ _ c.exchange-came.ensures.bus) c.exchange-came.ensures.answer

@@ -9,7 +9,7 @@ use Rattle.bc_machine.proofs.schedule.Schedule.behind.Goals as goal
 
 pub returns-clause-parted : goal.returns-clause-parted
 returns-clause-parted c =
-    let beside = c.self.inside.beside.items in
+    let beside = c.self.inside.beside.lists in
     let n = c.args.number in
     let at = c.partition_point.result in
     let rows = c.deref.result.now in

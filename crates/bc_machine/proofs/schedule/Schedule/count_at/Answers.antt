@@ -7,7 +7,7 @@ use Rattle.bc_machine.proofs.schedule.Schedule.count_at.Goals as goal
 pub returns : goal.returns
 returns c =
     let rows = c.rows_at.result.0.now in
-    let beside = c.rows_at.result.1.now in
+    let beside = c.rows_at.result.1.now.lists in
     let n = c.args.number in
     c.count_among.ensures
     ∙ sym (length-map (rows_at n rows) (placed_of beside))

@@ -1,6 +1,5 @@
 use Rattle.std.proofs.Common.{List, length, ap, sym, subst, ◌∙◌}
 use Rattle.bc_machine.specs.declared.action_rows.Row.{Row}
-use Rattle.bc_machine.specs.declared.placed.HostAction.{HostAction}
 use Rattle.bc_machine.specs.Agendas.{inserts_among}
 use Rattle.bc_machine.specs.Rows.{all_placed}
 use Rattle.bc_machine.specs.Schedules.{ScheduleState, MayControl}
@@ -15,6 +14,5 @@ returns-then-not-has_controls c =
 pub returns : goal.returns
 returns c =
     c.inserts_in.ensures
-    ∙ ap (λ (rs : List Row). length (inserts_among (all_placed c.as_slice-2.result.now rs))) c.as_slice.ensures.value
-    ∙ ap (λ (actions : List HostAction). length (inserts_among (all_placed actions c.self.inside.rows.items))) c.as_slice-2.ensures.value
+    ∙ ap (λ (rs : List Row). length (inserts_among (all_placed c.self.inside.beside.lists rs))) c.as_slice.ensures.value
     ∙ ap (λ (s : ScheduleState). length (inserts_among s.actions)) c.self.view_is

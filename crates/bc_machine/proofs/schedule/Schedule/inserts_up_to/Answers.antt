@@ -1,6 +1,5 @@
 use Rattle.std.proofs.Common.{List, length, ap, sym, subst, ◌∙◌}
 use Rattle.bc_machine.specs.declared.action_rows.Row.{Row}
-use Rattle.bc_machine.specs.declared.placed.HostAction.{HostAction}
 use Rattle.bc_machine.specs.Hosting.{inserts_up_to}
 use Rattle.bc_machine.specs.Rows.{all_placed}
 use Rattle.bc_machine.specs.Schedules.{ScheduleState, MayControl}
@@ -16,6 +15,5 @@ pub returns : goal.returns
 returns c =
     let n = c.args.number in
     c.inserts_below.ensures
-    ∙ ap (λ (rs : List Row). length (inserts_up_to n (all_placed c.as_slice-2.result.now rs))) c.as_slice.ensures.value
-    ∙ ap (λ (actions : List HostAction). length (inserts_up_to n (all_placed actions c.self.inside.rows.items))) c.as_slice-2.ensures.value
+    ∙ ap (λ (rs : List Row). length (inserts_up_to n (all_placed c.self.inside.beside.lists rs))) c.as_slice.ensures.value
     ∙ ap (λ (s : ScheduleState). length (inserts_up_to n s.actions)) c.self.view_is

@@ -15,6 +15,6 @@ invariant_of-self c =
       beside = is.beside;
       few = is.few;
       controls = is.controls;
-      sets = room_stays old new c.room.result (all_placed c.self.inside.beside.items c.self.inside.rows.items) c.room.ensures.ready c.room.ensures.same is.sets;
+      sets = room_stays old new c.room.result (all_placed c.self.inside.beside.lists c.self.inside.rows.items) c.room.ensures.ready c.room.ensures.same is.sets;
       ready = λ less. ready_stays old new c.room.result c.room.ensures.ready c.room.ensures.same (is.ready less);
     }

@@ -5,44 +5,42 @@ use Rattle.bc_machine.specs.declared.placed.Placed.{Placed}
 use Rattle.bc_machine.specs.declared.action_rows.Row.{Row}
 use Rattle.bc_machine.specs.Rows.{placed_of, all_placed, IsRow}
 use Rattle.bc_machine.specs.Schedules.{ScheduleState, AreRising, HaveRoom, MayControl, sets_sources, is_control, with_action}
-use Rattle.bc_machine.proofs.Listed.{added_rows, added_placed, at_most_one}
+use Rattle.bc_machine.proofs.Listed.{added_rows, added_placed}
 use Rattle.bc_machine.proofs.Marks.{more_room, more_control}
 use Rattle.bc_machine.proofs.schedule.Schedule.put_behind.Goals as goal
 
 pub invariant_of-self : goal.invariant_of-self
 invariant_of-self c =
     let is = c.self.invariant in
-    let old = c.self.inside.beside in
-    let new = c.of.new.beside in
+    let old = c.self.inside.beside.lists in
+    let new = c.of.new.beside.lists in
     let rows = c.self.inside.rows in
-    let was : length old.items ≡ vec_len old = search rules in
-    let now : length new.items ≡ vec_len new = search rules in
     let long : length rows.items ≡ vec_len rows = search rules in
-    let more = at_most_one old.items new.items c.of.ensures.more in
+    let few = c.of.ensures.more.few in
     let items = c.push_reserved.ensures.items in
-    let room : length (all_placed old.items rows.items) < c.self.inside.most = subst (λ (s : ScheduleState). length s.actions < s.capacity) (sym c.self.view_is) c.requires.room in
-    let all = length-map rows.items (placed_of old.items) in
-    let placed = ap (all_placed new.items) items ∙ added_placed old.items new.items rows.items c.of.result c.of.ensures.more is.rows c.of.ensures.row c.args.one c.of.ensures.placed in
+    let room : length (all_placed old rows.items) < c.self.inside.most = subst (λ (s : ScheduleState). length s.actions < s.capacity) (sym c.self.view_is) c.requires.room in
+    let all = length-map rows.items (placed_of old) in
+    let placed = ap (all_placed new) items ∙ added_placed old new rows.items c.of.result c.of.ensures.more is.rows c.of.ensures.row c.args.one c.of.ensures.placed in
     let marks : c.one_of-self-inside.result ≡ (c.self.inside.controls || is_control c.args.one.action) = c.one_of-self-inside.ensures ∙ ap (λ b. c.self.inside.controls || b) c.is_control.ensures in
     let source : sets_sources c.args.one.action ≡ true → c.self.inside.sources.ready ≡ true = subst (λ (s : ScheduleState). sets_sources c.args.one.action ≡ true → s.sources.ready ≡ true) (sym c.self.view_is) c.requires.ready in
     record {
-      rows = subst (All (IsRow (length new.items))) (sym items) (added_rows old.items new.items rows.items c.of.result c.of.ensures.more is.rows c.of.ensures.row);
-      found = c.reset.ensures (length new.items) c.push_reserved.new.self.items (λ above. subst AreRising (sym items) (subst (λ (rs : List Row). AreRising (rs ++ c.of.result ∷ [])) c.as_slice.ensures.value
+      rows = subst (All (IsRow new)) (sym items) (added_rows old new rows.items c.of.result c.of.ensures.more is.rows c.of.ensures.row);
+      found = c.reset.ensures new c.push_reserved.new.self.items (λ above. subst AreRising (sym items) (subst (λ (rs : List Row). AreRising (rs ++ c.of.result ∷ [])) c.as_slice.ensures.value
           (c.follows-rising.ensures c.of.result (ap (λ (p : Placed). p.number) c.of.ensures.placed) above)));
       within = omega (arith, c.push_reserved.ensures.len, room, all, long);
       room = omega (arith, c.push_reserved.ensures.capacity, is.room);
-      beside = omega (arith, c.push_reserved.ensures.len, c.of.ensures.capacity, was, now, more, is.beside);
-      few = omega (arith, c.push_reserved.ensures.len, was, now, more, is.few);
-      controls = subst (λ b. MayControl b (all_placed new.items c.push_reserved.new.self.items)) (sym marks)
-          (subst (MayControl (c.self.inside.controls || is_control c.args.one.action)) (sym placed) (more_control c.self.inside.controls (all_placed old.items rows.items) c.args.one is.controls));
-      sets = subst (HaveRoom c.self.inside.sources.ready) (sym placed) (more_room c.self.inside.sources.ready (all_placed old.items rows.items) c.args.one is.sets source);
+      beside = omega (arith, c.push_reserved.ensures.len, c.of.ensures.capacity, few, is.beside);
+      few = omega (arith, c.push_reserved.ensures.len, few, is.few);
+      controls = subst (λ b. MayControl b (all_placed new c.push_reserved.new.self.items)) (sym marks)
+          (subst (MayControl (c.self.inside.controls || is_control c.args.one.action)) (sym placed) (more_control c.self.inside.controls (all_placed old rows.items) c.args.one is.controls));
+      sets = subst (HaveRoom c.self.inside.sources.ready) (sym placed) (more_room c.self.inside.sources.ready (all_placed old rows.items) c.args.one is.sets source);
       ready = λ less. is.ready (omega (arith, less, c.push_reserved.ensures.len));
     }
 
 pub returns : goal.returns
 returns c =
-    let old = c.self.inside.beside.items in
-    let new = c.of.new.beside.items in
+    let old = c.self.inside.beside.lists in
+    let new = c.of.new.beside.lists in
     let placed = ap (all_placed new) c.push_reserved.ensures.items ∙ added_placed old new c.self.inside.rows.items c.of.result c.of.ensures.more c.self.invariant.rows c.of.ensures.row c.args.one c.of.ensures.placed in
     ap (λ (ps : List Placed). record { actions = ps; capacity = c.self.inside.most; sources = c.self.inside.sources }) placed
     ∙ ap (λ (s : ScheduleState). with_action s c.args.one) c.self.view_is
@@ -50,4 +48,4 @@ returns c =
 pub follows-rising-requires : goal.follows-rising-requires
 follows-rising-requires c = λ above.
     subst AreRising (sym c.as_slice.ensures.value)
-    (c.is_rising.ensures (length c.self.inside.beside.items) c.self.inside.rows.items c.self.invariant.found above)
+    (c.is_rising.ensures c.self.inside.beside.lists c.self.inside.rows.items c.self.invariant.found above)

@@ -30,7 +30,7 @@ invariant_of-self c =
       beside = is.beside;
       few = is.few;
       controls = is.controls;
-      sets = subst (λ b. HaveRoom b (all_placed c.self.inside.beside.items c.self.inside.rows.items)) (sym ready) is.sets;
+      sets = subst (λ b. HaveRoom b (all_placed c.self.inside.beside.lists c.self.inside.rows.items)) (sym ready) is.sets;
       ready = λ less. ready ∙ is.ready less;
     }
 

@@ -1,12 +1,10 @@
-use Rattle.std.proofs.Common.{◌≡◌, true, eqb, List, ap, sym, subst, ◌∙◌}
+use Rattle.std.proofs.Common.{◌≡◌, true, eqb, ap, sym, subst, ◌∙◌}
 use Rattle.std.specs.List.{filter_map}
 use Rattle.std.proofs.lemmas.List.Elements.{All-filter}
 use Rattle.controller_host.specs.Sources.{source_in}
-use Rattle.bc_machine.specs.declared.placed.HostAction.{HostAction}
 use Rattle.bc_machine.specs.declared.placed.Placed.{Placed}
 use Rattle.bc_machine.specs.Asking.{controls_at, with_controls}
 use Rattle.bc_machine.specs.Controller.{control_of}
-use Rattle.bc_machine.specs.Hosting.{placed_at}
 use Rattle.bc_machine.specs.Rows.{all_placed, rows_at}
 use Rattle.bc_machine.specs.Schedules.{ScheduleState, HaveRoom, MayControl, sets_sources}
 use Rattle.bc_machine.proofs.Around.{same_placed}
@@ -15,12 +13,11 @@ use Rattle.bc_machine.proofs.schedule.Schedule.set_own.Goals as goal
 
 pub set_at-requires-clause-ready : goal.set_at-requires-clause-ready
 set_at-requires-clause-ready c =
-    let beside = c.self.inside.beside.items in
+    let beside = c.self.inside.beside.lists in
     let rows = c.self.inside.rows.items in
     let n = c.args.number in
     let found = c.rows_of-found.result.now in
-    let same = ap (λ (v : List HostAction). placed_at n (all_placed v found)) c.as_slice-beside.ensures.value
-    ∙ same_placed n beside found rows (c.rows_of-found.ensures.same ∙ ap (rows_at n) c.as_slice-rows.ensures.value) in
+    let same = same_placed n beside found rows (c.rows_of-found.ensures.same ∙ ap (rows_at n) c.as_slice-rows.ensures.value) in
     subst (HaveRoom c.self.inside.sources.ready) (sym same)
     (All-filter (λ (p : Placed). eqb p.number n) (λ (p : Placed). sets_sources p.action ≡ true → c.self.inside.sources.ready ≡ true) (all_placed beside rows) c.self.invariant.sets)
 
@@ -36,7 +33,7 @@ invariant_of-self c =
       beside = is.beside;
       few = is.few;
       controls = is.controls;
-      sets = subst (λ b. HaveRoom b (all_placed c.self.inside.beside.items c.self.inside.rows.items)) (sym ready) is.sets;
+      sets = subst (λ b. HaveRoom b (all_placed c.self.inside.beside.lists c.self.inside.rows.items)) (sym ready) is.sets;
       ready = λ less. ready ∙ is.ready less;
     }
 
@@ -55,12 +52,11 @@ returns-clause-same c = (
 
 pub returns-clause-sources : goal.returns-clause-sources
 returns-clause-sources c d place is =
-    let beside = c.self.inside.beside.items in
+    let beside = c.self.inside.beside.lists in
     let rows = c.self.inside.rows.items in
     let n = c.args.number in
     let found = c.rows_of-found.result.now in
-    let same = ap (λ (v : List HostAction). placed_at n (all_placed v found)) c.as_slice-beside.ensures.value
-    ∙ same_placed n beside found rows (c.rows_of-found.ensures.same ∙ ap (rows_at n) c.as_slice-rows.ensures.value) in
+    let same = same_placed n beside found rows (c.rows_of-found.ensures.same ∙ ap (rows_at n) c.as_slice-rows.ensures.value) in
     c.set_at.ensures.sources d place is
     ∙ ap (λ ps. with_controls (filter_map control_of ps) (source_in c.self.inside.sources.rows d place) d place) same
     ∙ ap (λ (s : ScheduleState). with_controls (controls_at n s.actions) (source_in s.sources.rows d place) d place) c.self.view_is

@@ -2,7 +2,7 @@ use Rattle.std.proofs.Common.{◌≡◌, ◌≤◌, ℕ, List, length, map, ap, 
 use Rattle.std.specs.VecDeque.{deque_capacity}
 use Rattle.std.proofs.lemmas.List.{take_all}
 use Rattle.bench_report.specs.Reports.{ChannelPart}
-use Rattle.bench_core.specs.Bench.{LaneState}
+use Rattle.bench_core.specs.Bench.{ChannelState}
 use Rattle.bench_core.specs.Channels.{report_part}
 use Rattle.bench_core.specs.World.{state_in, report_of}
 use Rattle.bench_core.proofs.Fields.{few_packets}
@@ -17,11 +17,11 @@ make-requires c =
 pub returns : goal.returns
 returns c =
     let w = c.self.inside in
-    let ls = w.lanes.items in
-    let lanes : c.deref-lane-items.result.now ≡ ls = c.deref-lane-items.ensures.value in
-    let low : length ls ≤ c.loop-lane.lane-index = omega (arith, c.loop-lane-test.false, ap (λ (ls : List LaneState). length ls) lanes) in
-    let all : c.loop-lane.channels.items ≡ map report_part ls = c.loop-lane.invariant ∙ ap (map report_part) (take_all c.loop-lane.lane-index ls low) in
+    let ls = w.channels.items in
+    let channels : c.deref-channel-items.result.now ≡ ls = c.deref-channel-items.ensures.value in
+    let low : length ls ≤ c.loop-channel.channel-index = omega (arith, c.loop-channel-test.false, ap (λ (ls : List ChannelState). length ls) channels) in
+    let all : c.loop-channel.channels.items ≡ map report_part ls = c.loop-channel.invariant ∙ ap (map report_part) (take_all c.loop-channel.channel-index ls low) in
     c.make.ensures
     ∙ ap (λ (ps : List ChannelPart). record { channels = ps; packets = w.packets }) all
-    ∙ ap (λ (n : ℕ). record { channels = map report_part (state_in w).bench.lanes; packets = n }) c.self.invariant.packets
+    ∙ ap (λ (n : ℕ). record { channels = map report_part (state_in w).bench.channels; packets = n }) c.self.invariant.packets
     ∙ ap report_of c.self.view_is

@@ -1,8 +1,9 @@
 use Rattle.std.proofs.Common.{refl, ap, arith, length, subst}
 use Rattle.ch11_f1.specs.Views.{message_of}
 use Rattle.ch11_layout.specs.declared.stamps.StampKind.{StampKind}
-use Rattle.bench_judge.specs.Tallies.{IsTelling, viewed_on}
-use Rattle.bench_judge.proofs.Whole.{passing-none, passing-more, passing-all}
+use Rattle.bench_select.specs.Viewed.{viewed_behind}
+use Rattle.bench_select.proofs.Passed.{passing-none, passing-more, passing-all}
+use Rattle.bench_judge.specs.Tallies.{IsTelling}
 use Rattle.bench_judge.proofs.telling.Telling.tell_packet.Goals as goal
 
 pub messages-init : goal.messages-init
@@ -22,5 +23,5 @@ messages-preserved c = record {
 
 pub returns : goal.returns
 returns c = λ history most from is.
-    subst (λ (kind : StampKind). IsTelling c.args.rule.now c.args.origins.now most (viewed_on kind c.args.packet.now.header.channel c.args.messages history) c.messages.self) c.of-kind.ensures
+    subst (λ (kind : StampKind). IsTelling c.args.rule.now c.args.origins.now most (viewed_behind kind c.args.packet.now.header.channel c.args.messages history) c.messages.self) c.of-kind.ensures
     (passing-all (λ hs. IsTelling c.args.rule.now c.args.origins.now most hs c.messages.self) _ _ _ _ history (c.messages.invariant.passing history most from is) c.in_default.ensures.steps.0)

@@ -1,7 +1,7 @@
 use Rattle.std.proofs.Common.{◌≡◌, ◌+◌, ℕ, List, length}
 use Rattle.bench_select.specs.Viewed.{Viewed}
 use Rattle.bench_judge.specs.Tallies.{IsTelling}
-use Rattle.bench_judge.proofs.Whole.{IsPassing}
+use Rattle.bench_select.proofs.Passed.{IsPassing}
 use Rattle.bench_judge.proofs.telling.Telling.tell_packet.Given as goal
 
 -- the first of the messages so far that miss the rule are told

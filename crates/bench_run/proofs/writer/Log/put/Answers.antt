@@ -16,7 +16,7 @@ returns-in-End-clause-goes_on g c =
 
 pub returns-in-End-clause-when : goal.returns-in-End-clause-when
 returns-in-End-clause-when g c = λ h low takes.
-    let lanes = c.args.self.now.recorder.lanes in
-    let at : slice_get lanes c.in-End.index ≡ Some h = subst (λ x. IsTakenBy lanes x h) c.in-End.is takes in
+    let held = c.args.self.now.recorder.held in
+    let at : slice_get held c.in-End.index ≡ Some h = subst (λ x. IsTakenBy held x h) c.in-End.is takes in
     let place : c.from-index.result ≡ c.in-End.index = c.from-index.ensures ∙ c.tag.ensures ∙ ap index_of c.in-End.is in
-    c.end.ensures.when (subst (λ i. i < length lanes) (sym place) (has_place lanes c.in-End.index h at))
+    c.end.ensures.when (subst (λ i. i < length held) (sym place) (has_place held c.in-End.index h at))

@@ -9,7 +9,7 @@ use Rattle.job_moments.specs.Groups.{lines_of_groups}
 use Rattle.job_moments.specs.Counting.{HasCounter}
 use Rattle.job_moments.specs.Moments.{counted_for}
 use Rattle.job_moments.specs.Waits.{Waits}
-use Rattle.job_moments.proofs.Grouping.{group_put_known, group_lines}
+use Rattle.job_moments.proofs.Grouping.{beside_unknown, group_put_known, group_lines}
 use Rattle.job_moments.proofs.Joined.{on_err}
 use Rattle.job_moments.proofs.Taking.{same_waits}
 use Rattle.job_moments.proofs.waiting.Waiting.push.Goals as goal
@@ -23,6 +23,7 @@ invariant_of-self-in_err-put_behind g c =
           (ap (λ v. v.made) c.self.view_is ∙ c.requires) c.counter_of.ensures.made
           (λ line stood. c.counter_of.ensures.others line.counter (counted_for line.moment) stood)
           c.in_err-put_behind.ensures (All-nil (HasItsCounter c.counter_of.new.self.selectors)) c.self.invariant.known;
+      beside = beside_unknown due_of c.counter_of.new.self.made c.none-self-inside.result.others c.none-self-inside.result.place new c.none-self-inside.ensures;
       count = omega (arith, c.self.invariant.count, ap length (group_lines old new [] c.in_err-put_behind.ensures), length-append (lines_of_groups old) []);
     }
 
@@ -41,6 +42,7 @@ invariant_of-self-2 g c =
           (subst (λ (o : Option Selector). HasCounter selectors c.in_ok-counter.counter o) c.selector.ensures c.in_ok-counter.ensures.counter)
           (All-nil (HasItsCounter selectors)))
           c.self.invariant.known;
+      beside = beside_unknown due_of c.counter_of.new.self.made c.none-self-inside.result.others c.none-self-inside.result.place new c.none-self-inside.ensures;
       count = omega (
         arith,
         c.in-Some.ensures.1,

@@ -1,9 +1,0 @@
-use Rattle.std.proofs.Common.{◌≡◌, ◌≤◌, length, take, vec_capacity}
-use Rattle.bc_machine.proofs.action_rows.copies_of.Given as goal
-
--- the copies so far, and room for all
-abbrev pub invariant-loop-one : goal.invariant-loop-one
-invariant-loop-one l = record {
-  copied : l.copies.items ≡ take l.one-index l.beside;
-  capacity : length l.beside ≤ vec_capacity l.copies;
-}

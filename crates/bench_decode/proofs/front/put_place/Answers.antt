@@ -1,0 +1,9 @@
+use Rattle.std.proofs.Common.{◌≡◌, ℕ, ◌+◌, ◌-◌, ◌*◌, ◌≤◌, ◌<◌, Bool, true, false, cond, List, [], ◌∷◌, ◌++◌, length, refl, sym, ap, ◌∙◌, arith}
+use Rattle.std.specs.Prelude.{codes, ◌||◌, Option, None, Some}
+use Rattle.std.proofs.lemmas.Bool.{ne_eqb}
+use Rattle.bench_decode.specs.Waiting.{Waiting, drawn_on}
+use Rattle.bench_decode.proofs.Drawing.{drawing, on-none, on-text, rises}
+use Rattle.bench_decode.proofs.front.put_place.Goals as goal
+
+pub returns-clause-put : goal.returns-clause-put
+returns-clause-put c = rw (c.time.ensures, c.letter_of.ensures) at c.put_place_by.ensures.put

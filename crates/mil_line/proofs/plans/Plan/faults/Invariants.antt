@@ -1,6 +1,0 @@
-use Rattle.std.proofs.Common.{◌≡◌, take}
-use Rattle.mil_line.proofs.plans.Plan.faults.Given as goal
-
--- what was looked at is copied
-abbrev pub invariant-loop-fault : goal.invariant-loop-fault
-invariant-loop-fault l = l.faults.items ≡ take l.fault-index l.fault-items
